@@ -1,0 +1,78 @@
+-- The state: for each stream its equation, its bound, the events it holds, and what is kept. No bytes.
+use Prim.Native.Nat.{ℕ}
+use mathlib.Core.Bool.{Bool, true, false}
+use mathlib.Core.Option.{Option, none, some}
+use mathlib.Core.List.{List, [], _∷_, map}
+use lib.ListN.{getD}
+use lib.IntN.{ℤ}
+use Rattle.meaning.specs.Plan.{Eqn, nil, Plan}
+use Rattle.meaning.specs.Events.{Event}
+
+-- "16 held events": a stream that holds 16 events takes no more
+abbrev pub room : ℕ
+room = 16
+
+-- What a last or a delay keeps of events that are held no longer
+pub record Kept : Type 0 where
+  -- of a last: the value of a's latest known event below the bound
+  pub prev : Option ℤ
+  -- of a delay: one past the latest known set point below the bound, 0 if there is none
+  pub since : ℕ
+  -- of a delay: a's event at that set point, if known
+  pub value : Option ℤ
+  -- of a delay: a's event just below the bound, if known
+  pub prior : Option ℤ
+
+-- A stream of the state
+pub record Cell : Type 0 where
+  pub eqn : Eqn
+  -- whether it is an output
+  pub out : Bool
+  -- all its events below the bound are known
+  pub bound : ℕ
+  -- the events that a reader or collection waits for, by rising stamp
+  pub held : List Event
+  -- of an output: one past the last collected stamp, 0 before the first
+  pub next : ℕ
+  pub kept : Kept
+
+abbrev pub State : Type 0
+State = List Cell
+
+abbrev pub noKept : Kept
+noKept = record { prev = none; since = 0; value = none; prior = none }
+
+-- A stream as a plan text declares it: its equation, and whether it is an output
+pub record Declared : Type 0 where
+  pub eqn : Eqn
+  pub out : Bool
+
+-- a stream as load leaves it: "a fresh state, all bounds 0"
+abbrev pub fresh : Declared → Cell
+fresh d = record { eqn = d .eqn; out = d .out; bound = 0; held = []; next = 0; kept = noKept }
+
+unfoldable pub loaded : List Declared → State
+loaded ds = map fresh ds
+
+-- what stands for a stream that is not there
+abbrev pub absent : Cell
+absent = fresh (record { eqn = nil; out = false })
+
+abbrev pub cellAt : State → ℕ → Cell
+cellAt M s = getD M s absent
+
+abbrev pub planOf : State → Plan
+planOf M = map (λ c. c .eqn) M
+
+-- the cell with another bound, other held events, another mark of collection, other kept data
+abbrev pub withBound : ℕ → Cell → Cell
+withBound y c = record { eqn = c .eqn; out = c .out; bound = y; held = c .held; next = c .next; kept = c .kept }
+
+abbrev pub withHeld : List Event → Cell → Cell
+withHeld es c = record { eqn = c .eqn; out = c .out; bound = c .bound; held = es; next = c .next; kept = c .kept }
+
+abbrev pub withNext : ℕ → Cell → Cell
+withNext n c = record { eqn = c .eqn; out = c .out; bound = c .bound; held = c .held; next = n; kept = c .kept }
+
+abbrev pub withKept : Kept → Cell → Cell
+withKept k c = record { eqn = c .eqn; out = c .out; bound = c .bound; held = c .held; next = c .next; kept = k }

@@ -1,0 +1,167 @@
+-- One step: a stream's bound goes up, with at most one new event. Only that stream, its readers and its arguments change.
+use Prim.Native.Nat.{ℕ, zero, suc, pred, _+_, min, max}
+use mathlib.Core.Bool.{Bool, true, false, not, cond, _&&_, _||_}
+use mathlib.Core.Option.{Option, none, some}
+use mathlib.Core.List.{List, [], _∷_, _++_, map}
+use lib.Dec.{leb, ltb, eqb}
+use lib.ListN.{length, set}
+use lib.IntN.{ℤ}
+use Rattle.meaning.specs.Plan.{Eqn, input, nil, unit, one, two, last, delay, isInput, reads}
+use Rattle.meaning.specs.Events.{Event, ev, found, horizon, orElse}
+use Rattle.meaning.specs.Table.{latest}
+use Rattle.machine.specs.State.{Kept, Cell, State, cellAt, room, withBound, withHeld, withNext, withKept}
+use Rattle.machine.specs.Reach.{view, pastLatest, valueAt, Next, event, silent, decide}
+
+-- the arguments of an equation; 0 where its operator uses none
+abbrev pub argA : Eqn → ℕ
+argA input = 0
+argA nil = 0
+argA unit = 0
+argA (one f a) = a
+argA (two g a b) = a
+argA (last a b) = a
+argA (delay a b) = a
+
+abbrev pub argB : Eqn → ℕ
+argB input = 0
+argB nil = 0
+argB unit = 0
+argB (one f a) = 0
+argB (two g a b) = b
+argB (last a b) = b
+argB (delay a b) = b
+
+-- ---- Write: the bound goes to y, with the new events below it; own kept data follows
+
+abbrev pub advance : ℕ → List Event → Cell → Cell
+advance y new c = record { eqn = c .eqn; out = c .out; bound = y; held = c .held ++ new; next = c .next; kept = c .kept }
+
+-- one past the latest known set point below the bound
+abbrev pub later : (o b : Cell) → ℕ
+later o b = max (o .kept .since) (max (pastLatest (view b) (o .bound)) (pastLatest (view o) (o .bound)))
+
+-- the moved stream's kept data, brought up to date from its arguments' and its own held events
+abbrev pub absorb : Eqn → (o a b : Cell) → Kept
+absorb input o a b = o .kept
+absorb nil o a b = o .kept
+absorb unit o a b = o .kept
+absorb (one f _) o a b = o .kept
+absorb (two g _ _) o a b = o .kept
+absorb (last _ _) o a b =
+    record { prev = orElse (latest (view a) (o .bound)) (o .kept .prev); since = o .kept .since; value = o .kept .value; prior = o .kept .prior }
+absorb (delay _ _) o a b =
+    record {
+      prev = o .kept .prev;
+      since = later o b;
+      value = cond (eqb (later o b) 0) none (valueAt o a (later o b));
+      prior = view a (pred (o .bound)) }
+
+unfoldable pub absorbed : ℕ → State → State
+absorbed s M =
+    let o = cellAt M s in
+    set M s (withKept (absorb (o .eqn) o (cellAt M (argA (o .eqn))) (cellAt M (argB (o .eqn)))) o)
+
+unfoldable pub write : ℕ → ℕ → List Event → State → State
+unfolding absorbed
+write s y new M = absorbed s (set M s (advance y new (cellAt M s)))
+
+-- ---- Tell: every reader of s whose bound is above the new event's stamp takes what it needs of it
+
+-- the equation reads stream s
+abbrev pub readsIt : ℕ → Eqn → Bool
+readsIt s input = false
+readsIt s nil = false
+readsIt s unit = false
+readsIt s (one f a) = eqb a s
+readsIt s (two g a b) = eqb a s || eqb b s
+readsIt s (last a b) = eqb a s || eqb b s
+readsIt s (delay a b) = eqb a s || eqb b s
+
+-- a delay with bound y: a's event at its latest set point; a's event just below its bound; b's event there, a new set point
+abbrev pub valueTold : Bool → (t : ℕ) → ℤ → Kept → Kept
+valueTold isA t v k = record { prev = k .prev; since = k .since; value = cond (isA && eqb (k .since) (t + 1)) (some v) (k .value); prior = k .prior }
+
+abbrev pub priorTold : Bool → (y t : ℕ) → ℤ → Kept → Kept
+priorTold isA y t v k = record { prev = k .prev; since = k .since; value = k .value; prior = cond (isA && eqb y (t + 1)) (some v) (k .prior) }
+
+abbrev pub sinceTold : Bool → (y t : ℕ) → Kept → Kept
+sinceTold isB y t k =
+    record { prev = k .prev; since = cond (isB && eqb y (t + 1)) y (k .since); value = cond (isB && eqb y (t + 1)) (k .prior) (k .value); prior = k .prior }
+
+-- what an equation with bound y keeps when the event (t, v) of stream s comes in below its bound
+abbrev pub keptTold : Eqn → (s y t : ℕ) → ℤ → Kept → Kept
+keptTold input s y t v k = k
+keptTold nil s y t v k = k
+keptTold unit s y t v k = k
+keptTold (one f a) s y t v k = k
+keptTold (two g a b) s y t v k = k
+keptTold (last a b) s y t v k = record { prev = cond (eqb a s) (some v) (k .prev); since = k .since; value = k .value; prior = k .prior }
+keptTold (delay a b) s y t v k = sinceTold (eqb b s) y t (priorTold (eqb a s) y t v (valueTold (eqb a s) t v k))
+
+unfoldable pub told : (s t : ℕ) → ℤ → Cell → Cell
+told s t v c = withKept (cond (ltb t (c .bound)) (keptTold (c .eqn) s (c .bound) t v (c .kept)) (c .kept)) c
+
+unfoldable pub tell : ℕ → List Event → State → State
+unfolding told
+tell s [] M = M
+tell s (e ∷ es) M = map (told s (e .stamp) (e .value)) M
+
+-- ---- Release: the oldest events that nobody waits for are let go
+
+-- the least bound of the readers of s, the horizon if no stream reads it
+unfoldable pub leastReader : ℕ → State → ℕ
+leastReader s [] = horizon
+leastReader s (c ∷ cs) = cond (readsIt s (c .eqn)) (min (c .bound) (leastReader s cs)) (leastReader s cs)
+
+-- the same with collection of an output as one reader more, whose bound is one past the last collected stamp
+unfoldable pub leastWaiting : ℕ → State → ℕ
+unfolding leastReader
+leastWaiting s M = cond (cellAt M s .out) (min (cellAt M s .next) (leastReader s M)) (leastReader s M)
+
+unfoldable pub dropBelow : ℕ → List Event → List Event
+dropBelow w [] = []
+dropBelow w (e ∷ es) = cond (ltb (e .stamp) w) (dropBelow w es) (e ∷ es)
+
+unfoldable pub release : ℕ → State → State
+unfolding leastWaiting dropBelow
+release s M = set M s (withHeld (dropBelow (leastWaiting s M) (cellAt M s .held)) (cellAt M s))
+
+unfoldable pub releases : List ℕ → State → State
+unfolding release
+releases [] M = M
+releases (s ∷ ss) M = releases ss (release s M)
+
+-- ---- the step: write, tell, release the stream and its arguments
+unfoldable pub raise : ℕ → ℕ → List Event → State → State
+unfolding write tell releases
+raise s y new M = releases (s ∷ reads (cellAt M s .eqn)) (tell s new (write s y new M))
+
+-- ---- a move of stream s
+
+-- what the move finds
+unfoldable pub ahead : ℕ → State → Next
+unfolding decide
+ahead s M = let o = cellAt M s in decide (o .eqn) o (cellAt M (argA (o .eqn))) (cellAt M (argB (o .eqn)))
+
+-- "A stream that holds 16 events takes no more: the bound then goes to t and the event waits."
+abbrev pub newBound : Next → List Event → ℕ
+newBound (silent r) held = r
+newBound (event t v) held = cond (leb room (length held)) t (suc t)
+
+-- the event that comes in: none or one
+abbrev pub added : Next → List Event → List Event
+added (silent r) held = []
+added (event t v) held = cond (leb room (length held)) [] (ev t v ∷ [])
+
+-- "The equation can move exactly if this changes its bound."
+unfoldable pub canMove : ℕ → State → Bool
+unfolding ahead
+canMove s M = let o = cellAt M s in not (isInput (o .eqn)) && not (eqb (newBound (ahead s M) (o .held)) (o .bound))
+
+unfoldable pub comesIn : ℕ → State → List Event
+unfolding ahead
+comesIn s M = added (ahead s M) (cellAt M s .held)
+
+unfoldable pub move : ℕ → State → State
+unfolding raise comesIn
+move s M = raise s (newBound (ahead s M) (cellAt M s .held)) (comesIn s M) M

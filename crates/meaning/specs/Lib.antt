@@ -1,0 +1,4 @@
+pub mod Plan
+pub mod Events
+pub mod Table
+pub mod Cycle

@@ -1,0 +1,27 @@
+use mathlib.Core.Path.{_≡_, sym, ap, ap₂, _∙_}
+use mathlib.Core.Bool.{not, Bool·beq}
+use lib.IntN.{ℤ, _*ℤ_, negℤ}
+use lib.Signed.{ltZ, leZ}
+use mir.Facts.{toZ-ofZ}
+use Prim.Native.Nat.{ℕ, _*_, _+_, _/_, _%_, min}
+use Rattle.num.specs.Arithmetic.{truth, equal}
+use Rattle.num.proofs.Signed.{same-bits}
+use borrow.Author.Needs.{needs}
+use native.Mathlib.Omega.{arith}
+use Rattle.num.proofs.eq.Statement.{statement}
+use Rattle.num.proofs.eq.Tie as tie
+use Rattle.num.proofs.eq.Reads as reads
+use Rattle.num.proofs.eq.Lts as lts
+use Rattle.num.proofs.one_or_zero.Reads as one-or-zero-reads
+
+-- src/lib.rt:223:5
+one-or-zero-requires : tie.Need-one-or-zero-requires
+one-or-zero-requires c κs = search needs
+
+-- src/lib.rt:220:1
+returns : tie.Need-returns
+unfolding equal
+returns c = c .one-or-zero .ensures ∙ ap truth (same-bits (c .before .args .a) (c .before .args .b) (c .before .fits .a) (c .before .fits .b))
+
+pub eq-spec : {M : Type 1} → statement M
+eq-spec = tie.close (tie.spec one-or-zero-requires returns)

@@ -1,0 +1,26 @@
+use mathlib.Core.Path.{_≡_, sym, ap, ap₂, _∙_}
+use mathlib.Core.Bool.{not, Bool·beq}
+use lib.IntN.{ℤ, _*ℤ_, negℤ}
+use lib.Signed.{ltZ, leZ}
+use mir.Facts.{toZ-ofZ}
+use Prim.Native.Nat.{ℕ, _*_, _+_, _/_, _%_, min}
+use Rattle.num.specs.Arithmetic.{truth, atMost}
+use borrow.Author.Needs.{needs}
+use native.Mathlib.Omega.{arith}
+use Rattle.num.proofs.le.Statement.{statement}
+use Rattle.num.proofs.le.Tie as tie
+use Rattle.num.proofs.le.Reads as reads
+use Rattle.num.proofs.le.Lts as lts
+use Rattle.num.proofs.one_or_zero.Reads as one-or-zero-reads
+
+-- src/lib.rt:217:5
+one-or-zero-requires : tie.Need-one-or-zero-requires
+one-or-zero-requires c κs = search needs
+
+-- src/lib.rt:214:1
+returns : tie.Need-returns
+unfolding atMost
+returns c = c .one-or-zero .ensures ∙ ap₂ (λ (x y : ℤ). truth (leZ x y)) (toZ-ofZ (c .before .fits .a)) (toZ-ofZ (c .before .fits .b))
+
+pub le-spec : {M : Type 1} → statement M
+le-spec = tie.close (tie.spec one-or-zero-requires returns)

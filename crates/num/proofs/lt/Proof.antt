@@ -1,0 +1,26 @@
+use mathlib.Core.Path.{_≡_, sym, ap, ap₂, _∙_}
+use mathlib.Core.Bool.{not, Bool·beq}
+use lib.IntN.{ℤ, _*ℤ_, negℤ}
+use lib.Signed.{ltZ, leZ}
+use mir.Facts.{toZ-ofZ}
+use Prim.Native.Nat.{ℕ, _*_, _+_, _/_, _%_, min}
+use Rattle.num.specs.Arithmetic.{truth, less}
+use borrow.Author.Needs.{needs}
+use native.Mathlib.Omega.{arith}
+use Rattle.num.proofs.lt.Statement.{statement}
+use Rattle.num.proofs.lt.Tie as tie
+use Rattle.num.proofs.lt.Reads as reads
+use Rattle.num.proofs.lt.Lts as lts
+use Rattle.num.proofs.one_or_zero.Reads as one-or-zero-reads
+
+-- src/lib.rt:211:5
+one-or-zero-requires : tie.Need-one-or-zero-requires
+one-or-zero-requires c κs = search needs
+
+-- src/lib.rt:208:1
+returns : tie.Need-returns
+unfolding less
+returns c = c .one-or-zero .ensures ∙ ap₂ (λ (x y : ℤ). truth (ltZ x y)) (toZ-ofZ (c .before .fits .a)) (toZ-ofZ (c .before .fits .b))
+
+pub lt-spec : {M : Type 1} → statement M
+lt-spec = tie.close (tie.spec one-or-zero-requires returns)

@@ -1,0 +1,26 @@
+use mathlib.Core.Path.{_≡_, sym, ap, ap₂, _∙_}
+use mathlib.Core.Bool.{not, Bool·beq}
+use lib.IntN.{ℤ, _*ℤ_, negℤ}
+use lib.Signed.{ltZ, leZ}
+use mir.Facts.{toZ-ofZ}
+use Prim.Native.Nat.{ℕ, _*_, _+_, _/_, _%_, min}
+use Rattle.num.specs.Arithmetic.{truth}
+use borrow.Author.Needs.{needs}
+use native.Mathlib.Omega.{arith}
+use Rattle.num.proofs.one_or_zero.Statement.{statement}
+use Rattle.num.proofs.one_or_zero.Tie as tie
+use Rattle.num.proofs.one_or_zero.Reads as reads
+use Rattle.num.proofs.one_or_zero.Lts as lts
+
+-- src/lib.rt:202:1
+returns : tie.Need-returns
+unfolding truth
+returns c = rw (c .if1 .taken)
+
+-- src/lib.rt:202:1
+returns-2 : tie.Need-returns-2
+unfolding truth
+returns-2 c = rw (c .if1 .left)
+
+pub one-or-zero-spec : {M : Type 1} → statement M
+one-or-zero-spec = tie.close (tie.spec returns returns-2)
