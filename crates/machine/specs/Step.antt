@@ -54,7 +54,8 @@ absorb (delay _ _) o a b =
       prev = o .kept .prev;
       since = later o b;
       value = cond (eqb (later o b) 0) none (valueAt o a (later o b));
-      prior = view a (pred (o .bound)) }
+      prior = view a (pred (o .bound));
+    }
 
 unfoldable pub absorbed : ℕ → State → State
 absorbed s M =

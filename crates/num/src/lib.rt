@@ -202,7 +202,11 @@ pub fn rem(a: i64, b: i64) -> Answer
 fn one_or_zero(yes: bool) -> Answer
     ensures { λ r. ⌜ r ≡ truth yes ⌝ }
 {
-    if yes { Answer::Value(1) } else { Answer::Value(0) }
+    if yes {
+        Answer::Value(1)
+    } else {
+        Answer::Value(0)
+    }
 }
 
 pub fn lt(a: i64, b: i64) -> Answer
