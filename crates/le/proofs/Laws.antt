@@ -1,0 +1,175 @@
+-- Laws of little-endian numbers and of runs of bytes.
+use Prim.Native.Nat.{ℕ, zero, suc, _+_, _*_, _/_, _%_, _^_, _<_, _≤_, _-_}
+use mathlib.Core.Path.{_≡_, refl, sym, ap, ap₂, _∙_, subst}
+use mathlib.Core.List.{List, [], _∷_, _++_}
+use native.Mathlib.Nat.{div-add-mod, mod-lt, mod-eq-of-lt, add-mul-div-left, add-mul-mod-self-left, div-eq-of-lt, div-lt-iff-lt-mul, pow-suc, add-zero, mul-lt-mul-of-pos-left, lt-of-lt-of-le, le-trans, pow-le-pow-right, sub-zero}
+use native.Mathlib.Omega.{arith}
+use native.Mathlib.Numerals.{add-one}
+use lib.ListN.{length, getD, take, drop, set, replicate, length-take, drop-of-length-le}
+use lib.Seq.{getD-drop, getD-take, drop-cons, sets, drop-set-lt}
+use lib.Dec.{lit<, eqb}
+use mathlib.Core.Bool.{Bool, true, false, cond}
+use borrow.Author.Tests.{eq-eqb, ne-eqb}
+use native.Mathlib.Decide.{ℕ-discrete}
+use Rattle.le.specs.Bytes.{le, enc, part, Bytes, allZero}
+
+pub length-enc : (n v : ℕ) → length (enc n v) ≡ n
+unfolding enc
+length-enc zero v = refl
+length-enc (suc n) v = ap suc (length-enc n (v / 256))
+
+pub enc-bytes : (n v : ℕ) → Bytes (enc n v)
+unfolding enc
+enc-bytes zero v i = lit< tt
+enc-bytes (suc n) v zero = mod-lt v (lit< tt)
+enc-bytes (suc n) v (suc i) = enc-bytes n (v / 256) i
+
+-- decode of encode
+pub le-enc : (n v : ℕ) → v < 256 ^ n → le (enc n v) ≡ v
+unfolding enc le
+le-enc zero v h = omega arith
+le-enc (suc n) v h =
+    let h′ : v / 256 < 256 ^ n = div-lt-iff-lt-mul {k = 256} (lit< tt) .1 (rw (pow-suc 256 n) at h) in
+    rw (le-enc n (v / 256) h′) (omega arith)
+
+-- encode of decode
+pub enc-le : (s : List ℕ) → Bytes s → enc (length s) (le s) ≡ s
+unfolding enc le
+enc-le [] b = refl
+enc-le (x ∷ s) b =
+    let hx : x < 256 = b 0 in
+    let e : (x + 256 * le s) % 256 ≡ x = omega arith in
+    let d : (x + 256 * le s) / 256 ≡ le s = omega arith in
+    ap₂ _∷_ e (ap (enc (length s)) d ∙ enc-le s (λ i. b (suc i)))
+
+pub le-lt : (s : List ℕ) → Bytes s → le s < 256 ^ length s
+unfolding le
+le-lt [] b = lit< tt
+le-lt (x ∷ s) b =
+    let hx : x < 256 = b 0 in
+    let ih : le s < 256 ^ length s = le-lt s (λ i. b (suc i)) in
+    rw (pow-suc 256 (length s)) (omega arith)
+
+pub drop-bytes : (s : List ℕ) (n : ℕ) → Bytes s → Bytes (drop n s)
+drop-bytes s n b i = rw getD-drop (b (n + i))
+
+pub take-bytes : (n : ℕ) (s : List ℕ) → Bytes s → Bytes (take n s)
+take-bytes zero s b i = lit< tt
+take-bytes (suc n) [] b i = lit< tt
+take-bytes (suc n) (x ∷ s) b zero = b 0
+take-bytes (suc n) (x ∷ s) b (suc i) = take-bytes n s (λ j. b (suc j)) i
+
+-- one byte more at the front of a part
+pub le-part : (s : List ℕ) (at n : ℕ) → at < length s → le (part s at (suc n)) ≡ getD s at 0 + 256 * le (part s (suc at) n)
+unfolding le
+le-part s at n h = rw (drop-cons s at 0 h)
+
+-- one turn of the loop that stores: the first byte of those left is stored
+pub put-turn : (s : List ℕ) (at i n w : ℕ) → i < n →
+    sets (set s (at + i) (w % 256)) (at + (i + 1)) (enc (n - (i + 1)) (w / 256)) ≡ sets s (at + i) (enc (n - i) w)
+unfolding enc
+put-turn s at i n w h =
+    let e : n - i ≡ suc (n - (i + 1)) = omega arith in
+    let f : at + (i + 1) ≡ suc (at + i) = omega arith in
+    rw (e, f)
+
+-- one turn of the loop that reads, from the highest byte down
+pub get-turn : (s : List ℕ) (at i n r b : ℕ) → 0 < i → i ≤ n → at + n ≤ length s → r ≡ le (part s (at + i) (n - i)) → b ≡ getD s (at + (i - 1)) 0 →
+    r * 256 + b ≡ le (part s (at + (i - 1)) (n - (i - 1)))
+get-turn s at i n r b h k l p q =
+    let e : n - (i - 1) ≡ suc (n - i) = omega arith in
+    let f : suc (at + (i - 1)) ≡ at + i = omega arith in
+    rw (e, p, q) (omega (arith, rw f at (le-part s (at + (i - 1)) (n - i) (omega arith))))
+
+pub part-below : (s : List ℕ) (at n : ℕ) → Bytes s → le (part s at n) < 256 ^ n
+part-below s at n b =
+    lt-of-lt-of-le (le-lt (part s at n) (take-bytes n (drop at s) (drop-bytes s at b)))
+    (pow-le-pow-right {n = 256} (lit< tt) (rw length-take (omega arith)))
+
+-- a part of at most 7 bytes, and one more byte, stay below 2 ^ 64
+pub part-lt : (s : List ℕ) (at n : ℕ) → Bytes s → n ≤ 7 → le (part s at n) < 2 ^ 56
+part-lt s at n b h = lt-of-lt-of-le (part-below s at n b) (pow-le-pow-right {n = 256} (lit< tt) h)
+
+enc-none : (v : ℕ) → enc 0 v ≡ []
+unfolding enc
+enc-none v = refl
+
+le-none : 0 ≡ le []
+unfolding le
+le-none = refl
+
+pub put-done : (s t : List ℕ) (at n w : ℕ) → n ≡ 0 → sets s at (enc n w) ≡ t → s ≡ t
+put-done s t at n w e p = rw (e, enc-none) at p
+
+pub get-none : (s : List ℕ) (at n : ℕ) → n ≡ 0 → 0 ≡ le (part s at n)
+get-none s at n e = rw e le-none
+
+-- the loop that reads has come to its first byte
+pub get-done : (s : List ℕ) (at n i r : ℕ) → i ≡ 0 → r ≡ le (part s (at + i) (n - i)) → r ≡ le (part s at n)
+get-done s at n i r e p = simp (e, add-zero, sub-zero) at p
+
+pub le-one : (s : List ℕ) (at : ℕ) → at < length s → le (part s at 1) ≡ getD s at 0
+le-one s at h = le-part s at 0 h ∙ omega (arith, le-none)
+
+part-cons : (s : List ℕ) (at n : ℕ) → at < length s → part s at (suc n) ≡ getD s at 0 ∷ part s (suc at) n
+part-cons s at n h = rw (drop-cons s at 0 h)
+
+-- one turn of the loop that moves bytes down: those that are left to move stand above the store
+pub shift-turn : (s : List ℕ) (at by i n : ℕ) → i < n → at + by + n ≤ length s →
+    sets (set s (at + i) (getD s (at + by + i) 0)) (at + (i + 1)) (part (set s (at + i) (getD s (at + by + i) 0)) (at + by + (i + 1)) (n - (i + 1)))
+    ≡ sets s (at + i) (part s (at + by + i) (n - i))
+shift-turn s at by i n h k =
+    let e : n - i ≡ suc (n - (i + 1)) = omega arith in
+    let f : at + (i + 1) ≡ suc (at + i) = omega arith in
+    let g : at + by + (i + 1) ≡ suc (at + by + i) = omega arith in
+    let below : at + i < suc (at + by + i) = omega arith in
+    let x = getD s (at + by + i) 0 in
+    rw (e, f, g) (ap (λ (l : List ℕ). sets (set s (at + i) x) (suc (at + i)) (take (n - (i + 1)) l)) (drop-set-lt (suc (at + by + i)) s (at + i) x below)
+    ∙ sym (ap (sets s (at + i)) (part-cons s (at + by + i) (n - (i + 1)) (omega arith))))
+
+pub shift-done : (s t : List ℕ) (at a n : ℕ) → n ≡ 0 → sets s at (part s a n) ≡ t → s ≡ t
+shift-done s t at a n e p = rw e at p
+
+-- one turn of the loop that clears
+pub clear-turn : (s : List ℕ) (at i n : ℕ) → i < n → sets (set s (at + i) 0) (at + (i + 1)) (replicate (n - (i + 1)) 0) ≡ sets s (at + i) (replicate (n - i) 0)
+clear-turn s at i n h =
+    let e : n - i ≡ suc (n - (i + 1)) = omega arith in
+    let f : at + (i + 1) ≡ suc (at + i) = omega arith in
+    rw (e, f)
+
+pub clear-done : (s t : List ℕ) (at n : ℕ) → n ≡ 0 → sets s at (replicate n 0) ≡ t → s ≡ t
+clear-done s t at n e p = rw e at p
+
+-- zero bytes, one after the other
+zero-more : (x : ℕ) (l : List ℕ) → allZero (x ∷ l) ≡ cond (eqb x 0) (allZero l) false
+unfolding allZero
+zero-more x l = refl
+
+pub zero-turn : (s : List ℕ) (i : ℕ) → i < length s → allZero (drop i s) ≡ cond (eqb (getD s i 0) 0) (allZero (drop (i + 1) s)) false
+zero-turn s i h =
+    let f : i + 1 ≡ suc i = omega arith in
+    ap allZero (drop-cons s i 0 h) ∙ zero-more (getD s i 0) (drop (suc i) s) ∙ ap (λ (j : ℕ). cond (eqb (getD s i 0) 0) (allZero (drop j s)) false) (sym f)
+
+pub zero-end : (s : List ℕ) (i : ℕ) → length s ≤ i → allZero (drop i s) ≡ true
+unfolding allZero
+zero-end s i h = ap allZero (drop-of-length-le s h)
+
+-- what was added up is 0 exactly if every byte was
+pub sum-turn : (s : List ℕ) (i sum x : ℕ) → i < length s → x ≡ getD s i 0
+    → cond (eqb (sum + x) 0) (allZero (drop (i + 1) s)) false ≡ cond (eqb sum 0) (allZero (drop i s)) false
+sum-turn s i sum x h e = rw (zero-turn s i h, ← e) (go (ℕ-discrete sum 0) (ℕ-discrete x 0))
+  where
+    rest : Bool
+    rest = allZero (drop (i + 1) s)
+
+    go : Dec (sum ≡ 0) → Dec (x ≡ 0) → cond (eqb (sum + x) 0) rest false ≡ cond (eqb sum 0) (cond (eqb x 0) rest false) false
+    go (yes a) (yes b) = rw (eq-eqb sum 0 a, eq-eqb x 0 b, eq-eqb (sum + x) 0 (omega arith))
+    go (yes a) (no b) = rw (eq-eqb sum 0 a, ne-eqb x 0 b, ne-eqb (sum + x) 0 (λ q. b (omega arith)))
+    go (no a) b = rw (ne-eqb sum 0 a, ne-eqb (sum + x) 0 (λ q. a (omega arith)))
+
+pub sum-done : (s : List ℕ) (i sum : ℕ) (b : Bool) → length s ≤ i → cond (eqb sum 0) (allZero (drop i s)) false ≡ b → eqb sum 0 ≡ b
+sum-done s i sum b h e = sym (go (eqb sum 0)) ∙ e
+  where
+    go : (p : Bool) → cond p (allZero (drop i s)) false ≡ p
+    go true = zero-end s i h
+    go false = refl

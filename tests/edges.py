@@ -1,0 +1,31 @@
+#!/usr/bin/env python3
+"""Writes what the program `edges` must print, worked out with Python's whole numbers.
+
+The rules are those of document 01: division cuts toward zero, the remainder has the dividend's sign, a zero divisor is
+said first, and a result outside the values gives none. `tests/edges.py > crates/edges/stdout`
+"""
+from fractions import Fraction
+from math import trunc
+
+LEAST, MOST = -2**63, 2**63 - 1
+EDGES = [LEAST, LEAST + 1, LEAST + 2, -2**62 - 1, -2**62, -2**32 - 1, -2**32, -3037000500, -7, -2, -1, 0,
+         1, 2, 7, 2**31, 3037000499, 3037000500, 2**32, 2**62, MOST - 1, MOST]
+
+
+def said(z):
+    return str(z) if LEAST <= z <= MOST else 'outside'
+
+
+def quotient(x, y):
+    return 'zero' if y == 0 else said(trunc(Fraction(x, y)))
+
+
+def remainder(x, y):
+    return 'zero' if y == 0 else said(x - y * trunc(Fraction(x, y)))
+
+
+for x in EDGES:
+    print(x, said(-x))
+    for y in EDGES:
+        print(x, y, said(x + y), said(x - y), said(x * y), quotient(x, y), remainder(x, y),
+              int(x < y), int(x <= y), int(x == y))
