@@ -1,0 +1,10 @@
+pub mod Tests
+pub mod Each
+pub mod Induction
+pub mod Clear
+pub mod Free
+pub mod Causal
+pub mod Unique
+pub mod Exists
+pub mod Ways
+pub mod Solution

@@ -2,3 +2,4 @@ pub mod Plan
 pub mod Events
 pub mod Table
 pub mod Cycle
+pub mod Meaning
