@@ -1,0 +1,63 @@
+-- The operator table read both ways.
+use Prim.Native.Nat.{ℕ, _≤_}
+use mathlib.Core.Path.{_≡_, refl}
+use mathlib.Core.Bool.{cond}
+use mathlib.Core.List.{List, [], _∷_}
+use native.Mathlib.Omega.{arith}
+use lib.IntN.{ℤ, pos}
+use Rattle.meaning.specs.Plan.{Unary, time, neg, set, plus, Calc, add, sub, mul, div, rem, lt, le, eq, Binary, calc, keep, merge, Eqn, input, nil, unit, one, two, last, delay, undelayed, reads}
+use Rattle.operators.specs.Operators.{operatorCount, eqnOf, numberOf, firstOf, secondOf, valueOf, usesA, usesB, usesK, delaysA}
+use Rattle.operators.proofs.Numbers.{listed, agree}
+
+-- every equation is its number with its fields
+pub eqn-back : (e : Eqn) → eqnOf (numberOf e) (firstOf e) (secondOf e) (valueOf e) ≡ e
+unfolding eqnOf numberOf firstOf secondOf valueOf
+eqn-back input = refl
+eqn-back nil = refl
+eqn-back unit = refl
+eqn-back (one time a) = refl
+eqn-back (one (set k) a) = refl
+eqn-back (one (plus k) a) = refl
+eqn-back (one neg a) = refl
+eqn-back (two (calc add) a b) = refl
+eqn-back (two (calc sub) a b) = refl
+eqn-back (two (calc mul) a b) = refl
+eqn-back (two (calc div) a b) = refl
+eqn-back (two (calc rem) a b) = refl
+eqn-back (two (calc lt) a b) = refl
+eqn-back (two (calc le) a b) = refl
+eqn-back (two (calc eq) a b) = refl
+eqn-back (two keep a b) = refl
+eqn-back (two merge a b) = refl
+eqn-back (last a b) = refl
+eqn-back (delay a b) = refl
+
+-- what two functions of the stored number have at all nineteen, they have at every one
+everywhere : {A : Type 0} (f g : ℕ → A) → listed f 1 operatorCount ≡ listed g 1 operatorCount → (n : ℕ) → 1 ≤ n → n ≤ operatorCount → f n ≡ g n
+everywhere f g e n l h = agree f g 1 operatorCount e n l (omega arith)
+
+module _ (a b : ℕ) (k : ℤ) where
+  pub number-back : (n : ℕ) → 1 ≤ n → n ≤ operatorCount → numberOf (eqnOf n a b k) ≡ n
+  unfolding eqnOf numberOf
+  number-back = everywhere (λ n. numberOf (eqnOf n a b k)) (λ n. n) refl
+
+  pub first-back : (n : ℕ) → 1 ≤ n → n ≤ operatorCount → firstOf (eqnOf n a b k) ≡ cond (usesA n) a 0
+  unfolding eqnOf firstOf
+  first-back = everywhere (λ n. firstOf (eqnOf n a b k)) (λ n. cond (usesA n) a 0) refl
+
+  pub second-back : (n : ℕ) → 1 ≤ n → n ≤ operatorCount → secondOf (eqnOf n a b k) ≡ cond (usesB n) b 0
+  unfolding eqnOf secondOf
+  second-back = everywhere (λ n. secondOf (eqnOf n a b k)) (λ n. cond (usesB n) b 0) refl
+
+  pub value-back : (n : ℕ) → 1 ≤ n → n ≤ operatorCount → valueOf (eqnOf n a b k) ≡ cond (usesK n) k (pos 0)
+  unfolding eqnOf valueOf
+  value-back = everywhere (λ n. valueOf (eqnOf n a b k)) (λ n. cond (usesK n) k (pos 0)) refl
+
+  -- the arguments by the groups of the stored number
+  pub reads-by-number : (n : ℕ) → 1 ≤ n → n ≤ operatorCount → reads (eqnOf n a b k) ≡ cond (usesB n) (a ∷ b ∷ []) (cond (usesA n) (a ∷ []) [])
+  unfolding eqnOf
+  reads-by-number = everywhere (λ n. reads (eqnOf n a b k)) (λ n. cond (usesB n) (a ∷ b ∷ []) (cond (usesA n) (a ∷ []) [])) refl
+
+  pub undelayed-by-number : (n : ℕ) → 1 ≤ n → n ≤ operatorCount → undelayed (eqnOf n a b k) ≡ cond (delaysA n) (b ∷ []) (reads (eqnOf n a b k))
+  unfolding eqnOf
+  undelayed-by-number = everywhere (λ n. undelayed (eqnOf n a b k)) (λ n. cond (delaysA n) (b ∷ []) (reads (eqnOf n a b k))) refl
