@@ -1,0 +1,159 @@
+-- Laws of the slots of a record.
+use Prim.Native.Nat.{ℕ, zero, suc, _+_, _*_, _-_, _^_, _<_, _≤_}
+use mathlib.Core.Path.{_≡_, refl, sym, ap, ap₂, _∙_}
+use mathlib.Core.List.{List, [], _∷_, _++_, append-nil, append-assoc}
+use native.Mathlib.Omega.{arith}
+use native.Mathlib.Nat.{add-zero, zero-mul, suc-mul}
+use lib.Dec.{lit<, lit≤}
+use lib.ListN.{length, getD, take, drop, set, replicate, length-replicate, length-append, length-drop, length-set}
+use lib.Seq.{sets, sets-eq, length-take-le, drop-drop, take-all, drop-at, take-at, drop-append-add, length-sets}
+use Rattle.le.specs.Bytes.{le, enc, part, Bytes}
+use Rattle.le.proofs.Laws.{length-enc}
+use Rattle.le.specs.Layout.{encFields, decFields, encRows, decRows, total, offset}
+use Rattle.layout.specs.Record.{Slot, Raw, noSlot, headWidths, slotWidths, withSlots, withSlot, shifted, dropped, encSlot, decSlot, encRaw, decRaw}
+use Rattle.le.proofs.Fields.{sets-left, sets-right, sets-whole, length-rows, rows-set, rows-get, fields-get, part-part, length-decRows}
+use Rattle.layout.proofs.Laws.{SlotOk, RawOk, slot-len, head-len, slots-len, raw-len, leaf-none, raw-ok}
+use Rattle.le.proofs.RoundTrip.{All, all-set, rows-split, rows-drop, sets-append}
+
+-- a store in the slots' bytes
+in-slots : (r : Raw) (o : ℕ) (vs : List ℕ) → sets (encRaw r) (64 + o) vs ≡ encFields headWidths (r .nums) ++ sets (encRows encSlot noSlot 16 (r .slots)) o vs
+unfolding encRaw
+in-slots r o vs =
+    let hd = encFields headWidths (r .nums) in
+    let rows = encRows encSlot noSlot 16 (r .slots) in
+    ap (λ (m : ℕ). sets (hd ++ rows) (m + o) vs) (sym (head-len (r .nums))) ∙ sets-right hd rows o vs
+
+-- slot j stored
+pub slot-set : (r : Raw) (j : ℕ) (e : Slot) → RawOk r → j < 16 → sets (encRaw r) (64 + j * 12) (encSlot e) ≡ encRaw (withSlots (set (r .slots) j e) r)
+unfolding encRaw
+slot-set r j e ok h =
+    let hd = encFields headWidths (r .nums) in
+    let rows = encRows encSlot noSlot 16 (r .slots) in
+    let old = encSlot (getD (r .slots) j noSlot) in
+    let ln : length (encSlot e) ≡ 12 = slot-len e in
+    let w : encSlot e ≡ sets old 0 (encSlot e) = sym (sets-whole old (encSlot e) (slot-len (getD (r .slots) j noSlot) ∙ sym ln)) in
+    in-slots r (j * 12) (encSlot e)
+    ∙ ap (λ (q : List ℕ). hd ++ q)
+    (ap (λ (m : ℕ). sets rows m (encSlot e)) (sym (add-zero (j * 12)))
+    ∙ rows-set encSlot noSlot 12 slot-len 16 (r .slots) j 0 (encSlot e) e h (rw (ok .many) h) (omega arith) w)
+
+-- a slot stored in two parts
+pub slot-two : (l : List ℕ) (i t v : ℕ) → sets (sets l i (enc 4 t)) (i + 4) (enc 8 v) ≡ sets l i (encSlot (record { stamp = t; value = v }))
+unfolding encSlot encFields
+slot-two l i t v =
+    ap (λ (m : ℕ). sets (sets l i (enc 4 t)) (i + m) (enc 8 v)) (sym (length-enc 4 t))
+    ∙ sym (ap (λ (q : List ℕ). sets l i (enc 4 t ++ q)) (append-nil (enc 8 v)) ∙ sets-append l i (enc 4 t) (enc 8 v))
+
+pub slot-ok : (r : Raw) (j : ℕ) (e : Slot) → RawOk r → SlotOk e → RawOk (withSlots (set (r .slots) j e) r)
+slot-ok r j e ok h = record { heads = ok .heads; many = length-set (r .slots) j e ∙ ok .many; good = all-set SlotOk (r .slots) j e (ok .good) h }
+
+-- the stamp of slot j read from the bytes
+stamp-dec : (s : List ℕ) → decSlot s .stamp ≡ le (take 4 s)
+unfolding decSlot decFields
+stamp-dec s = refl
+
+pub stamp-get : (s : List ℕ) (j : ℕ) → j < 16 → getD (decRaw s .slots) j noSlot .stamp ≡ le (part s (64 + j * 12) 4)
+unfolding decRaw
+stamp-get s j h =
+    ap (λ (e : Slot). e .stamp) (rows-get decSlot noSlot 12 16 (drop 64 s) j h)
+    ∙ stamp-dec (part (drop 64 s) (j * 12) 12)
+    ∙ ap le (part-part 4 0 12 (drop (j * 12) (drop 64 s)) (lit≤ tt) ∙ ap (take 4) (drop-drop (j * 12) 64 s))
+
+-- the value of slot j read from the bytes
+value-dec : (s : List ℕ) → decSlot s .value ≡ le (take 8 (drop 4 s))
+unfolding decSlot decFields
+value-dec s = refl
+
+pub value-get : (s : List ℕ) (j : ℕ) → j < 16 → getD (decRaw s .slots) j noSlot .value ≡ le (part s (68 + j * 12) 8)
+unfolding decRaw
+value-get s j h =
+    let e : 64 + j * 12 + 4 ≡ 68 + j * 12 = omega arith in
+    ap (λ (e : Slot). e .value) (rows-get decSlot noSlot 12 16 (drop 64 s) j h)
+    ∙ value-dec (part (drop 64 s) (j * 12) 12)
+    ∙ ap le (part-part 8 4 12 (drop (j * 12) (drop 64 s)) (lit≤ tt) ∙ ap (take 8) (ap (drop 4) (drop-drop (j * 12) 64 s) ∙ drop-drop 4 (64 + j * 12) s ∙ ap (λ (m : ℕ). drop m s) e))
+
+-- ---- the first k slots dropped
+
+slot-zeros : (k : ℕ) → encRows encSlot noSlot k (replicate k noSlot) ≡ replicate (k * 12) 0
+unfolding encRows encSlot encFields enc
+slot-zeros zero = refl
+slot-zeros (suc k) =
+    let e : suc k * 12 ≡ 12 + k * 12 = omega arith in
+    ap (λ (l : List ℕ). replicate 12 0 ++ l) (slot-zeros k) ∙ lib.ListN.replicate-append-replicate 12 (k * 12) 0 ∙ ap (λ (j : ℕ). replicate j 0) (sym e)
+
+shifted-rows : (k : ℕ) (l : List Slot) → length l ≡ 16 → k ≤ 16 → encRows encSlot noSlot 16 (shifted k l) ≡ drop (k * 12) (encRows encSlot noSlot 16 l) ++ replicate (k * 12) 0
+shifted-rows k l h hk =
+    let m : 16 ≡ 16 - k + k = omega arith in
+    let q : 16 ≡ k + (16 - k) = omega arith in
+    ap (λ (n : ℕ). encRows encSlot noSlot n (shifted k l)) m
+    ∙ rows-split encSlot noSlot 12 slot-len (16 - k) k (drop k l) (replicate k noSlot) (length-drop k l ∙ omega arith)
+    ∙ ap₂ _++_ (sym (ap (λ (n : ℕ). drop (k * 12) (encRows encSlot noSlot n l)) q ∙ rows-drop encSlot noSlot 12 slot-len k (16 - k) l (h ∙ q))) (slot-zeros k)
+
+-- the bytes moved down and the freed ones cleared
+pub slots-shift : (r : Raw) (k : ℕ) → RawOk r → k ≤ 16
+    → sets (sets (encRaw r) 64 (part (encRaw r) (64 + k * 12) (192 - k * 12))) (256 - k * 12) (replicate (k * 12) 0) ≡ encRaw (withSlots (shifted k (r .slots)) r)
+unfolding encRaw
+slots-shift r k ok h =
+    let hd = encFields headWidths (r .nums) in
+    let rows = encRows encSlot noSlot 16 (r .slots) in
+    let m : ℕ = k * 12 in
+    let dr = drop m rows in
+    let zs : List ℕ = replicate m 0 in
+    let hl : length hd ≡ 64 = head-len (r .nums) in
+    let rl : length rows ≡ 192 = slots-len (r .slots) in
+    let dl : length dr ≡ 192 - m = length-drop m rows ∙ ap (λ (x : ℕ). x - m) rl in
+    let zl : length zs ≡ m = length-replicate m 0 in
+    let al : length rows ≡ length (dr ++ zs) = rl ∙ sym (length-append dr zs ∙ ap₂ _+_ dl zl ∙ omega arith) in
+    let moved : part (hd ++ rows) (64 + m) (192 - m) ≡ dr =
+    ap (take (192 - m)) (ap (λ (x : ℕ). drop (x + m) (hd ++ rows)) (sym hl) ∙ drop-append-add hd rows m) ∙ take-all (192 - m) dr (omega arith) in
+    let first : sets (hd ++ rows) 64 dr ≡ hd ++ sets rows 0 dr = in-slots r 0 dr in
+    let at : 256 - m ≡ length hd + (192 - m) = rw hl (omega arith) in
+    let cat : 192 - m ≡ 0 + length dr = rw dl (omega arith) in
+    ap (λ (l : List ℕ). sets (sets (hd ++ rows) 64 l) (256 - m) zs) moved
+    ∙ ap (λ (l : List ℕ). sets l (256 - m) zs) first
+    ∙ ap (λ (j : ℕ). sets (hd ++ sets rows 0 dr) j zs) at
+    ∙ sets-right hd (sets rows 0 dr) (192 - m) zs
+    ∙ ap (λ (l : List ℕ). hd ++ l)
+    (ap (λ (j : ℕ). sets (sets rows 0 dr) j zs) cat ∙ sym (sets-append rows 0 dr zs) ∙ sets-whole rows (dr ++ zs) al
+    ∙ sym (shifted-rows k (r .slots) (ok .many) h))
+
+all-app : (x y : List Slot) → All SlotOk x → All SlotOk y → All SlotOk (x ++ y)
+all-app [] y h k = k
+all-app (a ∷ x) y h k = (h .0, all-app x y (h .1) k)
+
+all-drop : (k : ℕ) (l : List Slot) → All SlotOk l → All SlotOk (drop k l)
+all-drop zero l h = h
+all-drop (suc k) [] h = tt
+all-drop (suc k) (a ∷ l) h = all-drop k l (h .1)
+
+all-zeros : (k : ℕ) → All SlotOk (replicate k noSlot)
+all-zeros zero = tt
+all-zeros (suc k) = ((lit< tt, lit< tt), all-zeros k)
+
+pub shift-ok : (r : Raw) (k : ℕ) → RawOk r → k ≤ 16 → RawOk (withSlots (shifted k (r .slots)) r)
+shift-ok r k ok h = record {
+  heads = ok .heads;
+  many = length-append (drop k (r .slots)) (replicate k noSlot) ∙ ap₂ _+_ (length-drop k (r .slots) ∙ ap (λ (x : ℕ). x - k) (ok .many)) (length-replicate k noSlot) ∙ omega arith;
+  good = all-app (drop k (r .slots)) (replicate k noSlot) (all-drop k (r .slots) (ok .good)) (all-zeros k);
+}
+
+-- ---- the code's stores
+
+-- p₁ and p₂ are the bytes after each store
+pub slot-put : (p p₁ p₂ : List ℕ) (j t v : ℕ) → length p ≡ 256 → Bytes p → j < 16
+    → p₁ ≡ sets p (64 + j * 12) (enc 4 t) → p₂ ≡ sets p₁ (64 + j * 12 + 4) (enc 8 v) → p₂ ≡ encRaw (withSlot j t v (decRaw p))
+slot-put p p₁ p₂ j t v n b h e₁ e₂ =
+    e₂ ∙ ap (λ (l : List ℕ). sets l (64 + j * 12 + 4) (enc 8 v)) e₁ ∙ slot-two p (64 + j * 12) t v
+    ∙ ap (λ (l : List ℕ). sets l (64 + j * 12) (encSlot (record { stamp = t; value = v }))) (leaf-none p n b)
+    ∙ slot-set (decRaw p) j (record { stamp = t; value = v }) (raw-ok p b) h
+
+pub slots-drop : (p p₁ p₂ : List ℕ) (k : ℕ) → length p ≡ 256 → Bytes p → k ≤ 16
+    → p₁ ≡ sets p 64 (part p (64 + k * 12) (192 - k * 12)) → p₂ ≡ sets p₁ (256 - k * 12) (replicate (k * 12) 0) → p₂ ≡ encRaw (dropped k (decRaw p))
+slots-drop p p₁ p₂ k n b h e₁ e₂ =
+    e₂ ∙ ap (λ (l : List ℕ). sets l (256 - k * 12) (replicate (k * 12) 0)) e₁
+    ∙ ap (λ (l : List ℕ). sets (sets l 64 (part l (64 + k * 12) (192 - k * 12))) (256 - k * 12) (replicate (k * 12) 0)) (leaf-none p n b)
+    ∙ slots-shift (decRaw p) k (raw-ok p b) h
+
+pub slots-many : (s : List ℕ) → length (decRaw s .slots) ≡ 16
+unfolding decRaw
+slots-many s = length-decRows decSlot 12 16 (drop 64 s)

@@ -1,0 +1,47 @@
+use mathlib.Core.Path.{_≡_, sym, _∙_}
+use native.Mathlib.Omega.{arith}
+use denote.Ref.{now}
+use Rattle.layout.proofs.Slots.{stamp-get, slot-put, slots-drop}
+use borrow.Author.Needs.{needs}
+use Rattle.layout.proofs.put_slot.Statement.{statement}
+use Rattle.layout.proofs.put_slot.Tie as tie
+use Rattle.layout.proofs.put_slot.Reads as reads
+use Rattle.layout.proofs.put_slot.Lts as lts
+use Rattle.le.proofs.put.Reads as put-reads
+
+-- src/lib.rt:50:19
+mul-at : tie.Need-mul-at
+mul-at c = search needs
+
+-- src/lib.rt:50:14
+add-at : tie.Need-add-at
+add-at c = search needs
+
+-- src/lib.rt:51:5
+put-requires : tie.Need-put-requires
+put-requires c κs = search needs
+
+-- src/lib.rt:52:17
+add-put : tie.Need-add-put
+add-put c = search needs
+
+-- src/lib.rt:52:5
+put-requires-2 : tie.Need-put-requires-2
+put-requires-2 c κs = search needs
+
+-- src/lib.rt:46:1
+same-length : tie.Need-same-length
+same-length c = search needs
+
+-- src/lib.rt:46:1
+returns : tie.Need-returns
+returns c =
+    let one = c .before .before .before .before .before .before in
+    let k = one .before .before in
+    let a = k .before .args in
+    slot-put (now (a .r)) (one .put .last .0) (c .before .before .put2 .last .0) (a .j) (a .t) (a .v) (omega arith) (λ i. omega (arith, k .slice-known .given i)) (omega arith)
+    (one .put .ensures) (c .before .before .put2 .ensures)
+
+pub put-slot-spec : {M : Type 1} → statement M
+put-slot-spec =
+    tie.close (tie.spec mul-at add-at put-requires add-put put-requires-2 same-length returns)

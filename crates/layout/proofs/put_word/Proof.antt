@@ -1,0 +1,36 @@
+use mathlib.Core.Path.{_≡_, sym, _∙_}
+use native.Mathlib.Omega.{arith}
+use denote.Ref.{now}
+use Rattle.layout.proofs.Laws.{byte-get, word-get, byte-put, word-put}
+use borrow.Author.Needs.{needs}
+use Rattle.layout.proofs.put_word.Statement.{statement}
+use Rattle.layout.proofs.put_word.Tie as tie
+use Rattle.layout.proofs.put_word.Reads as reads
+use Rattle.layout.proofs.put_word.Lts as lts
+use Rattle.le.proofs.put.Reads as put-reads
+
+-- src/lib.rt:33:21
+mul-put : tie.Need-mul-put
+mul-put c = search needs
+
+-- src/lib.rt:33:17
+add-put : tie.Need-add-put
+add-put c = search needs
+
+-- src/lib.rt:33:5
+put-requires : tie.Need-put-requires
+put-requires c κs = search needs
+
+-- src/lib.rt:29:1
+same-length : tie.Need-same-length
+same-length c = search needs
+
+-- src/lib.rt:29:1
+returns : tie.Need-returns
+returns c =
+    let k = c .before .before .before .before in
+    let a = k .before in
+    c .before .before .put .ensures ∙ word-put (now (a .args .r)) (a .args .j) (a .args .v) (omega arith) (λ i. omega (arith, k .slice-known .given i)) (omega arith)
+
+pub put-word-spec : {M : Type 1} → statement M
+put-word-spec = tie.close (tie.spec mul-put add-put put-requires same-length returns)

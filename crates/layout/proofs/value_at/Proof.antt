@@ -1,0 +1,31 @@
+use mathlib.Core.Path.{_≡_, sym, _∙_}
+use native.Mathlib.Omega.{arith}
+use denote.Ref.{now}
+use Rattle.layout.proofs.Slots.{value-get, slot-put, slots-drop}
+use borrow.Author.Needs.{needs}
+use Rattle.layout.proofs.value_at.Statement.{statement}
+use Rattle.layout.proofs.value_at.Tie as tie
+use Rattle.layout.proofs.value_at.Reads as reads
+use Rattle.layout.proofs.value_at.Lts as lts
+use Rattle.le.proofs.get.Reads as get-reads
+
+-- src/lib.rt:42:22
+mul-get : tie.Need-mul-get
+mul-get c = search needs
+
+-- src/lib.rt:42:17
+add-get : tie.Need-add-get
+add-get c = search needs
+
+-- src/lib.rt:42:5
+get-requires : tie.Need-get-requires
+get-requires c κs = search needs
+
+-- src/lib.rt:38:1
+returns : tie.Need-returns
+returns c =
+    let a = c .before .before in
+    c .get .ensures .0 ∙ sym (value-get (now (a .args .r)) (a .args .j) (omega arith))
+
+pub value-at-spec : {M : Type 1} → statement M
+value-at-spec = tie.close (tie.spec mul-get add-get get-requires returns)

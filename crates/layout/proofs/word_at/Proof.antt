@@ -1,0 +1,31 @@
+use mathlib.Core.Path.{_≡_, sym, _∙_}
+use native.Mathlib.Omega.{arith}
+use denote.Ref.{now}
+use Rattle.layout.proofs.Laws.{byte-get, word-get, byte-put, word-put}
+use borrow.Author.Needs.{needs}
+use Rattle.layout.proofs.word_at.Statement.{statement}
+use Rattle.layout.proofs.word_at.Tie as tie
+use Rattle.layout.proofs.word_at.Reads as reads
+use Rattle.layout.proofs.word_at.Lts as lts
+use Rattle.le.proofs.get.Reads as get-reads
+
+-- src/lib.rt:19:21
+mul-get : tie.Need-mul-get
+mul-get c = search needs
+
+-- src/lib.rt:19:17
+add-get : tie.Need-add-get
+add-get c = search needs
+
+-- src/lib.rt:19:5
+get-requires : tie.Need-get-requires
+get-requires c κs = search needs
+
+-- src/lib.rt:15:1
+returns : tie.Need-returns
+returns c =
+    let a = c .before .before in
+    c .get .ensures .0 ∙ sym (word-get (now (a .args .r)) (a .args .j) (omega arith))
+
+pub word-at-spec : {M : Type 1} → statement M
+word-at-spec = tie.close (tie.spec mul-get add-get get-requires returns)
