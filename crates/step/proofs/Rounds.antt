@@ -1,0 +1,91 @@
+-- The loops' turns, and the steps of the whole buffer one after the other.
+use Prim.Native.Nat.{ℕ, zero, suc, _+_, _*_, _-_, _^_, _<_, _≤_}
+use mathlib.Core.Path.{_≡_, refl, sym, ap, ap₂, _∙_}
+use mathlib.Core.List.{List, [], _∷_, map}
+use mathlib.Core.Bool.{Bool, true, false, cond}
+use native.Mathlib.Omega.{arith}
+use lib.Dec.{lit<, ltb}
+use lib.ListN.{length, getD, set, drop, drop-of-length-le}
+use lib.Seq.{drop-cons}
+use borrow.Author.Tests.{lt-ltb, le-ltb}
+use borrow.Rule.Slice.PartMut.{midOf, putMid}
+use Rattle.meaning.specs.Events.{horizon}
+use Rattle.le.specs.Bytes.{Bytes}
+use Rattle.layout.specs.Record.{Slot, Raw, Raws, noSlot, noRaw, num, encRaw, decRaw, encode, decode, rowAt, change, changeAll}
+use Rattle.layout.proofs.Laws.{RawOk, RawsOk, rows-many, row-mid, raws-ok, row-ok, change-ok, changeAll-ok, whole-then}
+use Rattle.step.specs.Step.{pushed, toldRow, lowered, leastRow, waitingRow, below, released, releasedRow, offered}
+use Rattle.step.proofs.Leaves.{push-ok, told-ok}
+
+-- ---- the least bound of the readers, from the last record down
+
+least-more : (s : ℕ) (r : Raw) (rs : List Raw) → leastRow s (r ∷ rs) ≡ lowered s r (leastRow s rs)
+unfolding leastRow
+least-more s r rs = refl
+
+pub least-start : (s n : ℕ) (p : List ℕ) → horizon ≡ leastRow s (drop n (decode n p .rows))
+unfolding leastRow
+least-start s n p = sym (ap (leastRow s) (drop-of-length-le (decode n p .rows) {i = n} (rw (rows-many n p) (omega arith))))
+
+pub least-turn : (s n acc acc′ : ℕ) (p : List ℕ) (i k : ℕ) → 0 < i → i ≤ n → k ≡ 256 → acc ≡ leastRow s (drop i (decode n p .rows))
+    → acc′ ≡ lowered s (decRaw (midOf ((i - 1) * 256) k p)) acc → acc′ ≡ leastRow s (drop (i - 1) (decode n p .rows))
+least-turn s n acc acc′ p i k h l q inv e =
+    let rows = decode n p .rows in
+    let f : suc (i - 1) ≡ i = omega arith in
+    let m : i - 1 < length rows = rw (rows-many n p) (omega arith) in
+    e ∙ ap₂ (lowered s) (sym (row-mid n p (i - 1) k (omega arith) q)) (inv ∙ ap (λ (j : ℕ). leastRow s (drop j rows)) (sym f))
+    ∙ sym (ap (leastRow s) (drop-cons rows (i - 1) noRaw m) ∙ least-more s (getD rows (i - 1) noRaw) (drop (suc (i - 1)) rows))
+
+pub least-end : (s n acc : ℕ) (p : List ℕ) (i : ℕ) → i ≡ 0 → acc ≡ leastRow s (drop i (decode n p .rows)) → acc ≡ leastRow s (decode n p .rows)
+least-end s n acc p i e inv = rw e at inv
+
+-- ---- the leading slots below w
+
+below-more : (w n : ℕ) (e : Slot) (l : List Slot) → below w (suc n) (e ∷ l) ≡ cond (ltb (e .stamp) w) (suc (below w n l)) 0
+unfolding below
+below-more w n e l = refl
+
+below-none : (w : ℕ) (l : List Slot) → below w 0 l ≡ 0
+unfolding below
+below-none w l = refl
+
+below-turn : (w n i : ℕ) (l : List Slot) → i < n → n ≤ length l
+    → below w (n - i) (drop i l) ≡ cond (ltb (getD l i noSlot .stamp) w) (suc (below w (n - (i + 1)) (drop (i + 1) l))) 0
+below-turn w n i l h k =
+    let e : n - i ≡ suc (n - (i + 1)) = omega arith in
+    let f : i + 1 ≡ suc i = omega arith in
+    ap₂ (below w) e (drop-cons l i noSlot (omega arith)) ∙ below-more w (n - (i + 1)) (getD l i noSlot) (drop (suc i) l)
+    ∙ ap (λ (j : ℕ). cond (ltb (getD l i noSlot .stamp) w) (suc (below w (n - (i + 1)) (drop j l))) 0) (sym f)
+
+module _ (w n i : ℕ) (l : List Slot) (h : i < n) (k : n ≤ length l) (inv : i + below w (n - i) (drop i l) ≡ below w n l) where
+  pub below-stop : w ≤ getD l i noSlot .stamp → i ≡ below w n l
+  below-stop q =
+      let z : below w (n - i) (drop i l) ≡ 0 = below-turn w n i l h k ∙ rw (le-ltb (getD l i noSlot .stamp) w q) in
+      omega arith
+
+  pub below-go : getD l i noSlot .stamp < w → (i + 1) + below w (n - (i + 1)) (drop (i + 1) l) ≡ below w n l
+  below-go q =
+      let z : below w (n - i) (drop i l) ≡ suc (below w (n - (i + 1)) (drop (i + 1) l)) = below-turn w n i l h k ∙ rw (lt-ltb (getD l i noSlot .stamp) w q) in
+      omega arith
+
+pub below-end : (w n i : ℕ) (l : List Slot) → i ≡ n → i + below w (n - i) (drop i l) ≡ below w n l → n ≡ below w n l
+below-end w n i l e inv =
+    let d : n - i ≡ 0 = omega arith in
+    let z : below w (n - i) (drop i l) ≡ 0 = ap (λ (j : ℕ). below w j (drop i l)) d ∙ below-none w (drop i l) in
+    omega arith
+
+-- ---- the steps of the whole
+
+pub release-row-is : (i w least : ℕ) (st : Raws) → least ≡ leastRow i (st .rows) → w ≡ waitingRow least (rowAt st i) → releasedRow i st ≡ change i (released w) st
+unfolding releasedRow
+release-row-is i w least st e q = ap (λ (x : ℕ). change i (released x) st) (sym (q ∙ ap (λ (x : ℕ). waitingRow x (rowAt st i)) e))
+
+pub offer-is : (n : ℕ) (s s₁ s₂ s₃ : List ℕ) (i t v : ℕ) → Bytes s → i < n → t < 2 ^ 32 → v < 2 ^ 64
+    → s₁ ≡ encode n (change i (pushed t v) (decode n s)) → s₂ ≡ encode n (changeAll (toldRow i t v) (decode n s₁)) → s₃ ≡ encode n (releasedRow i (decode n s₂))
+    → s₃ ≡ encode n (offered i t v (decode n s))
+unfolding offered
+offer-is n s s₁ s₂ s₃ i t v b hi ht hv e₁ e₂ e₃ =
+    let ok₀ = raws-ok n s b in
+    let ok₁ = change-ok n (decode n s) i (pushed t v) ok₀ (push-ok v hv t ht (rowAt (decode n s) i) (row-ok n (decode n s) i ok₀ hi)) in
+    let told = whole-then n s s₁ s₂ (change i (pushed t v)) (changeAll (toldRow i t v)) e₁ ok₁ e₂ in
+    let ok₂ = changeAll-ok n (change i (pushed t v) (decode n s)) (toldRow i t v) ok₁ (told-ok v hv i t ht) in
+    whole-then n s s₂ s₃ (λ st. changeAll (toldRow i t v) (change i (pushed t v) st)) (releasedRow i) told ok₂ e₃

@@ -1,0 +1,70 @@
+use Prim.Native.Nat.{ℕ, _+_, _-_, _*_, _<_, _≤_}
+use mathlib.Core.Path.{_≡_, refl, sym, ap, ap₂, _∙_}
+use mathlib.Core.List.{List}
+use borrow.Author.Tests.{not-true, not-false}
+use borrow.Rule.Slice.PartMut.{midOf, putMid, same-len-mid}
+use lib.ListN.{length, drop}
+use denote.Ref.{now}
+use Rattle.layout.specs.Record.{Raw, decRaw, encRaw, encode, decode, num, withNum, withSlot, dropped, rowAt, change, changeAll, opF, aF, bF, outF, countF, flagF, priorFlagF, boundF, nextF, keptF, valueF, priorF}
+use Rattle.layout.proofs.Laws.{num-ok, raw-len, row-mid, lent}
+use Rattle.layout.proofs.Slots.{slot-ok, shift-ok, slots-many}
+use Rattle.layout.proofs.Loops.{left, each-turn, each-end, each-all, row-len}
+use Rattle.step.specs.Step.{pushed, readsRow, toldLast, toldValue, toldPrior, toldSince, toldDelay, toldRow, lowered, leastRow, waitingRow, below, released, releasedRow, offered}
+use Rattle.step.proofs.Leaves
+use Rattle.step.proofs.Rounds
+use native.Mathlib.Nat.{zero-add, sub-zero}
+use borrow.Author.Needs.{needs}
+use native.Mathlib.Omega.{arith}
+use Rattle.step.proofs.leading.Statement.{statement}
+use Rattle.step.proofs.leading.Tie as tie
+use Rattle.step.proofs.leading.Reads as reads
+use Rattle.step.proofs.leading.Lts as lts
+use Rattle.layout.proofs.stamp_at.Reads as stamp-at-reads
+
+abbrev Inv-loop : tie.InvT-loop
+Inv-loop r n w i₀ i = (i ≤ n) × (i + below w (n - i) (drop i (decRaw r .slots)) ≡ below w n (decRaw r .slots))
+
+abbrev μ-loop : tie.MeasureT-loop
+μ-loop r n w i₀ i = n - i
+
+-- src/lib.rt:210:5
+loop-holds : tie.Need-loop-holds Inv-loop μ-loop
+loop-holds c = (omega arith, simp (zero-add, sub-zero))
+
+-- src/lib.rt:211:17
+stamp-at-requires : tie.Need-stamp-at-requires Inv-loop μ-loop
+stamp-at-requires c κs = (omega arith, omega arith)
+
+-- src/lib.rt:212:13
+returns : tie.Need-returns Inv-loop μ-loop
+returns c = let a = c .before .before .before .before .before .args in let l = c .before .before .before .loop in let sl = decRaw (now (a .r)) .slots in let many = slots-many (now (a .r)) in (Rounds.below-stop (a .w) (a .n) (l .i) sl (omega arith) (omega arith) (l .inv .1) (omega arith), omega arith)
+
+-- src/lib.rt:214:9
+add-i : tie.Need-add-i Inv-loop μ-loop
+add-i c = omega arith
+
+-- src/lib.rt:210:5
+loop-less : tie.Need-loop-less Inv-loop μ-loop
+loop-less c = omega arith
+
+-- src/lib.rt:210:5
+loop-again : tie.Need-loop-again Inv-loop μ-loop
+loop-again c = let a = c .before .before .before .before .before .args in let l = c .before .before .before .loop in let sl = decRaw (now (a .r)) .slots in let many = slots-many (now (a .r)) in (omega arith, Rounds.below-go (a .w) (a .n) (l .i) sl (omega arith) (omega arith) (l .inv .1) (omega arith))
+
+-- src/lib.rt:205:1
+returns-2 : tie.Need-returns-2 Inv-loop μ-loop
+returns-2 c = let a = c .before .before .before .args in let l = c .before .loop in let sl = decRaw (now (a .r)) .slots in let many = slots-many (now (a .r)) in (Rounds.below-end (a .w) (a .n) (l .i) sl (omega arith) (l .inv .1), omega arith)
+
+pub leading-spec : {M : Type 1} → statement M
+leading-spec =
+    tie.close
+    (tie.spec
+    Inv-loop
+    μ-loop
+    loop-holds
+    stamp-at-requires
+    returns
+    add-i
+    loop-less
+    loop-again
+    returns-2)

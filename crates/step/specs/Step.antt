@@ -1,0 +1,92 @@
+-- The steps of the calls on raw records: total functions of numbers and slots.
+use Prim.Native.Nat.{ℕ, zero, suc, _+_, _-_, min}
+use mathlib.Core.List.{List, [], _∷_}
+use mathlib.Core.Bool.{Bool, true, false, cond}
+use lib.Dec.{ltb, eqb}
+use Rattle.meaning.specs.Events.{horizon}
+use Rattle.machine.specs.State.{room}
+use Rattle.layout.specs.Record.{Slot, Raw, Raws, num, withNum, withSlot, dropped, rowAt, change, changeAll, opF, aF, bF, outF, countF, flagF, priorFlagF, boundF, nextF, keptF, valueF, priorF}
+
+-- the event (t, v) put after the held ones, and the bound past it; a full record stays as it is
+unfoldable pub pushed : ℕ → ℕ → Raw → Raw
+pushed t v r =
+    cond (ltb (num countF r) room)
+    (withNum boundF (t + 1) (withNum countF (num countF r + 1) (withSlot (num countF r) t v r)))
+    r
+
+-- whether the record's equation reads stream s, by the groups of the stored number
+unfoldable pub readsRow : ℕ → Raw → Bool
+readsRow s r =
+    cond (ltb (num opF r) 4) false
+    (cond (ltb 19 (num opF r)) false
+    (cond (eqb (num aF r) s) true
+    (cond (ltb (num opF r) 8) false (eqb (num bF r) s))))
+
+-- ---- a reader ahead of the event (t, v) of stream s takes what it needs of it
+
+unfoldable pub toldLast : ℕ → ℕ → Raw → Raw
+toldLast s v r = cond (eqb (num aF r) s) (withNum keptF v (withNum flagF 1 r)) r
+
+unfoldable pub toldValue : ℕ → ℕ → ℕ → Raw → Raw
+toldValue s t v r =
+    cond (eqb (num aF r) s) (cond (eqb (num keptF r) (t + 1)) (withNum valueF v (withNum flagF 1 r)) r) r
+
+unfoldable pub toldPrior : ℕ → ℕ → ℕ → Raw → Raw
+toldPrior s t v r =
+    cond (eqb (num aF r) s) (cond (eqb (num boundF r) (t + 1)) (withNum priorF v (withNum priorFlagF 1 r)) r) r
+
+unfoldable pub toldSince : ℕ → ℕ → Raw → Raw
+toldSince s t r =
+    cond (eqb (num bF r) s)
+    (cond (eqb (num boundF r) (t + 1))
+    (withNum keptF (t + 1) (withNum valueF (num priorF r) (withNum flagF (num priorFlagF r) r)))
+    r)
+    r
+
+unfoldable pub toldDelay : ℕ → ℕ → ℕ → Raw → Raw
+unfolding toldValue toldPrior toldSince
+toldDelay s t v r = toldSince s t (toldPrior s t v (toldValue s t v r))
+
+unfoldable pub toldRow : ℕ → ℕ → ℕ → Raw → Raw
+unfolding toldLast toldDelay
+toldRow s t v r =
+    cond (ltb t (num boundF r))
+    (cond (eqb (num opF r) 18) (toldLast s v r) (cond (eqb (num opF r) 19) (toldDelay s t v r) r))
+    r
+
+-- ---- release
+
+-- the least bound of the readers of s, the horizon if no record reads it
+unfoldable pub lowered : ℕ → Raw → ℕ → ℕ
+unfolding readsRow
+lowered s r acc = cond (readsRow s r) (min (num boundF r) acc) acc
+
+unfoldable pub leastRow : ℕ → List Raw → ℕ
+unfolding lowered
+leastRow s [] = horizon
+leastRow s (r ∷ rs) = lowered s r (leastRow s rs)
+
+-- with collection as one reader more
+unfoldable pub waitingRow : ℕ → Raw → ℕ
+waitingRow least r = cond (eqb (num outF r) 0) least (min (num nextF r) least)
+
+-- how many of the first n slots, one after the other, lie below w
+unfoldable pub below : ℕ → ℕ → List Slot → ℕ
+below w zero l = 0
+below w (suc n) [] = 0
+below w (suc n) (e ∷ l) = cond (ltb (e .stamp) w) (suc (below w n l)) 0
+
+unfoldable pub released : ℕ → Raw → Raw
+unfolding below
+released w r =
+    let k = below w (min (num countF r) room) (r .slots) in
+    withNum countF (num countF r - k) (dropped k r)
+
+unfoldable pub releasedRow : ℕ → Raws → Raws
+unfolding released waitingRow leastRow
+releasedRow i st = change i (released (waitingRow (leastRow i (st .rows)) (rowAt st i))) st
+
+-- ---- the whole step of an offer: appended, told, released
+unfoldable pub offered : ℕ → ℕ → ℕ → Raws → Raws
+unfolding releasedRow toldRow pushed
+offered i t v st = releasedRow i (changeAll (toldRow i t v) (change i (pushed t v) st))

@@ -1,0 +1,264 @@
+// One step on bytes: an event appended, the readers told, and what nobody waits for let go.
+ghost use mathlib.Core.Path.{_≡_};
+ghost use Prim.Native.Nat.{_*_, _+_, _≤_, _<_, min};
+ghost use lib.ListN.{length};
+ghost use Rattle.layout.specs.Record as layout;
+ghost use Rattle.layout.specs.Record.{encRaw, decRaw, encode, decode, change, changeAll};
+ghost use Rattle.step.specs.Step.{pushed, readsRow, toldLast, toldValue, toldPrior, toldSince, toldDelay, toldRow, lowered, leastRow, waitingRow, below, released, releasedRow, offered};
+use limits::Bound;
+use limits::Queue;
+
+// Puts the event (t, v) after the held ones of a record, and its bound past it. A full record stays as it is.
+pub fn push(r: &mut [u8], t: u32, v: u64)
+    requires { ⌜ length (now r) ≡ 256 ⌝ }
+    ensures { λ _. ⌜ now (r .exit) ≡ encRaw (pushed t v (decRaw (now (r .entry)))) ⌝ }
+{
+    let n = layout::byte_at(r, 4);
+    if n as usize >= Queue::ROOM {
+        return;
+    }
+    layout::put_slot(r, n as usize, t as u64, v);
+    layout::put_byte(r, 4, n + 1);
+    layout::put_word(r, 1, t as u64 + 1);
+}
+
+// Whether a record reads stream s.
+pub fn reads(r: &[u8], s: u64) -> bool
+    requires { ⌜ length (now r) ≡ 256 ⌝ }
+    ensures { λ x. ⌜ x ≡ readsRow s (decRaw (now (r .entry))) ⌝ }
+{
+    let op = layout::byte_at(r, 0);
+    if op < 4 {
+        return false;
+    }
+    if 19 < op {
+        return false;
+    }
+    let a = layout::byte_at(r, 1);
+    if a == s {
+        return true;
+    }
+    if op < 8 {
+        return false;
+    }
+    let b = layout::byte_at(r, 2);
+    b == s
+}
+
+// A last keeps the value of its first argument's event.
+fn tell_last(r: &mut [u8], s: u64, v: u64)
+    requires { ⌜ length (now r) ≡ 256 ⌝ }
+    ensures { λ _. ⌜ now (r .exit) ≡ encRaw (toldLast s v (decRaw (now (r .entry)))) ⌝ }
+{
+    let a = layout::byte_at(r, 1);
+    if a != s {
+        return;
+    }
+    layout::put_byte(r, 5, 1);
+    layout::put_word(r, 3, v);
+}
+
+// A delay keeps its first argument's event at its latest set point.
+fn tell_value(r: &mut [u8], s: u64, t: u32, v: u64)
+    requires { ⌜ length (now r) ≡ 256 ⌝ }
+    ensures { λ _. ⌜ now (r .exit) ≡ encRaw (toldValue s t v (decRaw (now (r .entry)))) ⌝ }
+{
+    let a = layout::byte_at(r, 1);
+    if a != s {
+        return;
+    }
+    let since = layout::word_at(r, 3);
+    if since != t as u64 + 1 {
+        return;
+    }
+    layout::put_byte(r, 5, 1);
+    layout::put_word(r, 4, v);
+}
+
+// A delay keeps its first argument's event just below its bound.
+fn tell_prior(r: &mut [u8], s: u64, t: u32, v: u64)
+    requires { ⌜ length (now r) ≡ 256 ⌝ }
+    ensures { λ _. ⌜ now (r .exit) ≡ encRaw (toldPrior s t v (decRaw (now (r .entry)))) ⌝ }
+{
+    let a = layout::byte_at(r, 1);
+    if a != s {
+        return;
+    }
+    let bound = layout::word_at(r, 1);
+    if bound != t as u64 + 1 {
+        return;
+    }
+    layout::put_byte(r, 6, 1);
+    layout::put_word(r, 5, v);
+}
+
+// A delay has a new set point, just below its bound: its first argument's event there is its prior.
+fn tell_since(r: &mut [u8], s: u64, t: u32)
+    requires { ⌜ length (now r) ≡ 256 ⌝ }
+    ensures { λ _. ⌜ now (r .exit) ≡ encRaw (toldSince s t (decRaw (now (r .entry)))) ⌝ }
+{
+    let b = layout::byte_at(r, 2);
+    if b != s {
+        return;
+    }
+    let bound = layout::word_at(r, 1);
+    if bound != t as u64 + 1 {
+        return;
+    }
+    let has = layout::byte_at(r, 6);
+    let v = layout::word_at(r, 5);
+    layout::put_byte(r, 5, has);
+    layout::put_word(r, 4, v);
+    layout::put_word(r, 3, t as u64 + 1);
+}
+
+fn tell_delay(r: &mut [u8], s: u64, t: u32, v: u64)
+    requires { ⌜ length (now r) ≡ 256 ⌝ }
+    ensures { λ _. ⌜ now (r .exit) ≡ encRaw (toldDelay s t v (decRaw (now (r .entry)))) ⌝ }
+{
+    tell_value(r, s, t, v);
+    tell_prior(r, s, t, v);
+    tell_since(r, s, t);
+}
+
+// Tells a record that stream s has the event (t, v).
+fn tell(r: &mut [u8], s: u64, t: u32, v: u64)
+    requires { ⌜ length (now r) ≡ 256 ⌝ }
+    ensures { λ _. ⌜ now (r .exit) ≡ encRaw (toldRow s t v (decRaw (now (r .entry)))) ⌝ }
+{
+    let bound = layout::word_at(r, 1);
+    if bound <= t as u64 {
+        return;
+    }
+    let op = layout::byte_at(r, 0);
+    if op == 18 {
+        tell_last(r, s, v);
+        return;
+    }
+    if op == 19 {
+        tell_delay(r, s, t, v);
+    }
+}
+
+// Tells each of the n records that stream s has the event (t, v).
+pub fn tell_all(state: &mut [u8], n: usize, s: u64, t: u32, v: u64)
+    requires { ⌜ n * 256 ≤ length (now state) ⌝ }
+    ensures { λ _. ⌜ now (state .exit) ≡ encode n (changeAll (toldRow s t v) (decode n (now (state .entry)))) ⌝ }
+{
+    let mut i = 0;
+    while i < n {
+        let at = i * 256;
+        let end = at + 256;
+        tell(&mut state[at..end], s, t, v);
+        i += 1;
+    }
+}
+
+// The lesser of the given bound and the record's own, if it reads stream s.
+fn lower(r: &[u8], s: u64, least: u64) -> u64
+    requires { ⌜ length (now r) ≡ 256 ⌝ }
+    ensures { λ x. ⌜ x ≡ lowered s (decRaw (now (r .entry))) least ⌝ }
+{
+    if !reads(r, s) {
+        return least;
+    }
+    let bound = layout::word_at(r, 1);
+    if bound < least {
+        return bound;
+    }
+    least
+}
+
+// The least bound of the readers of stream s, the horizon if none of the n records reads it.
+pub fn least_reader(state: &[u8], n: usize, s: u64) -> u64
+    requires { ⌜ n * 256 ≤ length (now state) ⌝ }
+    ensures { λ x. ⌜ x ≡ leastRow s (decode n (now (state .entry)) .rows) ⌝ }
+{
+    let mut least = Bound::HORIZON;
+    let mut i = n;
+    while 0 < i {
+        i -= 1;
+        let at = i * 256;
+        let end = at + 256;
+        least = lower(&state[at..end], s, least);
+    }
+    least
+}
+
+// The least bound of a record's readers, with collection of an output as one reader more.
+fn waiting(r: &[u8], least: u64) -> u64
+    requires { ⌜ length (now r) ≡ 256 ⌝ }
+    ensures { λ x. ⌜ x ≡ waitingRow least (decRaw (now (r .entry))) ⌝ }
+{
+    let out = layout::byte_at(r, 3);
+    if out == 0 {
+        return least;
+    }
+    let next = layout::word_at(r, 2);
+    if next < least {
+        return next;
+    }
+    least
+}
+
+// How many of the first n slots, one after the other, lie below w.
+pub fn leading(r: &[u8], n: usize, w: u64) -> usize
+    requires { ⌜ (length (now r) ≡ 256) × (n ≤ 16) ⌝ }
+    ensures { λ x. ⌜ (x ≡ below w n (decRaw (now (r .entry)) .slots)) × (x ≤ n) ⌝ }
+{
+    let mut i = 0;
+    while i < n {
+        if w <= layout::stamp_at(r, i) {
+            return i;
+        }
+        i += 1;
+    }
+    n
+}
+
+// How many events a record holds: never more than there is room for.
+pub fn held(r: &[u8]) -> usize
+    requires { ⌜ length (now r) ≡ 256 ⌝ }
+    ensures { λ x. ⌜ (x ≡ min (layout.num 4 (decRaw (now (r .entry)))) 16) × (x ≤ 16) ⌝ }
+{
+    let n = layout::byte_at(r, 4) as usize;
+    if n < Queue::ROOM {
+        return n;
+    }
+    Queue::ROOM
+}
+
+// Lets the held events below w go.
+pub fn release(r: &mut [u8], w: u64)
+    requires { ⌜ length (now r) ≡ 256 ⌝ }
+    ensures { λ _. ⌜ now (r .exit) ≡ encRaw (released w (decRaw (now (r .entry)))) ⌝ }
+{
+    let n = layout::byte_at(r, 4);
+    let k = leading(r, held(r), w);
+    layout::drop_slots(r, k);
+    layout::put_byte(r, 4, n - k as u64);
+}
+
+// Lets go what nobody waits for of stream i.
+pub fn release_row(state: &mut [u8], n: usize, i: usize)
+    requires { ⌜ (n * 256 ≤ length (now state)) × (i < n) ⌝ }
+    ensures { λ _. ⌜ now (state .exit) ≡ encode n (releasedRow i (decode n (now (state .entry)))) ⌝ }
+{
+    let least = least_reader(state, n, i as u64);
+    let at = i * 256;
+    let end = at + 256;
+    let w = waiting(&state[at..end], least);
+    release(&mut state[at..end], w);
+}
+
+// Appends the event (t, v) to stream i, tells its readers, and lets go what nobody waits for.
+pub fn offer(state: &mut [u8], n: usize, i: usize, t: u32, v: u64)
+    requires { ⌜ (n * 256 ≤ length (now state)) × (i < n) ⌝ }
+    ensures { λ _. ⌜ now (state .exit) ≡ encode n (offered i t v (decode n (now (state .entry)))) ⌝ }
+{
+    let at = i * 256;
+    let end = at + 256;
+    push(&mut state[at..end], t, v);
+    tell_all(state, n, i as u64, t, v);
+    release_row(state, n, i);
+}
