@@ -8,3 +8,4 @@ pub mod Unique
 pub mod Exists
 pub mod Ways
 pub mod Solution
+pub mod CycleTest
