@@ -1,3 +1,4 @@
+pub mod Computed
 pub mod Tests
 pub mod Each
 pub mod Induction
@@ -9,3 +10,4 @@ pub mod Exists
 pub mod Ways
 pub mod Solution
 pub mod CycleTest
+pub mod CasesHold
