@@ -1,8 +1,8 @@
 -- The worked cases hold of every solution: one proof for all rows of the table.
-use mathlib.Core.Path.{_≡_, refl, _∙_}
-use mathlib.Core.Bool.{Bool, true}
+use mathlib.Core.Path.{_≡_, _∙_}
+use mathlib.Core.Bool.{true}
 use mathlib.Core.List.{List, [], _∷_, map, List·Memᴰ, List·Memᴰ·head, List·Memᴰ·tail, head-eq-of-cons-eq, tail-eq-of-cons-eq}
-use Rattle.meaning.specs.Events.{Event, Streams, events}
+use Rattle.meaning.specs.Events.{Streams, events}
 use Rattle.meaning.specs.Table.{Solves}
 use Rattle.meaning.specs.Cycle.{Acyclic, acyclic}
 use Rattle.meaning.specs.Meaning.{meaning}

@@ -1,13 +1,11 @@
 -- The tables of worked cases, computed row by row.
 use mathlib.Core.Path.{_≡_, refl}
-use mathlib.Core.Bool.{Bool, true}
+use mathlib.Core.Bool.{true}
 use mathlib.Core.List.{List, map}
-use lib.ListN.{length}
 use Rattle.meaning.specs.Events.{Event, events}
-use Rattle.meaning.specs.Table.{at}
 use Rattle.meaning.specs.Cycle.{acyclic}
 use Rattle.meaning.specs.Meaning.{meaning}
-use Rattle.meaning.specs.Cases.{Case, given, cases, Verdict, verdicts}
+use Rattle.meaning.specs.Cases.{Case, given, cases, verdicts}
 
 abbrev pub outcome : Case → List Event
 outcome c = events (meaning (c .plan) (given (c .readings)) (c .stream)) (c .until)
