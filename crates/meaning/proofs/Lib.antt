@@ -1,5 +1,6 @@
 pub mod Computed
 pub mod Tests
+pub mod Options
 pub mod Each
 pub mod Induction
 pub mod Clear
@@ -7,6 +8,7 @@ pub mod Free
 pub mod Causal
 pub mod Unique
 pub mod Exists
+pub mod Within
 pub mod Ways
 pub mod Solution
 pub mod CycleTest
