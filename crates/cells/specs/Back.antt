@@ -1,0 +1,49 @@
+-- A raw record read as a cell of the machine: total, also where the numbers are no cell's.
+use Prim.Native.Nat.{ℕ, min}
+use mathlib.Core.Bool.{Bool, true, false, not, cond}
+use mathlib.Core.Option.{Option, none, some}
+use mathlib.Core.List.{List, [], _∷_, map}
+use lib.Dec.{eqb}
+use lib.ListN.{take}
+use lib.IntN.{ℤ}
+use mir.Syntax.{w64}
+use mir.Val.{toZ}
+use Rattle.meaning.specs.Events.{Event, ev}
+use Rattle.machine.specs.State.{Kept, Cell, State, room, noKept}
+use Rattle.operators.specs.Operators.{eqnOf}
+use Rattle.layout.specs.Record.{Slot, Raw, Raws, num, decode, opF, aF, bF, outF, countF, flagF, priorFlagF, kF, boundF, nextF, keptF, valueF, priorF}
+
+-- what may be absent
+abbrev pub optional : ℕ → ℕ → Option ℤ
+optional has x = cond (eqb has 0) none (some (toZ w64 x))
+
+abbrev pub eventOf : Slot → Event
+eventOf e = ev (e .stamp) (toZ w64 (e .value))
+
+-- the events that a record holds, never more than there is room for
+unfoldable pub heldOf : Raw → List Event
+heldOf r = map eventOf (take (min (num countF r) room) (r .slots))
+
+unfoldable pub keptOf : Raw → Kept
+keptOf r =
+    cond (eqb (num opF r) 18) (record { prev = optional (num flagF r) (num keptF r); since = 0; value = none; prior = none })
+    (cond (eqb (num opF r) 19)
+    (record { prev = none; since = num keptF r; value = optional (num flagF r) (num valueF r); prior = optional (num priorFlagF r) (num priorF r) })
+    noKept)
+
+unfoldable pub toCell : Raw → Cell
+unfolding heldOf keptOf
+toCell r =
+    record {
+      eqn = eqnOf (num opF r) (num aF r) (num bF r) (toZ w64 (num kF r));
+      out = not (eqb (num outF r) 0);
+      bound = num boundF r;
+      held = heldOf r;
+      next = num nextF r;
+      kept = keptOf r;
+    }
+
+-- the state that n records in bytes give
+unfoldable pub stateOf : ℕ → List ℕ → State
+unfolding toCell
+stateOf n s = map toCell (decode n s .rows)

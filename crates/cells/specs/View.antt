@@ -1,0 +1,78 @@
+-- A cell of the machine as a raw record, and a state as bytes.
+use Prim.Native.Nat.{ℕ, zero, suc, _+_, _*_, _-_}
+use mathlib.Core.Bool.{Bool, true, false}
+use mathlib.Core.Option.{Option, none, some}
+use mathlib.Core.List.{List, [], _∷_, map}
+use lib.ListN.{length, replicate}
+use lib.IntN.{ℤ}
+use mir.Syntax.{w64}
+use mir.Val.{ofZ}
+use Rattle.meaning.specs.Plan.{Eqn, input, nil, unit, one, two, last, delay}
+use Rattle.meaning.specs.Events.{Event}
+use Rattle.machine.specs.State.{Kept, Cell, State, room}
+use Rattle.operators.specs.Operators.{numberOf, firstOf, secondOf, valueOf}
+use Rattle.layout.specs.Record.{Slot, Raw, Raws, noSlot, encode}
+
+abbrev pub flag : Bool → ℕ
+flag true = 1
+flag false = 0
+
+-- what may be absent: whether it is there, and its bits, 0 if not
+abbrev pub flagOf : Option ℤ → ℕ
+flagOf none = 0
+flagOf (some v) = 1
+
+abbrev pub bitsOf : Option ℤ → ℕ
+bitsOf none = 0
+bitsOf (some v) = ofZ w64 v
+
+-- the numbers of what is kept: two flags, three words
+pub record KeptNums : Type 0 where
+  pub flag : ℕ
+  pub priorFlag : ℕ
+  pub kept : ℕ
+  pub value : ℕ
+  pub prior : ℕ
+
+abbrev pub noNums : KeptNums
+noNums = record { flag = 0; priorFlag = 0; kept = 0; value = 0; prior = 0 }
+
+abbrev pub keptNums : Eqn → Kept → KeptNums
+keptNums input k = noNums
+keptNums nil k = noNums
+keptNums unit k = noNums
+keptNums (one f a) k = noNums
+keptNums (two g a b) k = noNums
+keptNums (last a b) k = record { flag = flagOf (k .prev); priorFlag = 0; kept = bitsOf (k .prev); value = 0; prior = 0 }
+keptNums (delay a b) k =
+    record { flag = flagOf (k .value); priorFlag = flagOf (k .prior); kept = k .since; value = bitsOf (k .value); prior = bitsOf (k .prior) }
+
+abbrev pub slotOf : Event → Slot
+slotOf e = record { stamp = e .stamp; value = ofZ w64 (e .value) }
+
+-- n entries; a missing one is d
+unfoldable pub padTo : {A : Type 0} → ℕ → A → List A → List A
+padTo zero d l = []
+padTo (suc n) d [] = d ∷ padTo n d []
+padTo (suc n) d (a ∷ l) = a ∷ padTo n d l
+
+-- the fifteen numbers of the head and the sixteen slots
+abbrev pub rawOf : Eqn → Bool → ℕ → List Event → ℕ → KeptNums → Raw
+rawOf e out bound held next n =
+    record {
+      nums = numberOf e ∷ firstOf e ∷ secondOf e ∷ flag out ∷ length held ∷ n .flag ∷ n .priorFlag ∷ 0
+          ∷ ofZ w64 (valueOf e) ∷ bound ∷ next ∷ n .kept ∷ n .value ∷ n .prior ∷ 0 ∷ [];
+      slots = padTo room noSlot (map slotOf held);
+    }
+
+unfoldable pub ofCell : Cell → Raw
+ofCell c = rawOf (c .eqn) (c .out) (c .bound) (c .held) (c .next) (keptNums (c .eqn) (c .kept))
+
+-- the raw state of a machine state, in this many bytes: the records, and zeros behind them
+unfoldable pub rawsOf : ℕ → State → Raws
+unfolding ofCell
+rawsOf size M = record { rows = map ofCell M; spare = replicate (size - length M * 256) 0 }
+
+unfoldable pub bytesOf : ℕ → State → List ℕ
+unfolding rawsOf
+bytesOf size M = encode (length M) (rawsOf size M)
