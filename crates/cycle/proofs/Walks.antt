@@ -67,6 +67,10 @@ module _ (d i : ℕ) (g : List ℕ) (h : 3 * i + 2 < length g) (e : getD g (3 * 
             let k : r₂ ≡ true = not-false r₂ n in
             sym (next ∙ rw k)
 
+pub onward : (d i : ℕ) (g : List ℕ) → 3 * i + 2 < length g → getD g (3 * i) 0 ≡ 0 → followed (suc d) i g ≡ both i (followed d) (followed d (getD g (3 * i + 1) 0) g)
+unfolding followed
+onward d i g h e = rw (lt-ltb (3 * i + 2) (length g) h, e)
+
 -- three stores side by side
 pub stored : (g : List ℕ) (at how a b : ℕ) → set (set (set g at how) (at + 1) a) (at + 2) b ≡ sets g at (how ∷ a ∷ b ∷ [])
 stored g at how a b =
