@@ -1,4 +1,4 @@
-// The limits, each named once, with the type it belongs to.
+// The limits of bounds and queues, each named once, with the type it belongs to. (A plan's are in `operators`.)
 ghost use mathlib.Core.Path.{_≡_};
 ghost use Prim.Native.Nat.{_+_, _≤_};
 ghost use lib.Dec.{leb};
@@ -66,25 +66,5 @@ impl Queue {
         ensures { λ r. ⌜ r ≡ room ⌝ }
     {
         Queue::ROOM
-    }
-}
-
-// A plan: its streams, of which there are at most 32, and its text.
-pub struct Plan {
-    pub streams: usize,
-}
-
-impl Plan {
-    // How many streams a plan has at most, and how deep its arguments are followed.
-    pub const STREAMS: usize = 32;
-
-    // How many bytes a plan's text has at most.
-    pub const TEXT: usize = 2048;
-
-    // The plan of no streams.
-    pub fn new() -> Plan
-        ensures { λ r. ⌜ r .streams ≡ 0 ⌝ }
-    {
-        Plan { streams: 0 }
     }
 }

@@ -1,0 +1,95 @@
+-- The graph of a plan is tied to it, and so the test on the graph's bytes decides the cycle rule.
+use Prim.Native.Nat.{ℕ, zero, suc, _+_, _*_, _<_, _≤_}
+use mathlib.Core.Path.{_≡_, refl, sym, ap, _∙_, subst}
+use mathlib.Core.List.{List, [], _∷_, _++_, append-assoc}
+use mathlib.Core.Bool.{Bool, true, false}
+use native.Mathlib.Omega.{arith}
+use lib.Dec.{lit<}
+use lib.ListN.{length, getD, length-append, List·getD-append}
+use lib.Seq.{getD-append-add}
+use Rattle.meaning.specs.Plan.{Unary, time, neg, set, plus, Calc, add, sub, mul, div, rem, lt, le, eq, Binary, calc, keep, merge, Eqn, input, nil, unit, one, two, last, delay, Plan, eqnAt, undelayed}
+use Rattle.meaning.specs.Cycle.{acyclic}
+use Rattle.operators.specs.Operators.{numberOf, firstOf, secondOf}
+use Rattle.cycle.specs.Graph.{entryOf, graphOf, cleared}
+use Rattle.cycle.proofs.Tied.{howOf, Args, Below, argsAt, Tied, cleared-acyclic}
+
+-- a stream's three bytes, by its undelayed arguments
+abbrev entryBy : List ℕ → List ℕ
+entryBy [] = 2 ∷ 0 ∷ 0 ∷ []
+entryBy (a ∷ []) = 0 ∷ a ∷ a ∷ []
+entryBy (a ∷ b ∷ l) = 0 ∷ a ∷ b ∷ []
+
+entry-by : (e : Eqn) → entryOf (numberOf e) (firstOf e) (secondOf e) ≡ entryBy (undelayed e)
+unfolding entryOf numberOf firstOf secondOf
+entry-by input = refl
+entry-by nil = refl
+entry-by unit = refl
+entry-by (one time a) = refl
+entry-by (one (set k) a) = refl
+entry-by (one (plus k) a) = refl
+entry-by (one neg a) = refl
+entry-by (two (calc add) a b) = refl
+entry-by (two (calc sub) a b) = refl
+entry-by (two (calc mul) a b) = refl
+entry-by (two (calc div) a b) = refl
+entry-by (two (calc rem) a b) = refl
+entry-by (two (calc lt) a b) = refl
+entry-by (two (calc le) a b) = refl
+entry-by (two (calc eq) a b) = refl
+entry-by (two keep a b) = refl
+entry-by (two merge a b) = refl
+entry-by (last a b) = refl
+entry-by (delay a b) = refl
+
+three : (l : List ℕ) → length (entryBy l) ≡ 3
+three [] = refl
+three (a ∷ []) = refl
+three (a ∷ b ∷ l) = refl
+
+how-by : (l : List ℕ) → getD (entryBy l) 0 0 ≡ howOf false l
+how-by [] = refl
+how-by (a ∷ []) = refl
+how-by (a ∷ b ∷ l) = refl
+
+args-by : (e : Eqn) → Args (undelayed e) (getD (entryBy (undelayed e)) 1 0) (getD (entryBy (undelayed e)) 2 0)
+args-by input = tt
+args-by nil = tt
+args-by unit = tt
+args-by (one f a) = (refl, refl)
+args-by (two g a b) = (refl, refl)
+args-by (last a b) = (refl, refl)
+args-by (delay a b) = (refl, refl)
+
+more : (e : Eqn) (plan : Plan) (r : List ℕ) → graphOf (e ∷ plan) ++ r ≡ entryBy (undelayed e) ++ (graphOf plan ++ r)
+unfolding graphOf
+more e plan r = rw (entry-by e, append-assoc)
+
+pub graph-size : (plan : Plan) → length (graphOf plan) ≡ 3 * length plan
+unfolding graphOf
+graph-size [] = refl
+graph-size (e ∷ plan) = rw (entry-by e, length-append (entryBy (undelayed e)) (graphOf plan), three (undelayed e), graph-size plan) (omega arith)
+
+-- byte j of stream i
+at : (plan : Plan) (r : List ℕ) (i j : ℕ) → i < length plan → j < 3 → getD (graphOf plan ++ r) (3 * i + j) 0 ≡ getD (entryBy (argsAt plan i)) j 0
+at [] r i j h l = absurd (omega arith)
+at (e ∷ plan) r zero j h l =
+    let z : 3 * 0 + j ≡ j = omega arith in
+    rw (more e plan r, z) (List·getD-append (entryBy (undelayed e)) (graphOf plan ++ r) 0 j (omega (arith, three (undelayed e))))
+at (e ∷ plan) r (suc i) j h l =
+    let z : 3 * suc i + j ≡ length (entryBy (undelayed e)) + (3 * i + j) = omega (arith, three (undelayed e)) in
+    rw (more e plan r, z) (getD-append-add (entryBy (undelayed e)) (graphOf plan ++ r) (3 * i + j) 0 ∙ at plan r i j (omega arith) l)
+
+pub graph-tied : (plan : Plan) (r : List ℕ) → Tied plan (graphOf plan ++ r) (λ s. false)
+graph-tied plan r = record {
+  size = rw (length-append (graphOf plan) r, graph-size plan) (omega arith);
+  how = λ i l.
+      let z : 3 * i ≡ 3 * i + 0 = omega arith in
+      ap (λ (n : ℕ). getD (graphOf plan ++ r) n 0) z ∙ at plan r i 0 l (lit< tt) ∙ how-by (argsAt plan i);
+  args = λ i l.
+      subst (λ (x : ℕ). Args (argsAt plan i) x (getD (graphOf plan ++ r) (3 * i + 2) 0)) (sym (at plan r i 1 l (lit< tt)))
+      (subst (λ (y : ℕ). Args (argsAt plan i) (getD (entryBy (argsAt plan i)) 1 0) y) (sym (at plan r i 2 l (lit< tt))) (args-by (eqnAt plan i)));
+}
+
+-- The code's test on the graph of a plan whose arguments are streams of the plan is the definition's test of the plan.
+pub graph-acyclic : (plan : Plan) (r : List ℕ) → ((i : ℕ) → i < length plan → Below (length plan) (argsAt plan i)) → (d : ℕ) → cleared d (length plan) (graphOf plan ++ r) .isClear ≡ acyclic d plan
+graph-acyclic plan r bound d = cleared-acyclic plan bound d (graphOf plan ++ r) (graph-tied plan r)

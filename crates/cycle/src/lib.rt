@@ -1,0 +1,85 @@
+// The cycle test: follows undelayed arguments from stream to stream over a graph in bytes.
+ghost use mathlib.Core.Path.{_≡_};
+ghost use Prim.Native.Nat.{_+_, _*_, _<_, _≤_};
+ghost use mathlib.Core.List.{[], _∷_};
+ghost use lib.ListN.{length};
+ghost use lib.Seq.{sets};
+ghost use Rattle.cycle.specs.Graph.{Walk, walked, followed, cleared, entryOf};
+
+// How a stream stands in the graph: its two arguments are to be followed.
+pub const OPEN: u8 = 0;
+// It was found clear.
+pub const CLEAR: u8 = 1;
+// It has no undelayed argument.
+pub const BARE: u8 = 2;
+
+// Stores the three bytes of a stream.
+fn store(graph: &mut [u8], at: usize, how: u8, a: u8, b: u8)
+    requires { ⌜ at + 2 < length (now graph) ⌝ }
+    ensures { λ _. ⌜ now (graph .exit) ≡ sets (now (graph .entry)) at (how ∷ a ∷ b ∷ []) ⌝ }
+{
+    graph[at] = how;
+    graph[at + 1] = a;
+    graph[at + 2] = b;
+}
+
+// Notes the undelayed arguments of stream i, by its stored number.
+pub fn note(graph: &mut [u8], i: usize, op: u8, a: u8, b: u8)
+    requires { ⌜ (i < 256) × (3 * i + 2 < length (now graph)) ⌝ }
+    ensures { λ _. ⌜ now (graph .exit) ≡ sets (now (graph .entry)) (3 * i) (entryOf op a b) ⌝ }
+{
+    let at = 3 * i;
+    match op {
+        0..=3 => store(graph, at, BARE, 0, 0),
+        4..=7 => store(graph, at, OPEN, a, a),
+        8..=17 => store(graph, at, OPEN, a, b),
+        _ => store(graph, at, OPEN, b, b),
+    }
+}
+
+// Whether stream i is clear, followed at most this deep. A stream once found clear is not followed again.
+pub fn follow(graph: &mut [u8], i: usize, depth: usize) -> bool
+    requires { ⌜ i < 256 ⌝ }
+    ensures { λ r. ⌜ walked r (now (graph .exit)) ≡ followed depth i (now (graph .entry)) ⌝ }
+{
+    let at = 3 * i;
+    if graph.len() <= at + 2 {
+        return false;
+    }
+    let how = graph[at];
+    if how == CLEAR {
+        return true;
+    }
+    if depth == 0 {
+        return false;
+    }
+    if how == BARE {
+        graph[at] = CLEAR;
+        return true;
+    }
+    let a = graph[at + 1] as usize;
+    if !follow(graph, a, depth - 1) {
+        return false;
+    }
+    let b = graph[at + 2] as usize;
+    if !follow(graph, b, depth - 1) {
+        return false;
+    }
+    graph[at] = CLEAR;
+    true
+}
+
+// Whether all streams below n are clear, the last one followed first.
+pub fn clear(graph: &mut [u8], n: usize, depth: usize) -> bool
+    requires { ⌜ n ≤ 256 ⌝ }
+    ensures { λ r. ⌜ walked r (now (graph .exit)) ≡ cleared depth n (now (graph .entry)) ⌝ }
+{
+    let mut i = n;
+    while 0 < i {
+        i -= 1;
+        if !follow(graph, i, depth) {
+            return false;
+        }
+    }
+    true
+}
