@@ -79,16 +79,27 @@ at (e ∷ plan) r (suc i) j h l =
     let z : 3 * suc i + j ≡ length (entryBy (undelayed e)) + (3 * i + j) = omega (arith, three (undelayed e)) in
     rw (more e plan r, z) (getD-append-add (entryBy (undelayed e)) (graphOf plan ++ r) (3 * i + j) 0 ∙ at plan r i j (omega arith) l)
 
-pub graph-tied : (plan : Plan) (r : List ℕ) → Tied plan (graphOf plan ++ r) (λ s. false)
-graph-tied plan r = record {
-  size = rw (length-append (graphOf plan) r, graph-size plan) (omega arith);
+-- bytes that are at each stream of the plan its three bytes are tied to the plan
+pub entries-tied : (plan : Plan) (g : List ℕ) → 3 * length plan ≤ length g
+    → ((i j : ℕ) → i < length plan → j < 3 → getD g (3 * i + j) 0 ≡ getD (entryOf (numberOf (eqnAt plan i)) (firstOf (eqnAt plan i)) (secondOf (eqnAt plan i))) j 0)
+    → Tied plan g (λ s. false)
+entries-tied plan g size f = record {
+  size = size;
   how = λ i l.
       let z : 3 * i ≡ 3 * i + 0 = omega arith in
-      ap (λ (n : ℕ). getD (graphOf plan ++ r) n 0) z ∙ at plan r i 0 l (lit< tt) ∙ how-by (argsAt plan i);
+      ap (λ (n : ℕ). getD g n 0) z ∙ byte i 0 l (lit< tt) ∙ how-by (argsAt plan i);
   args = λ i l.
-      subst (λ (x : ℕ). Args (argsAt plan i) x (getD (graphOf plan ++ r) (3 * i + 2) 0)) (sym (at plan r i 1 l (lit< tt)))
-      (subst (λ (y : ℕ). Args (argsAt plan i) (getD (entryBy (argsAt plan i)) 1 0) y) (sym (at plan r i 2 l (lit< tt))) (args-by (eqnAt plan i)));
+      subst (λ (x : ℕ). Args (argsAt plan i) x (getD g (3 * i + 2) 0)) (sym (byte i 1 l (lit< tt)))
+      (subst (λ (y : ℕ). Args (argsAt plan i) (getD (entryBy (argsAt plan i)) 1 0) y) (sym (byte i 2 l (lit< tt))) (args-by (eqnAt plan i)));
 }
+  where
+    byte : (i j : ℕ) → i < length plan → j < 3 → getD g (3 * i + j) 0 ≡ getD (entryBy (argsAt plan i)) j 0
+    byte i j l h = f i j l h ∙ ap (λ (e : List ℕ). getD e j 0) (entry-by (eqnAt plan i))
+
+pub graph-tied : (plan : Plan) (r : List ℕ) → Tied plan (graphOf plan ++ r) (λ s. false)
+graph-tied plan r =
+    entries-tied plan (graphOf plan ++ r) (rw (length-append (graphOf plan) r, graph-size plan) (omega arith))
+    (λ i j l h. at plan r i j l h ∙ ap (λ (e : List ℕ). getD e j 0) (sym (entry-by (eqnAt plan i))))
 
 -- The code's test on the graph of a plan whose arguments are streams of the plan is the definition's test of the plan.
 pub graph-acyclic : (plan : Plan) (r : List ℕ) → ((i : ℕ) → i < length plan → Below (length plan) (argsAt plan i)) → (d : ℕ) → cleared d (length plan) (graphOf plan ++ r) .isClear ≡ acyclic d plan

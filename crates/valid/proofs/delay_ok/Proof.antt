@@ -1,0 +1,113 @@
+use Prim.Native.Nat.{ℕ, _+_, _-_, _*_, _<_, _≤_}
+use mathlib.Core.Path.{_≡_, refl, sym, ap, ap₂, _∙_}
+use mathlib.Core.List.{List}
+use mathlib.Core.Bool.{Bool, true, false, not, cond, _&&_, _||_}
+use borrow.Author.Tests.{lt-ltb, le-ltb, eq-eqb, ne-eqb, le-leb, lt-leb, not-true, not-false}
+use native.Mathlib.Nat.{sub-zero}
+use lib.Dec.{ltb, eqb, leb}
+use lib.ListN.{length, drop, getD}
+use denote.Ref.{now}
+use Rattle.operators.specs.Operators.{isOperator, usesA, usesB, usesK}
+use Rattle.meaning.specs.Events.{horizon}
+use Rattle.machine.specs.State.{room}
+use Rattle.le.specs.Bytes.{allZero}
+use Rattle.layout.specs.Record.{Raw, noSlot, decRaw, num, opF, aF, bF, outF, countF, flagF, priorFlagF, smallF, kF, boundF, nextF, keptF, valueF, priorF, lastF}
+use Rattle.layout.proofs.Slots.{slots-many}
+use Rattle.layout.proofs.Loops.{row-len}
+use Rattle.valid.specs.Valid.{argOk, kOk, outOk, planOk, nextOk, sizesOk, risen, flagOk, noneIf, noneOk, lastOk, delayOk, keptOk, rowOk, allRows, streamsIn, count, noted, clearIn, valid}
+use Rattle.valid.proofs.Tests
+use borrow.Author.Needs.{needs}
+use native.Mathlib.Omega.{arith}
+use Rattle.valid.proofs.delay_ok.Statement.{statement}
+use Rattle.valid.proofs.delay_ok.Tie as tie
+use Rattle.valid.proofs.delay_ok.Reads as reads
+use Rattle.valid.proofs.delay_ok.Lts as lts
+use Rattle.layout.proofs.byte_at.Reads as byte-at-reads
+use Rattle.layout.proofs.word_at.Reads as word-at-reads
+use Rattle.valid.proofs.flag_ok.Reads as flag-ok-reads
+use Rattle.valid.proofs.none_if.Reads as none-if-reads
+
+-- src/lib.rt:189:9
+byte-at-requires : tie.Need-byte-at-requires
+byte-at-requires c κs = search needs
+
+-- src/lib.rt:190:9
+byte-at-requires-2 : tie.Need-byte-at-requires-2
+byte-at-requires-2 c κs = search needs
+
+-- src/lib.rt:191:9
+word-at-requires : tie.Need-word-at-requires
+word-at-requires c κs = search needs
+
+-- src/lib.rt:192:9
+word-at-requires-2 : tie.Need-word-at-requires-2
+word-at-requires-2 c κs = search needs
+
+-- src/lib.rt:193:23
+word-at-requires-3 : tie.Need-word-at-requires-3
+word-at-requires-3 c κs = search needs
+
+-- src/lib.rt:193:9
+flag-ok-requires : tie.Need-flag-ok-requires
+flag-ok-requires c κs = search needs
+
+-- src/lib.rt:194:9
+returns : tie.Need-returns
+unfolding delayOk
+returns c = let a = c .before .before .before .before .before .before .before .before .args in let p = now (a .r) in let r = decRaw p in Tests.stop (flagOk (num flagF r) (num valueF r)) (c .before .flag-ok .result) ((flagOk (num priorFlagF r) (num priorF r)) && ((noneIf (num keptF r) (num flagF r)) && ((noneIf (num boundF r) (num priorFlagF r)) && (leb (num keptF r) (num boundF r))))) (c .before .flag-ok .ensures ∙ ap₂ flagOk (c .before .before .before .before .before .before .byte-at .ensures .0) (c .before .before .word-at3 .ensures)) (c .if1 .taken)
+
+-- src/lib.rt:196:29
+word-at-requires-4 : tie.Need-word-at-requires-4
+word-at-requires-4 c κs = search needs
+
+-- src/lib.rt:196:9
+flag-ok-requires-2 : tie.Need-flag-ok-requires-2
+flag-ok-requires-2 c κs = search needs
+
+-- src/lib.rt:197:9
+returns-2 : tie.Need-returns-2
+unfolding delayOk
+returns-2 c = let a = c .before .before .before .before .before .before .before .before .before .before .before .args in let p = now (a .r) in let r = decRaw p in Tests.pass (flagOk (num flagF r) (num valueF r)) (c .before .before .before .before .flag-ok .result) ((flagOk (num priorFlagF r) (num priorF r)) && ((noneIf (num keptF r) (num flagF r)) && ((noneIf (num boundF r) (num priorFlagF r)) && (leb (num keptF r) (num boundF r))))) _ (c .before .before .before .before .flag-ok .ensures ∙ ap₂ flagOk (c .before .before .before .before .before .before .before .before .before .byte-at .ensures .0) (c .before .before .before .before .before .word-at3 .ensures)) (c .before .before .before .if1 .left) (Tests.stop (flagOk (num priorFlagF r) (num priorF r)) (c .before .flag-ok2 .result) ((noneIf (num keptF r) (num flagF r)) && ((noneIf (num boundF r) (num priorFlagF r)) && (leb (num keptF r) (num boundF r)))) (c .before .flag-ok2 .ensures ∙ ap₂ flagOk (c .before .before .before .before .before .before .before .before .byte-at2 .ensures .0) (c .before .before .word-at4 .ensures)) (c .if2 .taken))
+
+-- src/lib.rt:199:9
+none-if-requires : tie.Need-none-if-requires
+none-if-requires c κs = search needs
+
+-- src/lib.rt:200:9
+returns-3 : tie.Need-returns-3
+unfolding delayOk
+returns-3 c = let a = c .before .before .before .before .before .before .before .before .before .before .before .before .before .args in let p = now (a .r) in let r = decRaw p in Tests.pass (flagOk (num flagF r) (num valueF r)) (c .before .before .before .before .before .before .flag-ok .result) ((flagOk (num priorFlagF r) (num priorF r)) && ((noneIf (num keptF r) (num flagF r)) && ((noneIf (num boundF r) (num priorFlagF r)) && (leb (num keptF r) (num boundF r))))) _ (c .before .before .before .before .before .before .flag-ok .ensures ∙ ap₂ flagOk (c .before .before .before .before .before .before .before .before .before .before .before .byte-at .ensures .0) (c .before .before .before .before .before .before .before .word-at3 .ensures)) (c .before .before .before .before .before .if1 .left) (Tests.pass (flagOk (num priorFlagF r) (num priorF r)) (c .before .before .before .flag-ok2 .result) ((noneIf (num keptF r) (num flagF r)) && ((noneIf (num boundF r) (num priorFlagF r)) && (leb (num keptF r) (num boundF r)))) _ (c .before .before .before .flag-ok2 .ensures ∙ ap₂ flagOk (c .before .before .before .before .before .before .before .before .before .before .byte-at2 .ensures .0) (c .before .before .before .before .word-at4 .ensures)) (c .before .before .if2 .left) (Tests.stop (noneIf (num keptF r) (num flagF r)) (c .before .none-if .result) ((noneIf (num boundF r) (num priorFlagF r)) && (leb (num keptF r) (num boundF r))) (c .before .none-if .ensures ∙ ap₂ noneIf (c .before .before .before .before .before .before .before .before .before .word-at .ensures) (c .before .before .before .before .before .before .before .before .before .before .before .byte-at .ensures .0)) (c .if3 .taken)))
+
+-- src/lib.rt:202:9
+none-if-requires-2 : tie.Need-none-if-requires-2
+none-if-requires-2 c κs = search needs
+
+-- src/lib.rt:203:9
+returns-4 : tie.Need-returns-4
+unfolding delayOk
+returns-4 c = let a = c .before .before .before .before .before .before .before .before .before .before .before .before .before .before .before .args in let p = now (a .r) in let r = decRaw p in Tests.pass (flagOk (num flagF r) (num valueF r)) (c .before .before .before .before .before .before .before .before .flag-ok .result) ((flagOk (num priorFlagF r) (num priorF r)) && ((noneIf (num keptF r) (num flagF r)) && ((noneIf (num boundF r) (num priorFlagF r)) && (leb (num keptF r) (num boundF r))))) _ (c .before .before .before .before .before .before .before .before .flag-ok .ensures ∙ ap₂ flagOk (c .before .before .before .before .before .before .before .before .before .before .before .before .before .byte-at .ensures .0) (c .before .before .before .before .before .before .before .before .before .word-at3 .ensures)) (c .before .before .before .before .before .before .before .if1 .left) (Tests.pass (flagOk (num priorFlagF r) (num priorF r)) (c .before .before .before .before .before .flag-ok2 .result) ((noneIf (num keptF r) (num flagF r)) && ((noneIf (num boundF r) (num priorFlagF r)) && (leb (num keptF r) (num boundF r)))) _ (c .before .before .before .before .before .flag-ok2 .ensures ∙ ap₂ flagOk (c .before .before .before .before .before .before .before .before .before .before .before .before .byte-at2 .ensures .0) (c .before .before .before .before .before .before .word-at4 .ensures)) (c .before .before .before .before .if2 .left) (Tests.pass (noneIf (num keptF r) (num flagF r)) (c .before .before .before .none-if .result) ((noneIf (num boundF r) (num priorFlagF r)) && (leb (num keptF r) (num boundF r))) _ (c .before .before .before .none-if .ensures ∙ ap₂ noneIf (c .before .before .before .before .before .before .before .before .before .before .before .word-at .ensures) (c .before .before .before .before .before .before .before .before .before .before .before .before .before .byte-at .ensures .0)) (c .before .before .if3 .left) (Tests.stop (noneIf (num boundF r) (num priorFlagF r)) (c .before .none-if2 .result) (leb (num keptF r) (num boundF r)) (c .before .none-if2 .ensures ∙ ap₂ noneIf (c .before .before .before .before .before .before .before .before .before .before .word-at2 .ensures) (c .before .before .before .before .before .before .before .before .before .before .before .before .byte-at2 .ensures .0)) (c .if4 .taken))))
+
+-- src/lib.rt:185:1
+returns-5 : tie.Need-returns-5
+unfolding delayOk
+returns-5 c = let a = c .before .before .before .before .before .before .before .before .before .before .before .before .before .before .before .args in let p = now (a .r) in let r = decRaw p in Tests.pass (flagOk (num flagF r) (num valueF r)) (c .before .before .before .before .before .before .before .before .flag-ok .result) ((flagOk (num priorFlagF r) (num priorF r)) && ((noneIf (num keptF r) (num flagF r)) && ((noneIf (num boundF r) (num priorFlagF r)) && (leb (num keptF r) (num boundF r))))) _ (c .before .before .before .before .before .before .before .before .flag-ok .ensures ∙ ap₂ flagOk (c .before .before .before .before .before .before .before .before .before .before .before .before .before .byte-at .ensures .0) (c .before .before .before .before .before .before .before .before .before .word-at3 .ensures)) (c .before .before .before .before .before .before .before .if1 .left) (Tests.pass (flagOk (num priorFlagF r) (num priorF r)) (c .before .before .before .before .before .flag-ok2 .result) ((noneIf (num keptF r) (num flagF r)) && ((noneIf (num boundF r) (num priorFlagF r)) && (leb (num keptF r) (num boundF r)))) _ (c .before .before .before .before .before .flag-ok2 .ensures ∙ ap₂ flagOk (c .before .before .before .before .before .before .before .before .before .before .before .before .byte-at2 .ensures .0) (c .before .before .before .before .before .before .word-at4 .ensures)) (c .before .before .before .before .if2 .left) (Tests.pass (noneIf (num keptF r) (num flagF r)) (c .before .before .before .none-if .result) ((noneIf (num boundF r) (num priorFlagF r)) && (leb (num keptF r) (num boundF r))) _ (c .before .before .before .none-if .ensures ∙ ap₂ noneIf (c .before .before .before .before .before .before .before .before .before .before .before .word-at .ensures) (c .before .before .before .before .before .before .before .before .before .before .before .before .before .byte-at .ensures .0)) (c .before .before .if3 .left) (Tests.pass (noneIf (num boundF r) (num priorFlagF r)) (c .before .none-if2 .result) (leb (num keptF r) (num boundF r)) _ (c .before .none-if2 .ensures ∙ ap₂ noneIf (c .before .before .before .before .before .before .before .before .before .before .word-at2 .ensures) (c .before .before .before .before .before .before .before .before .before .before .before .before .byte-at2 .ensures .0)) (c .if4 .left) (ap₂ leb (c .before .before .before .before .before .before .before .before .before .before .before .word-at .ensures) (c .before .before .before .before .before .before .before .before .before .before .word-at2 .ensures)))))
+
+pub delay-ok-spec : {M : Type 1} → statement M
+delay-ok-spec =
+    tie.close
+    (tie.spec
+    byte-at-requires
+    byte-at-requires-2
+    word-at-requires
+    word-at-requires-2
+    word-at-requires-3
+    flag-ok-requires
+    returns
+    word-at-requires-4
+    flag-ok-requires-2
+    returns-2
+    none-if-requires
+    returns-3
+    none-if-requires-2
+    returns-4
+    returns-5)

@@ -1,0 +1,86 @@
+use Prim.Native.Nat.{ℕ, _+_, _-_, _*_, _<_, _≤_}
+use mathlib.Core.Path.{_≡_, refl, sym, ap, ap₂, _∙_}
+use mathlib.Core.List.{List}
+use mathlib.Core.Bool.{Bool, true, false, not, cond, _&&_, _||_}
+use borrow.Author.Tests.{lt-ltb, le-ltb, eq-eqb, ne-eqb, le-leb, lt-leb, not-true, not-false}
+use native.Mathlib.Nat.{sub-zero}
+use lib.Dec.{ltb, eqb, leb}
+use lib.ListN.{length, drop, getD}
+use denote.Ref.{now}
+use Rattle.operators.specs.Operators.{isOperator, usesA, usesB, usesK}
+use Rattle.meaning.specs.Events.{horizon}
+use Rattle.machine.specs.State.{room}
+use Rattle.le.specs.Bytes.{allZero}
+use Rattle.layout.specs.Record.{Raw, noSlot, decRaw, num, opF, aF, bF, outF, countF, flagF, priorFlagF, smallF, kF, boundF, nextF, keptF, valueF, priorF, lastF}
+use Rattle.layout.proofs.Slots.{slots-many}
+use Rattle.layout.proofs.Loops.{row-len}
+use Rattle.valid.specs.Valid.{argOk, kOk, outOk, planOk, nextOk, sizesOk, risen, flagOk, noneIf, noneOk, lastOk, delayOk, keptOk, rowOk, allRows, streamsIn, count, noted, clearIn, valid}
+use Rattle.valid.proofs.Tests
+use borrow.Author.Needs.{needs}
+use native.Mathlib.Omega.{arith}
+use Rattle.valid.proofs.none_ok.Statement.{statement}
+use Rattle.valid.proofs.none_ok.Tie as tie
+use Rattle.valid.proofs.none_ok.Reads as reads
+use Rattle.valid.proofs.none_ok.Lts as lts
+use Rattle.layout.proofs.byte_at.Reads as byte-at-reads
+use Rattle.layout.proofs.word_at.Reads as word-at-reads
+
+-- src/lib.rt:144:9
+byte-at-requires : tie.Need-byte-at-requires
+byte-at-requires c κs = search needs
+
+-- src/lib.rt:146:9
+returns : tie.Need-returns
+unfolding noneOk
+returns c = let a = c .before .before .before .args in let p = now (a .r) in let r = decRaw p in Tests.stop-eq (num flagF r) 0 (eqb (num priorFlagF r) 0 && (eqb (num keptF r) 0 && (eqb (num valueF r) 0 && (eqb (num priorF r) 0)))) (λ e. c .if1 .taken (c .before .byte-at .ensures .0 ∙ e))
+
+-- src/lib.rt:148:9
+byte-at-requires-2 : tie.Need-byte-at-requires-2
+byte-at-requires-2 c κs = search needs
+
+-- src/lib.rt:150:9
+returns-2 : tie.Need-returns-2
+unfolding noneOk
+returns-2 c = let a = c .before .before .before .before .before .args in let p = now (a .r) in let r = decRaw p in Tests.pass-eq (num flagF r) 0 (eqb (num priorFlagF r) 0 && (eqb (num keptF r) 0 && (eqb (num valueF r) 0 && (eqb (num priorF r) 0)))) _ (omega arith) (Tests.stop-eq (num priorFlagF r) 0 (eqb (num keptF r) 0 && (eqb (num valueF r) 0 && (eqb (num priorF r) 0))) (λ e. c .if2 .taken (c .before .byte-at2 .ensures .0 ∙ e)))
+
+-- src/lib.rt:152:9
+word-at-requires : tie.Need-word-at-requires
+word-at-requires c κs = search needs
+
+-- src/lib.rt:154:9
+returns-3 : tie.Need-returns-3
+unfolding noneOk
+returns-3 c = let a = c .before .before .before .before .before .before .before .args in let p = now (a .r) in let r = decRaw p in Tests.pass-eq (num flagF r) 0 (eqb (num priorFlagF r) 0 && (eqb (num keptF r) 0 && (eqb (num valueF r) 0 && (eqb (num priorF r) 0)))) _ (omega arith) (Tests.pass-eq (num priorFlagF r) 0 (eqb (num keptF r) 0 && (eqb (num valueF r) 0 && (eqb (num priorF r) 0))) _ (omega arith) (Tests.stop-eq (num keptF r) 0 (eqb (num valueF r) 0 && (eqb (num priorF r) 0)) (λ e. c .if3 .taken (c .before .word-at .ensures ∙ e))))
+
+-- src/lib.rt:156:9
+word-at-requires-2 : tie.Need-word-at-requires-2
+word-at-requires-2 c κs = search needs
+
+-- src/lib.rt:158:9
+returns-4 : tie.Need-returns-4
+unfolding noneOk
+returns-4 c = let a = c .before .before .before .before .before .before .before .before .before .args in let p = now (a .r) in let r = decRaw p in Tests.pass-eq (num flagF r) 0 (eqb (num priorFlagF r) 0 && (eqb (num keptF r) 0 && (eqb (num valueF r) 0 && (eqb (num priorF r) 0)))) _ (omega arith) (Tests.pass-eq (num priorFlagF r) 0 (eqb (num keptF r) 0 && (eqb (num valueF r) 0 && (eqb (num priorF r) 0))) _ (omega arith) (Tests.pass-eq (num keptF r) 0 (eqb (num valueF r) 0 && (eqb (num priorF r) 0)) _ (omega arith) (Tests.stop-eq (num valueF r) 0 (eqb (num priorF r) 0) (λ e. c .if4 .taken (c .before .word-at2 .ensures ∙ e)))))
+
+-- src/lib.rt:160:5
+word-at-requires-3 : tie.Need-word-at-requires-3
+word-at-requires-3 c κs = search needs
+
+-- src/lib.rt:140:1
+returns-5 : tie.Need-returns-5
+unfolding noneOk
+returns-5 c = let a = c .before .before .before .before .before .before .before .before .before .before .args in let p = now (a .r) in let r = decRaw p in Tests.pass-eq (num flagF r) 0 (eqb (num priorFlagF r) 0 && (eqb (num keptF r) 0 && (eqb (num valueF r) 0 && (eqb (num priorF r) 0)))) _ (omega arith) (Tests.pass-eq (num priorFlagF r) 0 (eqb (num keptF r) 0 && (eqb (num valueF r) 0 && (eqb (num priorF r) 0))) _ (omega arith) (Tests.pass-eq (num keptF r) 0 (eqb (num valueF r) 0 && (eqb (num priorF r) 0)) _ (omega arith) (Tests.pass-eq (num valueF r) 0 (eqb (num priorF r) 0) _ (omega arith) (ap (λ (x : ℕ). eqb x 0) (c .word-at3 .ensures)))))
+
+pub none-ok-spec : {M : Type 1} → statement M
+none-ok-spec =
+    tie.close
+    (tie.spec
+    byte-at-requires
+    returns
+    byte-at-requires-2
+    returns-2
+    word-at-requires
+    returns-3
+    word-at-requires-2
+    returns-4
+    word-at-requires-3
+    returns-5)

@@ -1,0 +1,78 @@
+use Prim.Native.Nat.{ℕ, _+_, _-_, _*_, _<_, _≤_}
+use mathlib.Core.Path.{_≡_, refl, sym, ap, ap₂, _∙_}
+use mathlib.Core.List.{List}
+use mathlib.Core.Bool.{Bool, true, false, not, cond, _&&_, _||_}
+use borrow.Author.Tests.{lt-ltb, le-ltb, eq-eqb, ne-eqb, le-leb, lt-leb, not-true, not-false}
+use native.Mathlib.Nat.{sub-zero}
+use lib.Dec.{ltb, eqb, leb}
+use lib.ListN.{length, drop, getD}
+use denote.Ref.{now}
+use Rattle.operators.specs.Operators.{isOperator, usesA, usesB, usesK}
+use Rattle.meaning.specs.Events.{horizon}
+use Rattle.machine.specs.State.{room}
+use Rattle.le.specs.Bytes.{allZero}
+use Rattle.layout.specs.Record.{Raw, noSlot, decRaw, num, opF, aF, bF, outF, countF, flagF, priorFlagF, smallF, kF, boundF, nextF, keptF, valueF, priorF, lastF}
+use Rattle.layout.proofs.Slots.{slots-many}
+use Rattle.layout.proofs.Loops.{row-len}
+use Rattle.valid.specs.Valid.{argOk, kOk, outOk, planOk, nextOk, sizesOk, risen, flagOk, noneIf, noneOk, lastOk, delayOk, keptOk, rowOk, allRows, streamsIn, count, noted, clearIn, valid}
+use Rattle.valid.proofs.Tests
+use borrow.Author.Needs.{needs}
+use native.Mathlib.Omega.{arith}
+use Rattle.valid.proofs.rises.Statement.{statement}
+use Rattle.valid.proofs.rises.Tie as tie
+use Rattle.valid.proofs.rises.Reads as reads
+use Rattle.valid.proofs.rises.Lts as lts
+use Rattle.layout.proofs.stamp_at.Reads as stamp-at-reads
+
+abbrev Inv-loop : tie.InvT-loop
+Inv-loop r n top low₀ i₀ low i = (i ≤ n) × (low ≤ 4294967296) × (risen top low (n - i) (drop i (decRaw r .slots)) ≡ risen top 0 n (decRaw r .slots))
+
+abbrev μ-loop : tie.MeasureT-loop
+μ-loop r n top low₀ i₀ low i = n - i
+
+-- src/lib.rt:111:5
+loop-holds : tie.Need-loop-holds Inv-loop μ-loop
+loop-holds c = (omega arith, omega arith, simp sub-zero)
+
+-- src/lib.rt:112:13
+stamp-at-requires : tie.Need-stamp-at-requires Inv-loop μ-loop
+stamp-at-requires c κs = (omega arith, omega arith)
+
+-- src/lib.rt:114:13
+returns : tie.Need-returns Inv-loop μ-loop
+returns c = let a = c .before .before .before .before .before .args in let l = c .before .before .before .loop in let sl = decRaw (now (a .r)) .slots in let many = slots-many (now (a .r)) in let x = getD sl (l .i) noSlot .stamp in let turn = Tests.risen-turn (a .top) (l .low) (a .n) (l .i) sl (omega arith) (omega arith) in sym (turn ∙ rw (lt-leb (l .low) x (omega arith))) ∙ l .inv .2
+
+-- src/lib.rt:116:15
+add-low : tie.Need-add-low Inv-loop μ-loop
+add-low c = omega arith
+
+-- src/lib.rt:117:9
+add-i : tie.Need-add-i Inv-loop μ-loop
+add-i c = omega arith
+
+-- src/lib.rt:111:5
+loop-less : tie.Need-loop-less Inv-loop μ-loop
+loop-less c = omega arith
+
+-- src/lib.rt:111:5
+loop-again : tie.Need-loop-again Inv-loop μ-loop
+loop-again c = let a = c .before .before .before .before .before .args in let l = c .before .before .before .loop in let sl = decRaw (now (a .r)) .slots in let many = slots-many (now (a .r)) in let x = getD sl (l .i) noSlot .stamp in let turn = Tests.risen-turn (a .top) (l .low) (a .n) (l .i) sl (omega arith) (omega arith) in (omega arith, omega arith, ap (λ (j : ℕ). risen (a .top) (j + 1) (a .n - (l .i + 1)) (drop (l .i + 1) sl)) (c .before .stamp-at .ensures .0) ∙ sym (turn ∙ rw (le-leb (l .low) x (omega arith))) ∙ l .inv .2)
+
+-- src/lib.rt:105:1
+returns-2 : tie.Need-returns-2 Inv-loop μ-loop
+returns-2 c = let a = c .before .before .before .args in let l = c .before .loop in let sl = decRaw (now (a .r)) .slots in sym (Tests.risen-none (a .top) (l .low) (a .n - l .i) (drop (l .i) sl) (omega arith)) ∙ l .inv .2
+
+pub rises-spec : {M : Type 1} → statement M
+rises-spec =
+    tie.close
+    (tie.spec
+    Inv-loop
+    μ-loop
+    loop-holds
+    stamp-at-requires
+    returns
+    add-low
+    add-i
+    loop-less
+    loop-again
+    returns-2)

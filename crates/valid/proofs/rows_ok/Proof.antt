@@ -1,0 +1,98 @@
+use Prim.Native.Nat.{ℕ, _+_, _-_, _*_, _<_, _≤_}
+use mathlib.Core.Path.{_≡_, refl, sym, ap, ap₂, _∙_}
+use mathlib.Core.List.{List}
+use mathlib.Core.Bool.{Bool, true, false, not, cond, _&&_, _||_}
+use borrow.Author.Tests.{lt-ltb, le-ltb, eq-eqb, ne-eqb, le-leb, lt-leb, not-true, not-false}
+use native.Mathlib.Nat.{sub-zero}
+use lib.Dec.{ltb, eqb, leb}
+use lib.ListN.{length, drop, getD}
+use denote.Ref.{now}
+use Rattle.operators.specs.Operators.{isOperator, usesA, usesB, usesK}
+use Rattle.meaning.specs.Events.{horizon}
+use Rattle.machine.specs.State.{room}
+use Rattle.le.specs.Bytes.{allZero}
+use Rattle.layout.specs.Record.{Raw, noSlot, decRaw, num, opF, aF, bF, outF, countF, flagF, priorFlagF, smallF, kF, boundF, nextF, keptF, valueF, priorF, lastF}
+use Rattle.layout.proofs.Slots.{slots-many}
+use Rattle.layout.proofs.Loops.{row-len}
+use Rattle.valid.specs.Valid.{argOk, kOk, outOk, planOk, nextOk, sizesOk, risen, flagOk, noneIf, noneOk, lastOk, delayOk, keptOk, rowOk, allRows, streamsIn, count, noted, clearIn, valid}
+use Rattle.valid.proofs.Tests
+use borrow.Author.Needs.{needs}
+use native.Mathlib.Omega.{arith}
+use Rattle.valid.proofs.rows_ok.Statement.{statement}
+use Rattle.valid.proofs.rows_ok.Tie as tie
+use Rattle.valid.proofs.rows_ok.Reads as reads
+use Rattle.valid.proofs.rows_ok.Lts as lts
+use Rattle.valid.proofs.row_ok.Reads as row-ok-reads
+
+abbrev Inv-loop : tie.InvT-loop
+Inv-loop state n i₀ i = (i ≤ n) × (allRows (rowOk n) (n - i) (drop (i * 256) state) ≡ allRows (rowOk n) n state)
+
+abbrev μ-loop : tie.MeasureT-loop
+μ-loop state n i₀ i = n - i
+
+-- src/lib.rt:246:5
+loop-holds : tie.Need-loop-holds Inv-loop μ-loop
+loop-holds c = (omega arith, simp sub-zero)
+
+-- src/lib.rt:247:18
+mul-at : tie.Need-mul-at Inv-loop μ-loop
+mul-at c = omega arith
+
+-- src/lib.rt:248:19
+add-end : tie.Need-add-end Inv-loop μ-loop
+add-end c = omega arith
+
+-- src/lib.rt:249:20
+sub-row-ok : tie.Need-sub-row-ok Inv-loop μ-loop
+sub-row-ok c = omega arith
+
+-- src/lib.rt:249:20
+part-row-ok-start : tie.Need-part-row-ok-start Inv-loop μ-loop
+part-row-ok-start c = omega arith
+
+-- src/lib.rt:249:20
+part-row-ok-end : tie.Need-part-row-ok-end Inv-loop μ-loop
+part-row-ok-end c = omega arith
+
+-- src/lib.rt:249:13
+row-ok-requires : tie.Need-row-ok-requires Inv-loop μ-loop
+row-ok-requires c κs = let a = c .before .before .before .before .args in let l = c .before .before .loop in row-len (a .n) (now (a .state)) (l .i) (omega arith) (omega arith)
+
+-- src/lib.rt:250:13
+returns : tie.Need-returns Inv-loop μ-loop
+returns c = let a = c .before .before .before .before .before .before .args in let l = c .before .before .before .before .loop in let s = now (a .state) in let k = l .i * 256 + 256 - l .i * 256 in let turn = Tests.rows-turn (rowOk (a .n)) (a .n) (l .i) k s (omega arith) (omega arith) in sym (turn ∙ rw (sym (c .before .row-ok .ensures) ∙ not-true (c .before .row-ok .result) (c .if1 .taken))) ∙ l .inv .1
+
+-- src/lib.rt:252:9
+add-i : tie.Need-add-i Inv-loop μ-loop
+add-i c = omega arith
+
+-- src/lib.rt:246:5
+loop-less : tie.Need-loop-less Inv-loop μ-loop
+loop-less c = omega arith
+
+-- src/lib.rt:246:5
+loop-again : tie.Need-loop-again Inv-loop μ-loop
+loop-again c = let a = c .before .before .before .before .before .before .args in let l = c .before .before .before .before .loop in let s = now (a .state) in let k = l .i * 256 + 256 - l .i * 256 in let turn = Tests.rows-turn (rowOk (a .n)) (a .n) (l .i) k s (omega arith) (omega arith) in (omega arith, sym (turn ∙ rw (sym (c .before .row-ok .ensures) ∙ not-false (c .before .row-ok .result) (c .if1 .left))) ∙ l .inv .1)
+
+-- src/lib.rt:241:1
+returns-2 : tie.Need-returns-2 Inv-loop μ-loop
+returns-2 c = let a = c .before .before .before .args in let l = c .before .loop in sym (Tests.rows-none (rowOk (a .n)) (a .n - l .i) (drop (l .i * 256) (now (a .state))) (omega arith)) ∙ l .inv .1
+
+pub rows-ok-spec : {M : Type 1} → statement M
+rows-ok-spec =
+    tie.close
+    (tie.spec
+    Inv-loop
+    μ-loop
+    loop-holds
+    mul-at
+    add-end
+    sub-row-ok
+    part-row-ok-start
+    part-row-ok-end
+    row-ok-requires
+    returns
+    add-i
+    loop-less
+    loop-again
+    returns-2)

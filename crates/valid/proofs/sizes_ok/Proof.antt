@@ -1,0 +1,97 @@
+use Prim.Native.Nat.{ℕ, _+_, _-_, _*_, _<_, _≤_}
+use mathlib.Core.Path.{_≡_, refl, sym, ap, ap₂, _∙_}
+use mathlib.Core.List.{List}
+use mathlib.Core.Bool.{Bool, true, false, not, cond, _&&_, _||_}
+use borrow.Author.Tests.{lt-ltb, le-ltb, eq-eqb, ne-eqb, le-leb, lt-leb, not-true, not-false}
+use native.Mathlib.Nat.{sub-zero}
+use lib.Dec.{ltb, eqb, leb}
+use lib.ListN.{length, drop, getD}
+use denote.Ref.{now}
+use Rattle.operators.specs.Operators.{isOperator, usesA, usesB, usesK}
+use Rattle.meaning.specs.Events.{horizon}
+use Rattle.machine.specs.State.{room}
+use Rattle.le.specs.Bytes.{allZero}
+use Rattle.layout.specs.Record.{Raw, noSlot, decRaw, num, opF, aF, bF, outF, countF, flagF, priorFlagF, smallF, kF, boundF, nextF, keptF, valueF, priorF, lastF}
+use Rattle.layout.proofs.Slots.{slots-many}
+use Rattle.layout.proofs.Loops.{row-len}
+use Rattle.valid.specs.Valid.{argOk, kOk, outOk, planOk, nextOk, sizesOk, risen, flagOk, noneIf, noneOk, lastOk, delayOk, keptOk, rowOk, allRows, streamsIn, count, noted, clearIn, valid}
+use Rattle.valid.proofs.Tests
+use borrow.Author.Needs.{needs}
+use native.Mathlib.Omega.{arith}
+use Rattle.valid.proofs.sizes_ok.Statement.{statement}
+use Rattle.valid.proofs.sizes_ok.Tie as tie
+use Rattle.valid.proofs.sizes_ok.Reads as reads
+use Rattle.valid.proofs.sizes_ok.Lts as lts
+use Rattle.layout.proofs.byte_at.Reads as byte-at-reads
+use Rattle.layout.proofs.word_at.Reads as word-at-reads
+use Rattle.valid.proofs.next_ok.Reads as next-ok-reads
+
+-- src/lib.rt:86:9
+byte-at-requires : tie.Need-byte-at-requires
+byte-at-requires c κs = search needs
+
+-- src/lib.rt:88:9
+returns : tie.Need-returns
+unfolding sizesOk
+returns c = let a = c .before .before .before .args in let p = now (a .r) in let r = decRaw p in Tests.stop-le (num countF r) (room) (leb (num boundF r) (horizon) && ((nextOk (num outF r) (num nextF r) (num boundF r)) && (eqb (num smallF r) 0 && (eqb (num lastF r) 0)))) (omega arith)
+
+-- src/lib.rt:90:9
+word-at-requires : tie.Need-word-at-requires
+word-at-requires c κs = search needs
+
+-- src/lib.rt:92:9
+returns-2 : tie.Need-returns-2
+unfolding sizesOk
+returns-2 c = let a = c .before .before .before .before .before .args in let p = now (a .r) in let r = decRaw p in Tests.pass-le (num countF r) (room) (leb (num boundF r) (horizon) && ((nextOk (num outF r) (num nextF r) (num boundF r)) && (eqb (num smallF r) 0 && (eqb (num lastF r) 0)))) _ (omega arith) (Tests.stop-le (num boundF r) (horizon) ((nextOk (num outF r) (num nextF r) (num boundF r)) && (eqb (num smallF r) 0 && (eqb (num lastF r) 0))) (omega arith))
+
+-- src/lib.rt:94:17
+byte-at-requires-2 : tie.Need-byte-at-requires-2
+byte-at-requires-2 c κs = search needs
+
+-- src/lib.rt:94:40
+word-at-requires-2 : tie.Need-word-at-requires-2
+word-at-requires-2 c κs = search needs
+
+-- src/lib.rt:94:9
+next-ok-requires : tie.Need-next-ok-requires
+next-ok-requires c κs = search needs
+
+-- src/lib.rt:95:9
+returns-3 : tie.Need-returns-3
+unfolding sizesOk
+returns-3 c = let a = c .before .before .before .before .before .before .before .before .before .args in let p = now (a .r) in let r = decRaw p in Tests.pass-le (num countF r) (room) (leb (num boundF r) (horizon) && ((nextOk (num outF r) (num nextF r) (num boundF r)) && (eqb (num smallF r) 0 && (eqb (num lastF r) 0)))) _ (omega arith) (Tests.pass-le (num boundF r) (horizon) ((nextOk (num outF r) (num nextF r) (num boundF r)) && (eqb (num smallF r) 0 && (eqb (num lastF r) 0))) _ (omega arith) (Tests.stop (nextOk (num outF r) (num nextF r) (num boundF r)) (c .before .next-ok .result) (eqb (num smallF r) 0 && (eqb (num lastF r) 0)) (c .before .next-ok .ensures ∙ ap₂ (λ (x y : ℕ). nextOk x y (c .before .before .before .before .before .word-at .result)) (c .before .before .before .byte-at2 .ensures .0) (c .before .before .word-at2 .ensures) ∙ ap (λ (z : ℕ). nextOk (num outF r) (num nextF r) z) (c .before .before .before .before .before .word-at .ensures)) (c .if3 .taken)))
+
+-- src/lib.rt:97:9
+byte-at-requires-3 : tie.Need-byte-at-requires-3
+byte-at-requires-3 c κs = search needs
+
+-- src/lib.rt:99:9
+returns-4 : tie.Need-returns-4
+unfolding sizesOk
+returns-4 c = let a = c .before .before .before .before .before .before .before .before .before .before .before .args in let p = now (a .r) in let r = decRaw p in Tests.pass-le (num countF r) (room) (leb (num boundF r) (horizon) && ((nextOk (num outF r) (num nextF r) (num boundF r)) && (eqb (num smallF r) 0 && (eqb (num lastF r) 0)))) _ (omega arith) (Tests.pass-le (num boundF r) (horizon) ((nextOk (num outF r) (num nextF r) (num boundF r)) && (eqb (num smallF r) 0 && (eqb (num lastF r) 0))) _ (omega arith) (Tests.pass (nextOk (num outF r) (num nextF r) (num boundF r)) (c .before .before .before .next-ok .result) (eqb (num smallF r) 0 && (eqb (num lastF r) 0)) _ (c .before .before .before .next-ok .ensures ∙ ap₂ (λ (x y : ℕ). nextOk x y (c .before .before .before .before .before .before .before .word-at .result)) (c .before .before .before .before .before .byte-at2 .ensures .0) (c .before .before .before .before .word-at2 .ensures) ∙ ap (λ (z : ℕ). nextOk (num outF r) (num nextF r) z) (c .before .before .before .before .before .before .before .word-at .ensures)) (c .before .before .if3 .left) (Tests.stop-eq (num smallF r) 0 (eqb (num lastF r) 0) (λ e. c .if4 .taken (c .before .byte-at3 .ensures .0 ∙ e)))))
+
+-- src/lib.rt:101:5
+word-at-requires-3 : tie.Need-word-at-requires-3
+word-at-requires-3 c κs = search needs
+
+-- src/lib.rt:82:1
+returns-5 : tie.Need-returns-5
+unfolding sizesOk
+returns-5 c = let a = c .before .before .before .before .before .before .before .before .before .before .before .before .args in let p = now (a .r) in let r = decRaw p in Tests.pass-le (num countF r) (room) (leb (num boundF r) (horizon) && ((nextOk (num outF r) (num nextF r) (num boundF r)) && (eqb (num smallF r) 0 && (eqb (num lastF r) 0)))) _ (omega arith) (Tests.pass-le (num boundF r) (horizon) ((nextOk (num outF r) (num nextF r) (num boundF r)) && (eqb (num smallF r) 0 && (eqb (num lastF r) 0))) _ (omega arith) (Tests.pass (nextOk (num outF r) (num nextF r) (num boundF r)) (c .before .before .before .before .next-ok .result) (eqb (num smallF r) 0 && (eqb (num lastF r) 0)) _ (c .before .before .before .before .next-ok .ensures ∙ ap₂ (λ (x y : ℕ). nextOk x y (c .before .before .before .before .before .before .before .before .word-at .result)) (c .before .before .before .before .before .before .byte-at2 .ensures .0) (c .before .before .before .before .before .word-at2 .ensures) ∙ ap (λ (z : ℕ). nextOk (num outF r) (num nextF r) z) (c .before .before .before .before .before .before .before .before .word-at .ensures)) (c .before .before .before .if3 .left) (Tests.pass-eq (num smallF r) 0 (eqb (num lastF r) 0) _ (omega arith) (ap (λ (x : ℕ). eqb x 0) (c .word-at3 .ensures)))))
+
+pub sizes-ok-spec : {M : Type 1} → statement M
+sizes-ok-spec =
+    tie.close
+    (tie.spec
+    byte-at-requires
+    returns
+    word-at-requires
+    returns-2
+    byte-at-requires-2
+    word-at-requires-2
+    next-ok-requires
+    returns-3
+    byte-at-requires-3
+    returns-4
+    word-at-requires-3
+    returns-5)

@@ -1,0 +1,141 @@
+-- What number 15 tests, reason by reason.
+use Prim.Native.Nat.{ℕ, zero, suc, _+_, _*_}
+use mathlib.Core.List.{List, [], _∷_, map}
+use mathlib.Core.Bool.{Bool, true, false, cond, _&&_, _||_, not}
+use lib.ListN.{length, getD, take, drop, replicate}
+use lib.Seq.{sets}
+use Rattle.cycle.specs.Graph.{entryOf, cleared}
+use lib.Dec.{ltb, eqb, leb}
+use Rattle.le.specs.Bytes.{allZero}
+use Rattle.meaning.specs.Plan.{Plan}
+use Rattle.meaning.specs.Events.{horizon}
+use Rattle.meaning.specs.Cycle.{acyclic}
+use Rattle.machine.specs.State.{room, planOf}
+use Rattle.operators.specs.Operators.{isOperator, usesA, usesB, usesK}
+use Rattle.operators.specs.Limits.{streamLimit}
+use Rattle.layout.specs.Record.{Slot, Raw, num, decRaw, opF, aF, bF, outF, countF, flagF, priorFlagF, smallF, kF, boundF, nextF, keptF, valueF, priorF, lastF}
+use Rattle.cells.specs.Back.{stateOf}
+
+-- "The state is a lent buffer of 12,288 bytes": a record of 256 bytes for each stream, and 4,096 bytes behind them
+abbrev pub stateLength : ℕ
+stateLength = 12288
+
+-- ---- "contents whose plan no text taken by load gives"
+
+-- an argument that is used names a stream; one that is not is 0
+abbrev pub argOk : Bool → ℕ → ℕ → Bool
+argOk used a n = cond used (ltb a n) (eqb a 0)
+
+abbrev pub kOk : Bool → ℕ → Bool
+kOk used k = used || eqb k 0
+
+-- no input is an output
+abbrev pub outOk : ℕ → ℕ → Bool
+outOk op out = cond (eqb op 1) (eqb out 0) (ltb out 2)
+
+unfoldable pub planOk : ℕ → Raw → Bool
+planOk n r =
+    isOperator (num opF r)
+    && (argOk (usesA (num opF r)) (num aF r) n
+    && (argOk (usesB (num opF r)) (num bF r) n
+    && (kOk (usesK (num opF r)) (num kF r)
+    && outOk (num opF r) (num outF r))))
+
+-- ---- "a bound above the horizon, more than 16 events held"; the mark of collection is an output's and not above its bound
+
+abbrev pub nextOk : ℕ → ℕ → ℕ → Bool
+nextOk out next bound = cond (eqb out 0) (eqb next 0) (leb next bound)
+
+unfoldable pub sizesOk : Raw → Bool
+sizesOk r =
+    leb (num countF r) room
+    && (leb (num boundF r) horizon
+    && (nextOk (num outF r) (num nextF r) (num boundF r)
+    && (eqb (num smallF r) 0
+    && eqb (num lastF r) 0)))
+
+-- ---- "held stamps not rising or not below the bound": n stamps rise from low on, and stay below top
+unfoldable pub risen : ℕ → ℕ → ℕ → List Slot → Bool
+risen top low zero l = leb low top
+risen top low (suc n) [] = leb low top
+risen top low (suc n) (e ∷ l) = leb low (e .stamp) && risen top (e .stamp + 1) n l
+
+-- ---- "a field whose value the layout gives no meaning": what is kept, by the operator
+
+-- what is absent is 0, and what is there is flagged by 1
+abbrev pub flagOk : ℕ → ℕ → Bool
+flagOk has x = cond (eqb has 0) (eqb x 0) (eqb has 1)
+
+-- nothing where there is nothing to keep it for
+abbrev pub noneIf : ℕ → ℕ → Bool
+noneIf a has = cond (eqb a 0) (eqb has 0) true
+
+unfoldable pub noneOk : Raw → Bool
+noneOk r = eqb (num flagF r) 0 && (eqb (num priorFlagF r) 0 && (eqb (num keptF r) 0 && (eqb (num valueF r) 0 && eqb (num priorF r) 0)))
+
+unfoldable pub lastOk : Raw → Bool
+lastOk r =
+    flagOk (num flagF r) (num keptF r)
+    && (noneIf (num boundF r) (num flagF r)
+    && (eqb (num priorFlagF r) 0 && (eqb (num valueF r) 0 && eqb (num priorF r) 0)))
+
+unfoldable pub delayOk : Raw → Bool
+delayOk r =
+    flagOk (num flagF r) (num valueF r)
+    && (flagOk (num priorFlagF r) (num priorF r)
+    && (noneIf (num keptF r) (num flagF r)
+    && (noneIf (num boundF r) (num priorFlagF r)
+    && leb (num keptF r) (num boundF r))))
+
+unfoldable pub keptOk : Raw → Bool
+unfolding lastOk delayOk noneOk
+keptOk r = cond (eqb (num opF r) 18) (lastOk r) (cond (eqb (num opF r) 19) (delayOk r) (noneOk r))
+
+-- ---- one record, of its 256 bytes; "an unused byte not 0": after the held events every byte is 0
+unfoldable pub rowOk : ℕ → List ℕ → Bool
+unfolding planOk sizesOk risen keptOk
+rowOk n p =
+    planOk n (decRaw p)
+    && (sizesOk (decRaw p)
+    && (risen (num boundF (decRaw p)) 0 (num countF (decRaw p)) (decRaw p .slots)
+    && (keptOk (decRaw p)
+    && allZero (drop (64 + num countF (decRaw p) * 12) p))))
+
+-- the first m rows of 256 bytes pass
+unfoldable pub allRows : (List ℕ → Bool) → ℕ → List ℕ → Bool
+allRows f zero s = true
+allRows f (suc m) s = f (take 256 s) && allRows f m (drop 256 s)
+
+-- how many records have an operator, from the first on
+unfoldable pub streamsIn : ℕ → List ℕ → ℕ
+streamsIn zero s = 0
+streamsIn (suc m) s = cond (eqb (getD s 0 0) 0) 0 (suc (streamsIn m (drop 256 s)))
+
+abbrev pub count : List ℕ → ℕ
+count s = streamsIn streamLimit s
+
+-- the plan that the first n records give
+abbrev pub planIn : ℕ → List ℕ → Plan
+planIn n s = planOf (stateOf n s)
+
+-- A state: the right length, at least one stream, each record passes, every byte behind them is 0, and no cycle without a
+-- delayed argument.
+unfoldable pub valid : List ℕ → Bool
+unfolding rowOk allRows streamsIn
+valid s =
+    eqb (length s) stateLength
+    && (not (eqb (count s) 0)
+    && (allRows (rowOk (count s)) (count s) s
+    && (allZero (drop (count s * 256) s)
+    && acyclic streamLimit (planIn (count s) s))))
+
+-- ---- the cycle test's graph, as the code fills it
+
+-- the graph with the undelayed arguments of the first n records noted
+unfoldable pub noted : ℕ → List ℕ → List ℕ → List ℕ
+noted zero s g = g
+noted (suc n) s g = sets (noted n s g) (3 * n) (entryOf (getD s (n * 256) 0) (getD s (n * 256 + 1) 0) (getD s (n * 256 + 2) 0))
+
+unfoldable pub clearIn : ℕ → List ℕ → Bool
+unfolding noted
+clearIn n s = cleared streamLimit n (noted n s (replicate 96 0)) .isClear

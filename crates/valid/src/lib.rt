@@ -1,0 +1,316 @@
+// Number 15: whether bytes are a state.
+ghost use mathlib.Core.Path.{_≡_};
+ghost use mathlib.Core.Bool.{cond};
+ghost use Prim.Native.Nat.{_+_, _*_, _≤_, _<_};
+ghost use lib.ListN.{length, drop};
+ghost use Rattle.operators.specs.Operators as operators;
+ghost use Rattle.operators.specs.Operators.{isOperator};
+ghost use Rattle.layout.specs.Record.{decRaw, num};
+ghost use Rattle.valid.specs.Valid.{argOk, kOk, outOk, planOk, nextOk, sizesOk, risen, flagOk, noneIf, noneOk, lastOk, delayOk, keptOk, rowOk, allRows, count, noted, clearIn, valid};
+use limits::Bound;
+use limits::Queue;
+use operators::Plan;
+
+fn is_operator(op: u64) -> bool
+    ensures { λ x. ⌜ x ≡ isOperator op ⌝ }
+{
+    if op < 1 {
+        return false;
+    }
+    op <= 19
+}
+
+fn arg_ok(used: bool, a: u64, n: u64) -> bool
+    ensures { λ x. ⌜ x ≡ argOk used a n ⌝ }
+{
+    if used {
+        return a < n;
+    }
+    a == 0
+}
+
+fn k_ok(op: u64, k: u64) -> bool
+    ensures { λ x. ⌜ x ≡ kOk (operators.usesK op) k ⌝ }
+{
+    if op < 5 {
+        return k == 0;
+    }
+    if 6 < op {
+        return k == 0;
+    }
+    true
+}
+
+fn out_ok(op: u64, out: u64) -> bool
+    ensures { λ x. ⌜ x ≡ outOk op out ⌝ }
+{
+    if op == 1 {
+        return out == 0;
+    }
+    out < 2
+}
+
+fn plan_ok(r: &[u8], n: u64) -> bool
+    requires { ⌜ length (now r) ≡ 256 ⌝ }
+    ensures { λ x. ⌜ x ≡ planOk n (decRaw (now (r .entry))) ⌝ }
+{
+    let op = layout::byte_at(r, 0);
+    if !is_operator(op) {
+        return false;
+    }
+    if !arg_ok(4 <= op, layout::byte_at(r, 1), n) {
+        return false;
+    }
+    if !arg_ok(8 <= op, layout::byte_at(r, 2), n) {
+        return false;
+    }
+    if !k_ok(op, layout::word_at(r, 0)) {
+        return false;
+    }
+    out_ok(op, layout::byte_at(r, 3))
+}
+
+fn next_ok(out: u64, next: u64, bound: u64) -> bool
+    ensures { λ x. ⌜ x ≡ nextOk out next bound ⌝ }
+{
+    if out == 0 {
+        return next == 0;
+    }
+    next <= bound
+}
+
+fn sizes_ok(r: &[u8]) -> bool
+    requires { ⌜ length (now r) ≡ 256 ⌝ }
+    ensures { λ x. ⌜ x ≡ sizesOk (decRaw (now (r .entry))) ⌝ }
+{
+    let count = layout::byte_at(r, 4);
+    if (Queue::ROOM as u64) < count {
+        return false;
+    }
+    let bound = layout::word_at(r, 1);
+    if Bound::HORIZON < bound {
+        return false;
+    }
+    if !next_ok(layout::byte_at(r, 3), layout::word_at(r, 2), bound) {
+        return false;
+    }
+    let small = layout::byte_at(r, 7);
+    if small != 0 {
+        return false;
+    }
+    layout::word_at(r, 6) == 0
+}
+
+// Whether the first n stamps rise and stay below top.
+fn rises(r: &[u8], n: usize, top: u64) -> bool
+    requires { ⌜ (length (now r) ≡ 256) × (n ≤ 16) ⌝ }
+    ensures { λ x. ⌜ x ≡ risen top 0 n (decRaw (now (r .entry)) .slots) ⌝ }
+{
+    let mut low: u64 = 0;
+    let mut i = 0;
+    while i < n {
+        let t = layout::stamp_at(r, i);
+        if t < low {
+            return false;
+        }
+        low = t + 1;
+        i += 1;
+    }
+    low <= top
+}
+
+fn flag_ok(has: u64, x: u64) -> bool
+    ensures { λ r. ⌜ r ≡ flagOk has x ⌝ }
+{
+    if has == 0 {
+        return x == 0;
+    }
+    has == 1
+}
+
+fn none_if(a: u64, has: u64) -> bool
+    ensures { λ r. ⌜ r ≡ noneIf a has ⌝ }
+{
+    if a == 0 {
+        return has == 0;
+    }
+    true
+}
+
+fn none_ok(r: &[u8]) -> bool
+    requires { ⌜ length (now r) ≡ 256 ⌝ }
+    ensures { λ x. ⌜ x ≡ noneOk (decRaw (now (r .entry))) ⌝ }
+{
+    let flag = layout::byte_at(r, 5);
+    if flag != 0 {
+        return false;
+    }
+    let prior_flag = layout::byte_at(r, 6);
+    if prior_flag != 0 {
+        return false;
+    }
+    let kept = layout::word_at(r, 3);
+    if kept != 0 {
+        return false;
+    }
+    let value = layout::word_at(r, 4);
+    if value != 0 {
+        return false;
+    }
+    layout::word_at(r, 5) == 0
+}
+
+fn last_ok(r: &[u8]) -> bool
+    requires { ⌜ length (now r) ≡ 256 ⌝ }
+    ensures { λ x. ⌜ x ≡ lastOk (decRaw (now (r .entry))) ⌝ }
+{
+    let flag = layout::byte_at(r, 5);
+    if !flag_ok(flag, layout::word_at(r, 3)) {
+        return false;
+    }
+    if !none_if(layout::word_at(r, 1), flag) {
+        return false;
+    }
+    let prior_flag = layout::byte_at(r, 6);
+    if prior_flag != 0 {
+        return false;
+    }
+    let value = layout::word_at(r, 4);
+    if value != 0 {
+        return false;
+    }
+    layout::word_at(r, 5) == 0
+}
+
+fn delay_ok(r: &[u8]) -> bool
+    requires { ⌜ length (now r) ≡ 256 ⌝ }
+    ensures { λ x. ⌜ x ≡ delayOk (decRaw (now (r .entry))) ⌝ }
+{
+    let flag = layout::byte_at(r, 5);
+    let prior_flag = layout::byte_at(r, 6);
+    let since = layout::word_at(r, 3);
+    let bound = layout::word_at(r, 1);
+    if !flag_ok(flag, layout::word_at(r, 4)) {
+        return false;
+    }
+    if !flag_ok(prior_flag, layout::word_at(r, 5)) {
+        return false;
+    }
+    if !none_if(since, flag) {
+        return false;
+    }
+    if !none_if(bound, prior_flag) {
+        return false;
+    }
+    since <= bound
+}
+
+fn kept_ok(r: &[u8]) -> bool
+    requires { ⌜ length (now r) ≡ 256 ⌝ }
+    ensures { λ x. ⌜ x ≡ keptOk (decRaw (now (r .entry))) ⌝ }
+{
+    let op = layout::byte_at(r, 0);
+    match op {
+        18 => last_ok(r),
+        19 => delay_ok(r),
+        _ => none_ok(r),
+    }
+}
+
+fn row_ok(r: &[u8], n: u64) -> bool
+    requires { ⌜ length (now r) ≡ 256 ⌝ }
+    ensures { λ x. ⌜ x ≡ rowOk n (now (r .entry)) ⌝ }
+{
+    if !plan_ok(r, n) {
+        return false;
+    }
+    if !sizes_ok(r) {
+        return false;
+    }
+    let count = layout::byte_at(r, 4) as usize;
+    if !rises(r, count, layout::word_at(r, 1)) {
+        return false;
+    }
+    if !kept_ok(r) {
+        return false;
+    }
+    le::zeros(r, 64 + count * 12)
+}
+
+// Whether the first n records pass.
+fn rows_ok(state: &[u8], n: usize) -> bool
+    requires { ⌜ n * 256 ≤ length (now state) ⌝ }
+    ensures { λ x. ⌜ x ≡ allRows (rowOk n) n (now (state .entry)) ⌝ }
+{
+    let mut i = 0;
+    while i < n {
+        let at = i * 256;
+        let end = at + 256;
+        if !row_ok(&state[at..end], n as u64) {
+            return false;
+        }
+        i += 1;
+    }
+    true
+}
+
+// How many records have an operator, from the first on.
+fn streams_in(state: &[u8]) -> usize
+    requires { ⌜ length (now state) ≡ 12288 ⌝ }
+    ensures { λ x. ⌜ (x ≡ count (now (state .entry))) × (x ≤ 32) ⌝ }
+{
+    let mut i = 0;
+    while i < Plan::STREAMS {
+        if state[i * 256] == 0 {
+            return i;
+        }
+        i += 1;
+    }
+    Plan::STREAMS
+}
+
+// The undelayed arguments of the first n records, three bytes for each.
+fn fill_graph(state: &[u8], n: usize, graph: &mut [u8; 96])
+    requires { ⌜ (n * 256 ≤ length (now state)) × (n ≤ 32) ⌝ }
+    ensures { λ _. ⌜ now (graph .exit) ≡ noted n (now (state .entry)) (now (graph .entry)) ⌝ }
+{
+    let mut i = 0;
+    while i < n {
+        let at = i * 256;
+        cycle::note(graph, i, state[at], state[at + 1], state[at + 2]);
+        i += 1;
+    }
+}
+
+// Whether the arguments of the first n records make no cycle without a delayed one.
+fn clear(state: &[u8], n: usize) -> bool
+    requires { ⌜ (n * 256 ≤ length (now state)) × (n ≤ 32) ⌝ }
+    ensures { λ r. ⌜ r ≡ clearIn n (now (state .entry)) ⌝ }
+{
+    let mut graph = [0u8; 96];
+    fill_graph(state, n, &mut graph);
+    cycle::clear(&mut graph, n, Plan::STREAMS)
+}
+
+// How many streams a state has; 0 if the bytes are none.
+pub fn streams(state: &[u8]) -> usize
+    ensures { λ n. ⌜ (n ≡ cond (valid (now (state .entry))) (count (now (state .entry))) 0) × (n ≤ 32) ⌝ }
+{
+    if state.len() != 12288 {
+        return 0;
+    }
+    let n = streams_in(state);
+    if n == 0 {
+        return 0;
+    }
+    if !rows_ok(state, n) {
+        return 0;
+    }
+    if !le::zeros(state, n * 256) {
+        return 0;
+    }
+    if !clear(state, n) {
+        return 0;
+    }
+    n
+}
