@@ -1,0 +1,80 @@
+-- The states that the layout can hold: what holds of every cell, of a run or not.
+use Prim.Native.Nat.{ℕ, zero, suc, _^_, _≤_, _<_}
+use mathlib.Core.Path.{_≡_}
+use mathlib.Core.Bool.{Bool, true, false}
+use mathlib.Core.Option.{Option, none, some}
+use mathlib.Core.List.{List, [], _∷_}
+use lib.Dec.{T}
+use lib.ListN.{length}
+use lib.IntN.{ℤ}
+use lib.Signed.{mag}
+use Rattle.meaning.specs.Plan.{Eqn, input, nil, unit, one, two, last, delay, isInput, reads}
+use Rattle.meaning.specs.Events.{Event, horizon}
+use Rattle.meaning.specs.Cycle.{acyclic}
+use Rattle.machine.specs.State.{Kept, Cell, State, room, noKept, cellAt, planOf}
+use Rattle.operators.specs.Operators.{valueOf}
+use Rattle.operators.specs.Limits.{streamLimit}
+
+-- a signed 64-bit whole number
+abbrev pub IsValue : ℤ → Type 0
+IsValue v = mag v < 2 ^ 63
+
+abbrev pub IsOptional : Option ℤ → Type 0
+IsOptional none = Unit {0}
+IsOptional (some v) = IsValue v
+
+abbrev pub AllBelow : ℕ → List ℕ → Type 0
+AllBelow n [] = Unit {0}
+AllBelow n (a ∷ l) = (a < n) × AllBelow n l
+
+-- held events, by rising stamp from lo on, below top
+abbrev pub Rising : (lo top : ℕ) → List Event → Type 0
+Rising lo top [] = lo ≤ top
+Rising lo top (e ∷ es) = (lo ≤ e .stamp) × IsValue (e .value) × Rising (suc (e .stamp)) top es
+
+-- only an output has a mark of collection, and it is not above the bound
+abbrev pub IsNext : Bool → ℕ → ℕ → Type 0
+IsNext true next bound = next ≤ bound
+IsNext false next bound = next ≡ 0
+
+-- what an equation with this bound may keep
+pub record LastKept (y : ℕ) (k : Kept) : Type 0 where
+  pub prev : IsOptional (k .prev)
+  pub fresh : y ≡ 0 → k .prev ≡ none
+  pub since : k .since ≡ 0
+  pub value : k .value ≡ none
+  pub prior : k .prior ≡ none
+
+pub record DelayKept (y : ℕ) (k : Kept) : Type 0 where
+  pub prev : k .prev ≡ none
+  pub since : k .since ≤ y
+  pub value : IsOptional (k .value)
+  pub prior : IsOptional (k .prior)
+  pub unset : k .since ≡ 0 → k .value ≡ none
+  pub fresh : y ≡ 0 → k .prior ≡ none
+
+abbrev pub IsKept : Eqn → ℕ → Kept → Type 0
+IsKept input y k = k ≡ noKept
+IsKept nil y k = k ≡ noKept
+IsKept unit y k = k ≡ noKept
+IsKept (one f a) y k = k ≡ noKept
+IsKept (two g a b) y k = k ≡ noKept
+IsKept (last a b) y k = LastKept y k
+IsKept (delay a b) y k = DelayKept y k
+
+-- a cell of a state of n streams
+pub record SoundCell (n : ℕ) (c : Cell) : Type 0 where
+  pub arguments : AllBelow n (reads (c .eqn))
+  pub value : IsValue (valueOf (c .eqn))
+  pub out : T (isInput (c .eqn)) → c .out ≡ false
+  pub bound : c .bound ≤ horizon
+  pub few : length (c .held) ≤ room
+  pub held : Rising 0 (c .bound) (c .held)
+  pub next : IsNext (c .out) (c .next) (c .bound)
+  pub kept : IsKept (c .eqn) (c .bound) (c .kept)
+
+pub record Sound (M : State) : Type 0 where
+  pub some : 0 < length M
+  pub few : length M ≤ streamLimit
+  pub each : (i : ℕ) → i < length M → SoundCell (length M) (cellAt M i)
+  pub acyclic : acyclic streamLimit (planOf M) ≡ true
