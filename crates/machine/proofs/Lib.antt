@@ -1,0 +1,4 @@
+pub mod Search
+pub mod Window
+pub mod Cells
+pub mod Rising
