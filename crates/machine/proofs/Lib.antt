@@ -2,3 +2,4 @@ pub mod Search
 pub mod Window
 pub mod Cells
 pub mod Rising
+pub mod Release
