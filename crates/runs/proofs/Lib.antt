@@ -1,1 +1,3 @@
 pub mod Kept
+pub mod Tracks
+pub mod Raise
