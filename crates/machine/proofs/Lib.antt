@@ -3,3 +3,4 @@ pub mod Window
 pub mod Cells
 pub mod Rising
 pub mod Release
+pub mod Frame

@@ -222,7 +222,7 @@ pub release-size : (s : ℕ) (M : State) → length (release s M) ≡ length M
 unfolding release
 release-size s M = length-set M s (withHeld (dropBelow (leastWaiting s M) (cellAt M s .held)) (cellAt M s))
 
-release-looser : (s : ℕ) (M : State) → Looser M (release s M)
+pub release-looser : (s : ℕ) (M : State) → Looser M (release s M)
 release-looser s M = record { size = release-size s M; cells = λ i. let e = release-at s M i in e ∙ ap (λ h. withHeld h (cellAt M i)) (sym (ap (λ c. c .held) e)) }
 
 -- releasing some streams, one after the other

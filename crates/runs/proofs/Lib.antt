@@ -3,3 +3,5 @@ pub mod Tracks
 pub mod Raise
 pub mod Fires
 pub mod Decide
+pub mod World
+pub mod Marks

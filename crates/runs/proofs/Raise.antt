@@ -11,7 +11,7 @@ use native.Mathlib.Nat.{lt-suc-self}
 use native.Mathlib.Omega.{arith}
 use native.Mathlib.Decide.{decLt, decLe}
 use lib.Dec.{T, ltb, eqb, eqb→eq, eqb-refl, lt→ltb, ltb→lt, nltb→le, T-not, not-T}
-use lib.ListN.{length, set, length-set, length-map}
+use lib.ListN.{length, set, length-set}
 use lib.Seq.{getD-set-same, getD-set-other}
 use lib.IntN.{ℤ}
 use Rattle.meaning.specs.Plan.{Eqn, input, nil, unit, one, two, last, delay, reads}
@@ -24,7 +24,7 @@ use Rattle.machine.specs.Step.{argA, argB, advance, absorb, absorbed, write, to
 use Rattle.machine.proofs.Cells.{set-cases, told-at, ne-eqb, eqb-ne}
 use Rattle.machine.proofs.Window.{Seen}
 use Rattle.machine.proofs.Rising.{drop-more}
-use Rattle.machine.proofs.Release.{each-read, among, read-among, waiting-le-reader, waiting-grows, Grown, releases-at, releases-looser, releases-size, looser-waiting}
+use Rattle.machine.proofs.Release.{each-read, among, read-among, waiting-le-reader, waiting-grows, Grown, releases-at, releases-looser, looser-waiting}
 use Rattle.runs.proofs.Kept.{keptOf, kept-cong, kept-told, kept-absorbed, Edge}
 use Rattle.runs.proofs.Tracks.{cut, cut-yes, cut-no, cut-quiet, cut-event, known, Ahead, ahead-grows, Tracks, New, quiet, event, new-grows, new-none, new-events, held-shows}
 
@@ -100,10 +100,6 @@ module _ (S : Streams) (M : State) (inv : Tracks S M) (s y : ℕ) (new : List Ev
 
   abbrev M₂ : State
   M₂ = write s y new M
-
-  size₂ : length M₂ ≡ length M
-  unfolding write absorbed
-  size₂ = length-set M₁ s (withKept (absorb (C s .eqn) (C s) (C (argA (C s .eqn))) (C (argB (C s .eqn)))) (C s)) ∙ length-set M s (advance y new (cellAt M s))
 
   self₂ : cellAt M₂ s ≡ withKept (keptOf (C s .eqn) (known S M₁) s (C s .bound)) (C s)
   unfolding write absorbed
@@ -194,11 +190,6 @@ module _ (S : Streams) (M : State) (inv : Tracks S M) (s y : ℕ) (new : List Ev
       ap (λ es. cellAt (tell s es M₂) i) b ∙ ap (λ N. cellAt N i) (tell-none M₂) ∙ told-quiet (λ p j k. n p j (omega arith)) i
   cells₃-of (event {t} {v} l n e) a b i =
       ap (λ es. cellAt (tell s es M₂) i) b ∙ ap (λ N. cellAt N i) (tell-one t v M₂) ∙ told-event t v l n e a i
-
-  size₃-of : (es : List Event) → length (tell s es M₂) ≡ length M
-  unfolding tell
-  size₃-of [] = size₂
-  size₃-of (e ∷ es) = length-map M₂ (told s (e .stamp) (e .value)) ∙ size₂
 
   cells₃ : (i : ℕ) → cellAt M₃ i ≡ withKept (keptOf (C i .eqn) (known S M₁) i (C i .bound)) (C i)
   cells₃ = cells₃-of comes refl refl
@@ -291,9 +282,6 @@ module _ (S : Streams) (M : State) (inv : Tracks S M) (s y : ℕ) (new : List Ev
   pub raise-tracks : Tracks S (raise s y new M)
   raise-tracks = rw raise-is tracks₄
 
-  -- ---- what the step leaves alone
-  pub raise-size : length (raise s y new M) ≡ length M
-  raise-size = ap length raise-is ∙ releases-size freed M₃ ∙ size₃-of new
-
+  -- every cell after the step
   pub raise-cell : (i : ℕ) → cellAt (raise s y new M) i ≡ withHeld (dropBelow (leastWaiting i (raise s y new M)) (events (S i) (C i .bound))) (withKept (keptOf (C i .eqn) (known S M₁) i (C i .bound)) (C i))
   raise-cell i = rw raise-is (cells₄ i ∙ ap (λ h. withHeld h (withKept (keptOf (C i .eqn) (known S M₁) i (C i .bound)) (C i))) (held₄ i ∙ ap (λ w. dropBelow w (events (S i) (C i .bound))) (sym (waiting₄ i))))
