@@ -5,3 +5,4 @@ pub mod Fires
 pub mod Decide
 pub mod World
 pub mod Marks
+pub mod Offers
