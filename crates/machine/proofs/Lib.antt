@@ -4,3 +4,4 @@ pub mod Cells
 pub mod Rising
 pub mod Release
 pub mod Frame
+pub mod Moves

@@ -6,3 +6,4 @@ pub mod Decide
 pub mod World
 pub mod Marks
 pub mod Offers
+pub mod Changes
