@@ -5,14 +5,15 @@ use mathlib.Core.Option.{Option, none, some}
 use mathlib.Core.List.{List, [], _∷_}
 use Prim.Native.Nat.{ℕ, zero, suc, _-_, _≤_, _<_}
 use native.Mathlib.Omega.{arith}
+use native.Mathlib.Decide.{decLt}
 use lib.Dec.{T, leb, ltb, eqb, leb→le, eqb→eq, eqb-refl, T-not, not-T}
 use lib.ListN.{length}
 use lib.IntN.{ℤ}
 use Rattle.meaning.specs.Plan.{Eqn, input, isInput}
 use Rattle.meaning.specs.Events.{Event, has}
-use Rattle.meaning.proofs.Tests.{Is, yes!, no!, look, T-and, T-and-l, T-and-r}
+use Rattle.meaning.proofs.Tests.{Is, yes!, no!, look, T-and, T-and-l, T-and-r, false-is}
 use Rattle.machine.specs.State.{Cell, State, cellAt, room}
-use Rattle.machine.specs.Reach.{stops, limit, reach, first, gives, Next, event, silent, nextOf, decide}
+use Rattle.machine.specs.Reach.{least, stops, limit, reach, first, gives, Next, event, silent, nextOf, decide}
 use Rattle.machine.specs.Step.{argA, argB, newBound, ahead, canMove}
 use Rattle.machine.specs.Calls.{lowest, oldest}
 use Rattle.machine.proofs.Cells.{eqb-ne}
@@ -37,6 +38,30 @@ decide-ge e o a b held = go (cond (ltb (first e o a b) (reach e o a b)) (gives e
         full : (c : Bool) → o .bound ≤ cond c (first e o a b) (suc (first e o a b))
         full true = first-ge e o a b
         full false = let x = first-ge e o a b in omega arith
+
+-- with room and a reach above the bound, the bound goes up
+pub decide-gt : (e : Eqn) (o a b : Cell) (held : List Event) → o .bound < reach e o a b → T (not (leb room (length held))) → o .bound < newBound (decide e o a b) held
+unfolding decide
+decide-gt e o a b held l n = go (cond (ltb (first e o a b) (reach e o a b)) (gives e o a b (first e o a b)) none)
+  where
+    go : (x : Option ℤ) → o .bound < newBound (nextOf (first e o a b) (reach e o a b) x) held
+    go none = l
+    go (some v) = let x = first-ge e o a b in rw (false-is (leb room (length held)) n) (omega arith)
+
+-- the reach is above the bound where the limit is and nothing stops at the bound
+pub reach-gt : (e : Eqn) (o a b : Cell) → o .bound < limit e o a b → T (not (stops e o a b (o .bound))) → o .bound < reach e o a b
+unfolding reach
+reach-gt e o a b l n = go (decLt (o .bound) far)
+  where
+    far : ℕ
+    far = least (stops e o a b) (o .bound) (limit e o a b - o .bound)
+
+    go : Dec (o .bound < far) → o .bound < far
+    go (yes k) = k
+    go (no k) =
+        let g = least-ge (stops e o a b) (o .bound) (limit e o a b - o .bound) in
+        let q : far ≡ o .bound = omega arith in
+        absurd (T-not (stops e o a b (o .bound)) n (rw q at (least-hit (stops e o a b) (o .bound) (limit e o a b - o .bound) (omega arith))))
 
 -- the reach of stream s, and where its bound goes
 abbrev pub reachOf : ℕ → State → ℕ
@@ -64,6 +89,10 @@ can-up s M h =
   where
     strict : (x y : ℕ) → x ≤ y → (y ≡ x → ⊥) → x < y
     strict x y l n = omega arith
+
+pub goal-gt : (s : ℕ) (M : State) → cellAt M s .bound < reachOf s M → T (not (leb room (length (cellAt M s .held)))) → cellAt M s .bound < goal s M
+unfolding ahead
+goal-gt s M l n = let o = cellAt M s in decide-gt (o .eqn) o (cellAt M (argA (o .eqn))) (cellAt M (argB (o .eqn))) (o .held) l n
 
 pub can-of : (s : ℕ) (M : State) → T (not (isInput (cellAt M s .eqn))) → cellAt M s .bound < goal s M → T (canMove s M)
 unfolding canMove

@@ -7,3 +7,4 @@ pub mod World
 pub mod Marks
 pub mod Offers
 pub mod Changes
+pub mod Rest
