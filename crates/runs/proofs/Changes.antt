@@ -17,13 +17,13 @@ use Rattle.machine.specs.State.{Declared, Cell, State, cellAt, withNext}
 use Rattle.machine.specs.Step.{ahead, newBound, added, canMove, comesIn, move, raise, release, leastWaiting, dropBelow}
 use Rattle.machine.specs.Calls.{moving, running, collecting, Arrival, arrivals, Outcome, refused, done, unless, noEquation, moveOne, lowest, oneMore, run, oldest, handOut, collect}
 use Rattle.machine.proofs.Cells.{set-cases, ne-eqb, eqb-ne}
-use Rattle.machine.proofs.Rising.{Rising, Oldest, nothing, this, oldest-is, rising-drop, events-rising, events-some, events-flat, found-drop, found-events, found-high}
-use Rattle.machine.proofs.Release.{waiting-le-next, release-size}
+use Rattle.machine.proofs.Rising.{Oldest, nothing, this, oldest-is, events-some, events-flat, found-high}
+use Rattle.machine.proofs.Release.{release-size}
 use Rattle.machine.proofs.Frame.{raise-out, raise-next, raise-bound, output-there}
 use Rattle.machine.proofs.Moves.{reachOf, goal, goal-ge, can-equation, can-up, no-input, lowest-can, oldest-ge}
 use Rattle.runs.specs.History.{into}
 use Rattle.runs.specs.Claim.{planOf}
-use Rattle.runs.proofs.Tracks.{Tracks, New, new-events}
+use Rattle.runs.proofs.Tracks.{Tracks, held-rising, held-from-mark, New, new-events}
 use Rattle.runs.proofs.Raise.{raise-tracks}
 use Rattle.runs.proofs.Decide.{Finds, ahead-finds, finds-new, finds-le, reach-top, reach-ahead}
 use Rattle.runs.proofs.Marks.{collected-cell, collected-next, collect-tracks}
@@ -178,15 +178,6 @@ module _ (ds : List Declared) where
     isThere : s < length K
     isThere = output-there K s out
 
-    -- an output's held events from its mark on are the solution's
-    from-mark : (S : Streams) → Tracks S K → (t : ℕ) → cellAt K s .next ≤ t → t < cellAt K s .bound → found (cellAt K s .held) t ≡ S s t
-    from-mark S inv t l m =
-        let w = waiting-le-next s K out in
-        rw (inv .held s) (found-drop (leastWaiting s K) (events (S s) (cellAt K s .bound)) t (omega arith) ∙ found-events (S s) (cellAt K s .bound) t m)
-
-    held-rising : (S : Streams) → Tracks S K → Rising 0 (cellAt K s .bound) (cellAt K s .held)
-    held-rising S inv = rw (inv .held s) (rising-drop (leastWaiting s K) 0 (cellAt K s .bound) (events (S s) (cellAt K s .bound)) (events-rising (S s) (cellAt K s .bound)))
-
     module _ (e : Event) (is : oldest (cellAt K s .next) (cellAt K s .held) ≡ some e) where
       abbrev L : State
       L = release s (set K s (withNext (suc (e .stamp)) (cellAt K s)))
@@ -212,18 +203,18 @@ module _ (ds : List Declared) where
             where
               go : Dec (d .stamp < cellAt K s .bound) → d .stamp < cellAt K s .bound
               go (yes k) = k
-              go (no k) = let z : _≡_ {A = ℕ} 0 1 = cc (found-high 0 (cellAt K s .bound) (cellAt K s .held) (held-rising S inv) (d .stamp) (omega arith), f) in absurd (omega arith)
+              go (no k) = let z : _≡_ {A = ℕ} 0 1 = cc (found-high 0 (cellAt K s .bound) (cellAt K s .held) (held-rising S K inv s) (d .stamp) (omega arith), f) in absurd (omega arith)
 
           both : (d .stamp < cellAt K s .bound) × (events (S s) (suc (d .stamp)) ≡ events (S s) (cellAt K s .next) ++ ev (d .stamp) (d .value) ∷ [])
           both = (
             low,
-            events-some (S s) (d .stamp) (d .value) (sym (from-mark S inv (d .stamp) l low) ∙ f)
-                ∙ ap (λ x. x ++ ev (d .stamp) (d .value) ∷ []) (events-flat (S s) (cellAt K s .next) (d .stamp) l (λ t i j. sym (from-mark S inv t i (omega (arith, low))) ∙ n t i j)),
+            events-some (S s) (d .stamp) (d .value) (sym (held-from-mark S K inv s out (d .stamp) l low) ∙ f)
+                ∙ ap (λ x. x ++ ev (d .stamp) (d .value) ∷ []) (events-flat (S s) (cellAt K s .next) (d .stamp) l (λ t i j. sym (held-from-mark S K inv s out t i (omega (arith, low))) ∙ n t i j)),
           )
 
       collected-right : (S : Streams) → Right ds S W → Right ds S Y
       collected-right S r =
-          let f = facts S (r .tracks) (oldest (cellAt K s .next) (cellAt K s .held)) (oldest-is (cellAt K s .next) 0 (cellAt K s .bound) (cellAt K s .held) (held-rising S (r .tracks))) is in
+          let f = facts S (r .tracks) (oldest (cellAt K s .next) (cellAt K s .held)) (oldest-is (cellAt K s .next) 0 (cellAt K s .bound) (cellAt K s .held) (held-rising S K (r .tracks) s)) is in
           record {
             tracks = collect-tracks K s (suc (e .stamp)) isThere grows S (r .tracks) (f .0);
             handed = λ i o. collected-next K s (suc (e .stamp)) isThere grows

@@ -8,3 +8,5 @@ pub mod Marks
 pub mod Offers
 pub mod Changes
 pub mod Rest
+pub mod Start
+pub mod Whole

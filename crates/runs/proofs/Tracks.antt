@@ -20,6 +20,7 @@ use Rattle.machine.specs.Step.{dropBelow, leastWaiting}
 use Rattle.machine.proofs.Cells.{ne-eqb}
 use Rattle.machine.proofs.Window.{Seen, or-none}
 use Rattle.machine.proofs.Rising.{Rising, events-rising, events-some, events-none, events-flat, found-append, found-events, found-low, found-high, found-drop, rising-drop, rising-dropped}
+use Rattle.machine.proofs.Release.{waiting-le-next}
 use Rattle.runs.proofs.Kept.{keptOf}
 
 -- ---- what is known of a stream below k
@@ -55,6 +56,16 @@ pub record Tracks (S : Streams) (M : State) : Type 0 where
   pub ahead : (s : ℕ) → Ahead (cellAt M s .eqn) M (cellAt M s .bound)
   pub top : (s : ℕ) → cellAt M s .bound ≤ horizon
   pub taken : (s : ℕ) → cellAt M s .next ≤ cellAt M s .bound
+
+module _ (S : Streams) (M : State) (inv : Tracks S M) (s : ℕ) where
+  pub held-rising : Rising 0 (cellAt M s .bound) (cellAt M s .held)
+  held-rising = rw (inv .held s) (rising-drop (leastWaiting s M) 0 (cellAt M s .bound) (events (S s) (cellAt M s .bound)) (events-rising (S s) (cellAt M s .bound)))
+
+  -- from the mark on an output's held events are the solution's
+  pub held-from-mark : T (cellAt M s .out) → (t : ℕ) → cellAt M s .next ≤ t → t < cellAt M s .bound → found (cellAt M s .held) t ≡ S s t
+  held-from-mark out t l m =
+      let w = waiting-le-next s M out in
+      rw (inv .held s) (found-drop (leastWaiting s M) (events (S s) (cellAt M s .bound)) t (omega arith) ∙ found-events (S s) (cellAt M s .bound) t m)
 
 pub ahead-grows : (e : Eqn) (M N : State) (y : ℕ) → ((i : ℕ) → cellAt M i .bound ≤ cellAt N i .bound) → Ahead e M y → Ahead e N y
 ahead-grows input M N y g h = tt
