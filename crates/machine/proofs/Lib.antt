@@ -5,3 +5,5 @@ pub mod Rising
 pub mod Release
 pub mod Frame
 pub mod Moves
+pub mod Outcomes
+pub mod Small

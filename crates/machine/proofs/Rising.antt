@@ -2,7 +2,7 @@
 use mathlib.Core.Path.{_≡_, refl, sym, _∙_, ap}
 use mathlib.Core.Bool.{Bool, true, false, not, cond}
 use mathlib.Core.Option.{Option, none, some}
-use mathlib.Core.List.{List, [], _∷_, _++_, append-nil}
+use mathlib.Core.List.{List, [], _∷_, _++_, append-nil, append-assoc}
 use Prim.Native.Nat.{ℕ, zero, suc, _+_, _≤_, _<_}
 use native.Mathlib.Nat.{lt-suc-self}
 use native.Mathlib.Omega.{arith}
@@ -57,6 +57,19 @@ events-flat f n (suc t) l h = go (decLe n t) (λ k. events-flat f n t k (λ p a 
     go : Dec (n ≤ t) → (n ≤ t → events f t ≡ events f n) → events f (suc t) ≡ events f n
     go (yes k) ih = events-none f t (h t k (lt-suc-self t)) ∙ ih k
     go (no k) ih = let e : n ≡ suc t = omega arith in rw e
+
+-- the events up to n are the first of those up to h
+pub events-prefix : (f : Stream) (n h : ℕ) → n ≤ h → (rest : List Event) × (events f h ≡ events f n ++ rest)
+events-prefix f n zero l = let e : n ≡ 0 = omega arith in ([], rw e)
+events-prefix f n (suc h) l = go (decLe n h) (λ k. events-prefix f n h k)
+  where
+    more : (o : Option ℤ) → f h ≡ o → (rest : List Event) × (events f h ≡ events f n ++ rest) → (rest : List Event) × (events f (suc h) ≡ events f n ++ rest)
+    more none q r = (r .0, events-none f h q ∙ r .1)
+    more (some v) q r = (r .0 ++ ev h v ∷ [], events-some f h v q ∙ ap (λ x. x ++ ev h v ∷ []) (r .1) ∙ append-assoc (events f n) (r .0) (ev h v ∷ []))
+
+    go : Dec (n ≤ h) → (n ≤ h → (rest : List Event) × (events f h ≡ events f n ++ rest)) → (rest : List Event) × (events f (suc h) ≡ events f n ++ rest)
+    go (yes k) ih = more (f h) refl (ih k)
+    go (no k) ih = let e : n ≡ suc h = omega arith in ([], rw e (sym (append-nil (events f (suc h)))))
 
 -- ---- as streams
 

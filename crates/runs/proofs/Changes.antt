@@ -18,6 +18,7 @@ use Rattle.machine.specs.Step.{ahead, newBound, added, canMove, comesIn, move, 
 use Rattle.machine.specs.Calls.{moving, running, collecting, Arrival, arrivals, Outcome, refused, done, unless, noEquation, moveOne, lowest, oneMore, run, oldest, handOut, collect}
 use Rattle.machine.proofs.Cells.{set-cases, ne-eqb, eqb-ne}
 use Rattle.machine.proofs.Rising.{Oldest, nothing, this, oldest-is, events-some, events-flat, found-high}
+use Rattle.machine.proofs.Outcomes.{unless-cases, equation-there}
 use Rattle.machine.proofs.Release.{release-size}
 use Rattle.machine.proofs.Frame.{raise-out, raise-next, raise-bound, output-there}
 use Rattle.machine.proofs.Moves.{reachOf, goal, goal-ge, can-equation, can-up, no-input, lowest-can, oldest-ge}
@@ -28,7 +29,7 @@ use Rattle.runs.proofs.Raise.{raise-tracks}
 use Rattle.runs.proofs.Decide.{Finds, ahead-finds, finds-new, finds-le, reach-top, reach-ahead}
 use Rattle.runs.proofs.Marks.{collected-cell, collected-next, collect-tracks}
 use Rattle.runs.proofs.World.{World, then, into-append, Shape, Agrees, Right, Good}
-use Rattle.runs.proofs.Offers.{unless-cases, into-none, came-good, refused-came, raise-shape}
+use Rattle.runs.proofs.Offers.{into-none, came-good, refused-came, raise-shape}
 
 -- the events that come into one stream
 pub into-own : (s : ℕ) (es : List Event) → into s (arrivals s es) ≡ es
@@ -112,17 +113,13 @@ module _ (ds : List Declared) where
   move-one-good W g s =
       unless-cases P (noEquation s M) 11 M _ (λ b. refused-came ds W g) (λ b.
       unless-cases P (not (canMove s M)) 12 M _ (λ c. refused-came ds W g) (λ c.
-      move-good W g s (inside (look (ltb s (length M))) b) (not-twice (canMove s M) c)))
+      move-good W g s (equation-there s M b) (not-twice (canMove s M) c)))
     where
       M : State
       M = W .state
 
       P : Outcome → Type 0
       P o = Good ds (then (moving s) W o)
-
-      inside : Is (ltb s (length M)) → T (not (noEquation s M)) → s < length M
-      inside (yes! j x) h = ltb→lt s (length M) x
-      inside (no! j x) h = absurd (rw j at h)
 
   -- ---- a run
   run-more : (n : ℕ) (M : State) → ltb (lowest M) (length M) ≡ true → run (suc n) M ≡ oneMore (arrivals (lowest M) (comesIn (lowest M) M)) (run n (move (lowest M) M))

@@ -9,4 +9,7 @@ pub mod Offers
 pub mod Changes
 pub mod Rest
 pub mod Start
+pub mod Numbers
+pub mod Claimed
+pub mod Room
 pub mod Whole

@@ -17,6 +17,7 @@ use Rattle.machine.specs.State.{Declared, Cell, State, cellAt, room, withBound}
 use Rattle.machine.specs.Step.{raise}
 use Rattle.machine.specs.Calls.{reading, progress, Arrival, arrivals, Outcome, refused, done, unless, noInput, offerReading, offerProgress}
 use Rattle.machine.proofs.Cells.{set-cases, ne-eqb, eqb-ne}
+use Rattle.machine.proofs.Outcomes.{unless-cases}
 use Rattle.machine.proofs.Window.{or-none}
 use Rattle.machine.proofs.Rising.{found-append}
 use Rattle.machine.proofs.Frame.{raise-size, raise-eqn, raise-out, raise-next, raise-bound, input-there}
@@ -26,11 +27,6 @@ use Rattle.runs.proofs.Tracks.{Ahead, Tracks, New, quiet, event, new-ev
 use Rattle.runs.proofs.Raise.{raise-tracks}
 use Rattle.runs.proofs.Marks.{input-is, progress-tracks, progress-events}
 use Rattle.runs.proofs.World.{World, then, Shape, Agrees, Right, Good}
-
--- a property of an outcome, refused or not
-pub unless-cases : (P : Outcome → Type 0) (b : Bool) (n : ℕ) (M : State) (o : Outcome) → (T b → P (refused n M)) → (T (not b) → P o) → P (unless b n M o)
-unless-cases P true n M o f g = f tt
-unless-cases P false n M o f g = g tt
 
 pub into-none : (i : ℕ) → into i [] ≡ []
 unfolding into

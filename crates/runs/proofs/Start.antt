@@ -23,7 +23,7 @@ use Rattle.runs.proofs.Offers.{offer-reading-good, offer-progress-good}
 use Rattle.runs.proofs.Changes.{move-one-good, run-good, collect-good}
 
 -- every cell of the loaded state is fresh
-loaded-cell : (ds : List Declared) (s : ℕ) → (d : Declared) × (cellAt (loaded ds) s ≡ fresh d) × (eqnAt (planOf ds) s ≡ d .eqn)
+pub loaded-cell : (ds : List Declared) (s : ℕ) → (d : Declared) × (cellAt (loaded ds) s ≡ fresh d) × (eqnAt (planOf ds) s ≡ d .eqn)
 unfolding loaded
 loaded-cell [] s = (record { eqn = nil; out = false }, refl, refl)
 loaded-cell (d ∷ ds) zero = (d, refl, refl)
