@@ -18,7 +18,7 @@ use Rattle.machine.specs.Step.{ahead, newBound, added, canMove, comesIn, move, 
 use Rattle.machine.specs.Calls.{moving, running, collecting, Arrival, arrivals, Outcome, refused, done, unless, noEquation, moveOne, lowest, oneMore, run, oldest, handOut, collect}
 use Rattle.machine.proofs.Cells.{set-cases, ne-eqb, eqb-ne}
 use Rattle.machine.proofs.Rising.{Oldest, nothing, this, oldest-is, events-some, events-flat, found-high}
-use Rattle.machine.proofs.Outcomes.{unless-cases, equation-there}
+use Rattle.machine.proofs.Outcomes.{unless-cases, equation-there, run-more, run-ends, run-number}
 use Rattle.machine.proofs.Release.{release-size}
 use Rattle.machine.proofs.Frame.{raise-out, raise-next, raise-bound, output-there}
 use Rattle.machine.proofs.Moves.{reachOf, goal, goal-ge, can-equation, can-up, no-input, lowest-can, oldest-ge}
@@ -122,23 +122,6 @@ module _ (ds : List Declared) where
       P o = Good ds (then (moving s) W o)
 
   -- ---- a run
-  run-more : (n : ℕ) (M : State) → ltb (lowest M) (length M) ≡ true → run (suc n) M ≡ oneMore (arrivals (lowest M) (comesIn (lowest M) M)) (run n (move (lowest M) M))
-  unfolding run
-  run-more n M e = rw (e, run)
-
-  run-ends : (n : ℕ) (M : State) → ltb (lowest M) (length M) ≡ false → run (suc n) M ≡ done [] M
-  unfolding run
-  run-ends n M e = rw (e, run)
-
-  pub run-number : (n : ℕ) (M : State) → run n M .number ≡ 0
-  unfolding run
-  run-number zero M = refl
-  run-number (suc n) M = go (look (ltb (lowest M) (length M)))
-    where
-      go : Is (ltb (lowest M) (length M)) → run (suc n) M .number ≡ 0
-      go (yes! e x) = rw (run-more n M e)
-      go (no! e x) = rw (run-ends n M e)
-
   abbrev ran : World → Outcome → World
   ran W o = record { state = o .state; accepted = W .accepted; known = W .known; handed = W .handed; came = λ i. W .came i ++ into i (o .came) }
 

@@ -12,4 +12,5 @@ pub mod Start
 pub mod Numbers
 pub mod Claimed
 pub mod Room
+pub mod Reached
 pub mod Whole

@@ -2,12 +2,14 @@
 use mathlib.Core.Path.{_≡_, refl}
 use mathlib.Core.Bool.{Bool, true, false, not}
 use mathlib.Core.Option.{Option, none, some}
-use Prim.Native.Nat.{ℕ}
+use Prim.Native.Nat.{ℕ, _<_}
 use native.Mathlib.Omega.{arith}
-use lib.Dec.{T, leb, ltb}
+use lib.Dec.{T, leb, ltb, lt→ltb}
 use lib.ListN.{length}
 use lib.IntN.{ℤ}
+use Rattle.meaning.specs.Plan.{isInput}
 use Rattle.meaning.specs.Events.{Event}
+use Rattle.meaning.proofs.Tests.{true-is, false-is}
 use Rattle.machine.specs.State.{State, cellAt, room}
 use Rattle.machine.specs.Step.{canMove}
 use Rattle.machine.specs.Calls.{Outcome, noInput, noEquation, moveOne, oldest, handOut, collect, offerReading}
@@ -45,3 +47,15 @@ offer-9 s t v M =
   where
     P : Outcome → Type 0
     P o = o .number ≡ 9 → T (leb room (length (cellAt M s .held)))
+
+-- ---- and when they are returned
+
+pub stuck-12 : (s : ℕ) (M : State) → s < length M → T (not (isInput (cellAt M s .eqn))) → T (not (canMove s M)) → moveOne s M .number ≡ 12
+unfolding moveOne
+stuck-12 s M l i n =
+    let a : noEquation s M ≡ false = rw (true-is (ltb s (length M)) (lt→ltb s (length M) l)) (false-is (isInput (cellAt M s .eqn)) i) in
+    rw (a, false-is (canMove s M) n)
+
+pub nothing-14 : (s : ℕ) (M : State) → T (cellAt M s .out) → oldest (cellAt M s .next) (cellAt M s .held) ≡ none → collect s M .number ≡ 14
+unfolding collect
+nothing-14 s M o q = rw (true-is (cellAt M s .out) o, q)
