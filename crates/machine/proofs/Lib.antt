@@ -1,0 +1,9 @@
+pub mod Search
+pub mod Window
+pub mod Cells
+pub mod Rising
+pub mod Release
+pub mod Frame
+pub mod Moves
+pub mod Outcomes
+pub mod Small

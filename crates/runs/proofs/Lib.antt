@@ -1,0 +1,16 @@
+pub mod Kept
+pub mod Tracks
+pub mod Raise
+pub mod Fires
+pub mod Decide
+pub mod World
+pub mod Marks
+pub mod Offers
+pub mod Changes
+pub mod Rest
+pub mod Start
+pub mod Numbers
+pub mod Claimed
+pub mod Room
+pub mod Reached
+pub mod Whole
