@@ -74,7 +74,7 @@ value-get s j h =
 
 -- ---- the first k slots dropped
 
-slot-zeros : (k : ℕ) → encRows encSlot noSlot k (replicate k noSlot) ≡ replicate (k * 12) 0
+pub slot-zeros : (k : ℕ) → encRows encSlot noSlot k (replicate k noSlot) ≡ replicate (k * 12) 0
 unfolding encRows encSlot encFields enc
 slot-zeros zero = refl
 slot-zeros (suc k) =

@@ -1,0 +1,251 @@
+-- The record of a sound cell passes the tests of number 15.
+use Prim.Native.Nat.{ℕ, zero, suc, _+_, _*_, _-_, _^_, _<_, _≤_}
+use mathlib.Core.Path.{_≡_, refl, sym, ap, ap₂, _∙_}
+use mathlib.Core.List.{List, [], _∷_, _++_, map}
+use mathlib.Core.Bool.{Bool, true, false, cond, _&&_, _||_}
+use mathlib.Core.Option.{Option, none, some}
+use native.Mathlib.Omega.{arith}
+use native.Mathlib.Nat.{zero-add}
+use lib.Dec.{eqb, ltb, leb, T}
+use lib.IntN.{ℤ, pos}
+use lib.ListN.{length, getD, take, drop, replicate, length-map, length-append}
+use lib.Seq.{drop-append-add}
+use borrow.Author.Tests.{lt-ltb, le-leb, eq-eqb, ne-eqb}
+use mir.Syntax.{w64}
+use mir.Val.{ofZ}
+use Rattle.meaning.specs.Plan.{Unary, time, neg, plus, Calc, add, sub, mul, div, rem, lt, le, eq, Binary, calc, keep, merge, Eqn, input, nil, unit, one, two, last, delay, isInput, reads}
+use Rattle.meaning.specs.Plan as plan
+use Rattle.meaning.specs.Events.{Event, horizon}
+use Rattle.machine.specs.State.{Kept, Cell, room, noKept}
+use Rattle.operators.specs.Operators.{isOperator, usesA, usesB, usesK, numberOf, firstOf, secondOf, valueOf, unaryNumber, binaryNumber}
+use Rattle.le.specs.Bytes.{allZero}
+use Rattle.le.specs.Layout.{encFields, encRows}
+use Rattle.le.proofs.RoundTrip.{rows-drop}
+use Rattle.layout.specs.Record.{Slot, Raw, noSlot, num, headWidths, encSlot, encRaw, decRaw, opF, aF, bF, outF, countF, flagF, priorFlagF, smallF, kF, boundF, nextF, keptF, valueF, priorF, lastF}
+use Rattle.layout.proofs.Laws.{head-len, slot-len, raw-enc}
+use Rattle.layout.proofs.Slots.{slot-zeros}
+use Rattle.cells.specs.View.{flag, flagOf, bitsOf, KeptNums, keptNums, slotOf, padTo, rawOf, ofCell}
+use Rattle.cells.specs.Sound.{IsOptional, AllBelow, Rising, IsNext, LastKept, DelayKept, IsKept, SoundCell}
+use Rattle.cells.proofs.Widths.{cell-raw, pad-length}
+use Rattle.valid.specs.Valid.{argOk, kOk, outOk, planOk, nextOk, sizesOk, risen, flagOk, noneIf, noneOk, lastOk, delayOk, keptOk, rowOk}
+
+-- ---- the plan part
+
+op-one : (f : Unary) → isOperator (unaryNumber f) ≡ true
+op-one time = refl
+op-one neg = refl
+op-one (plan.set k) = refl
+op-one (plus k) = refl
+
+op-two : (g : Binary) → isOperator (binaryNumber g) ≡ true
+op-two (calc add) = refl
+op-two (calc sub) = refl
+op-two (calc mul) = refl
+op-two (calc div) = refl
+op-two (calc rem) = refl
+op-two (calc lt) = refl
+op-two (calc le) = refl
+op-two (calc eq) = refl
+op-two keep = refl
+op-two merge = refl
+
+op-passes : (e : Eqn) → isOperator (numberOf e) ≡ true
+unfolding numberOf
+op-passes input = refl
+op-passes nil = refl
+op-passes unit = refl
+op-passes (one f a) = op-one f
+op-passes (two g a b) = op-two g
+op-passes (last a b) = refl
+op-passes (delay a b) = refl
+
+-- which fields the groups use
+one-uses : (f : Unary) → (usesA (unaryNumber f) ≡ true) × (usesB (unaryNumber f) ≡ false) × (eqb (unaryNumber f) 1 ≡ false)
+one-uses time = (refl, refl, refl)
+one-uses neg = (refl, refl, refl)
+one-uses (plan.set k) = (refl, refl, refl)
+one-uses (plus k) = (refl, refl, refl)
+
+two-uses : (g : Binary) → (usesA (binaryNumber g) ≡ true) × (usesB (binaryNumber g) ≡ true) × (usesK (binaryNumber g) ≡ false) × (eqb (binaryNumber g) 1 ≡ false)
+two-uses (calc add) = (refl, refl, refl, refl)
+two-uses (calc sub) = (refl, refl, refl, refl)
+two-uses (calc mul) = (refl, refl, refl, refl)
+two-uses (calc div) = (refl, refl, refl, refl)
+two-uses (calc rem) = (refl, refl, refl, refl)
+two-uses (calc lt) = (refl, refl, refl, refl)
+two-uses (calc le) = (refl, refl, refl, refl)
+two-uses (calc eq) = (refl, refl, refl, refl)
+two-uses keep = (refl, refl, refl, refl)
+two-uses merge = (refl, refl, refl, refl)
+
+a-passes : (n : ℕ) (e : Eqn) → AllBelow n (reads e) → argOk (usesA (numberOf e)) (firstOf e) n ≡ true
+unfolding numberOf firstOf
+a-passes n input h = refl
+a-passes n nil h = refl
+a-passes n unit h = refl
+a-passes n (one f a) h = rw (one-uses f .0) (lt-ltb a n (h .0))
+a-passes n (two g a b) h = rw (two-uses g .0) (lt-ltb a n (h .0))
+a-passes n (last a b) h = lt-ltb a n (h .0)
+a-passes n (delay a b) h = lt-ltb a n (h .0)
+
+b-passes : (n : ℕ) (e : Eqn) → AllBelow n (reads e) → argOk (usesB (numberOf e)) (secondOf e) n ≡ true
+unfolding numberOf secondOf
+b-passes n input h = refl
+b-passes n nil h = refl
+b-passes n unit h = refl
+b-passes n (one f a) h = rw (one-uses f .1)
+b-passes n (two g a b) h = rw (two-uses g .1) (lt-ltb b n (h .1 .0))
+b-passes n (last a b) h = lt-ltb b n (h .1 .0)
+b-passes n (delay a b) h = lt-ltb b n (h .1 .0)
+
+k-one : (f : Unary) → kOk (usesK (unaryNumber f)) (ofZ w64 (Rattle.operators.specs.Operators.unaryValue f)) ≡ true
+k-one time = refl
+k-one neg = refl
+k-one (plan.set k) = refl
+k-one (plus k) = refl
+
+k-passes : (e : Eqn) → kOk (usesK (numberOf e)) (ofZ w64 (valueOf e)) ≡ true
+unfolding numberOf valueOf
+k-passes input = refl
+k-passes nil = refl
+k-passes unit = refl
+k-passes (one f a) = k-one f
+k-passes (two g a b) = rw (two-uses g .2)
+k-passes (last a b) = refl
+k-passes (delay a b) = refl
+
+flag-small : (b : Bool) → ltb (flag b) 2 ≡ true
+flag-small true = refl
+flag-small false = refl
+
+out-passes : (e : Eqn) (o : Bool) → (T (isInput e) → o ≡ false) → outOk (numberOf e) (flag o) ≡ true
+unfolding numberOf
+out-passes input o h = rw (h tt)
+out-passes nil o h = flag-small o
+out-passes unit o h = flag-small o
+out-passes (one f a) o h = rw (one-uses f .2) (flag-small o)
+out-passes (two g a b) o h = rw (two-uses g .3) (flag-small o)
+out-passes (last a b) o h = flag-small o
+out-passes (delay a b) o h = flag-small o
+
+plan-passes : (n : ℕ) (c : Cell) → SoundCell n c → planOk n (ofCell c) ≡ true
+unfolding planOk ofCell
+plan-passes n c ok =
+    rw (op-passes (c .eqn), a-passes n (c .eqn) (ok .arguments), b-passes n (c .eqn) (ok .arguments), k-passes (c .eqn)) (out-passes (c .eqn) (c .out) (ok .out))
+
+-- ---- sizes, stamps, kept data
+
+next-passes : (o : Bool) (next bound : ℕ) → IsNext o next bound → nextOk (flag o) next bound ≡ true
+next-passes true next bound h = le-leb next bound h
+next-passes false next bound h = eq-eqb next 0 h
+
+sizes-pass : (n : ℕ) (c : Cell) → SoundCell n c → sizesOk (ofCell c) ≡ true
+unfolding sizesOk ofCell
+sizes-pass n c ok =
+    rw (le-leb (length (c .held)) room (ok .few), le-leb (c .bound) horizon (ok .bound), next-passes (c .out) (c .next) (c .bound) (ok .next))
+
+risen-passes : (lo top n : ℕ) (es : List Event) → length es ≤ n → Rising lo top es → risen top lo (length es) (padTo n noSlot (map slotOf es)) ≡ true
+unfolding risen padTo
+risen-passes lo top n [] h r = le-leb lo top r
+risen-passes lo top zero (e ∷ es) h r = absurd (omega arith)
+risen-passes lo top (suc n) (e ∷ es) h r =
+    let q : e .stamp + 1 ≡ suc (e .stamp) = omega arith in
+    rw (le-leb lo (e .stamp) (r .0), q) (risen-passes (suc (e .stamp)) top n es (omega arith) (r .2))
+
+flag-passes : (o : Option ℤ) → flagOk (flagOf o) (bitsOf o) ≡ true
+flag-passes none = refl
+flag-passes (some v) = refl
+
+none-passes : (y : ℕ) (o : Option ℤ) → (y ≡ 0 → o ≡ none) → noneIf y (flagOf o) ≡ true
+none-passes zero o h = rw (h refl)
+none-passes (suc y) o h = rw (ne-eqb (suc y) 0 (λ e. omega arith))
+
+abbrev no-nums : KeptNums
+no-nums = record { flag = 0; priorFlag = 0; kept = 0; value = 0; prior = 0 }
+
+one-keeps : (f : Unary) (a : ℕ) (o : Bool) (y : ℕ) (h : List Event) (m : ℕ) → keptOk (rawOf (one f a) o y h m no-nums) ≡ true
+unfolding keptOk noneOk numberOf
+one-keeps time a o y h m = refl
+one-keeps neg a o y h m = refl
+one-keeps (plan.set v) a o y h m = refl
+one-keeps (plus v) a o y h m = refl
+
+two-keeps : (g : Binary) (a b : ℕ) (o : Bool) (y : ℕ) (h : List Event) (m : ℕ) → keptOk (rawOf (two g a b) o y h m no-nums) ≡ true
+unfolding keptOk noneOk numberOf
+two-keeps (calc add) a b o y h m = refl
+two-keeps (calc sub) a b o y h m = refl
+two-keeps (calc mul) a b o y h m = refl
+two-keeps (calc div) a b o y h m = refl
+two-keeps (calc rem) a b o y h m = refl
+two-keeps (calc lt) a b o y h m = refl
+two-keeps (calc le) a b o y h m = refl
+two-keeps (calc eq) a b o y h m = refl
+two-keeps keep a b o y h m = refl
+two-keeps merge a b o y h m = refl
+
+kept-passes : (e : Eqn) (o : Bool) (y : ℕ) (h : List Event) (m : ℕ) (k : Kept) → IsKept e y k → keptOk (rawOf e o y h m (keptNums e k)) ≡ true
+unfolding keptOk noneOk lastOk delayOk numberOf
+kept-passes input o y h m k ok = refl
+kept-passes nil o y h m k ok = refl
+kept-passes unit o y h m k ok = refl
+kept-passes (one f a) o y h m k ok = one-keeps f a o y h m
+kept-passes (two g a b) o y h m k ok = two-keeps g a b o y h m
+kept-passes (last a b) o y h m k ok = rw (flag-passes (k .prev), none-passes y (k .prev) (ok .fresh))
+kept-passes (delay a b) o y h m k ok =
+    rw (flag-passes (k .value), flag-passes (k .prior), none-passes (k .since) (k .value) (ok .unset), none-passes y (k .prior) (ok .fresh)) (le-leb (k .since) y (ok .since))
+
+-- ---- zeros behind the held events
+
+pub zeros-zero : (k : ℕ) → allZero (replicate k 0) ≡ true
+unfolding allZero
+zeros-zero zero = refl
+zeros-zero (suc k) = zeros-zero k
+
+drop-pad : {A : Type 0} (n : ℕ) (d : A) (l : List A) → length l ≤ n → drop (length l) (padTo n d l) ≡ replicate (n - length l) d
+unfolding padTo
+drop-pad zero d [] h = refl
+drop-pad zero d (a ∷ l) h = absurd (omega arith)
+drop-pad (suc n) d [] h =
+    let e : suc n - 0 ≡ suc n = omega arith in
+    rw e (ap (_∷_ d) (pads n))
+  where
+    pads : (m : ℕ) → padTo m d [] ≡ replicate m d
+    pads zero = refl
+    pads (suc m) = ap (_∷_ d) (pads m)
+drop-pad (suc n) d (a ∷ l) h =
+    let e : suc n - suc (length l) ≡ n - length l = omega arith in
+    rw e (drop-pad n d l (omega arith))
+
+zeros-pass : (n : ℕ) (c : Cell) → SoundCell n c → allZero (drop (64 + length (c .held) * 12) (encRaw (ofCell c))) ≡ true
+unfolding encRaw ofCell
+zeros-pass n c ok =
+    let r = ofCell c in
+    let k = length (c .held) in
+    let f = ok .few in
+    let hd = encFields headWidths (r .nums) in
+    let l = map slotOf (c .held) in
+    let lk : length l ≡ k = length-map (c .held) slotOf in
+    let q : room ≡ k + (room - k) = omega arith in
+    let sl = padTo room noSlot l in
+    ap allZero
+    (ap (λ (j : ℕ). drop (j + k * 12) (hd ++ encRows encSlot noSlot room sl)) (sym (head-len (r .nums)))
+    ∙ drop-append-add hd (encRows encSlot noSlot room sl) (k * 12)
+    ∙ ap (λ (j : ℕ). drop (k * 12) (encRows encSlot noSlot j sl)) q
+    ∙ rows-drop encSlot noSlot 12 slot-len k (room - k) sl (pad-length room noSlot l ∙ q)
+    ∙ ap (encRows encSlot noSlot (room - k)) (ap (λ (j : ℕ). drop j sl) (sym lk) ∙ drop-pad room noSlot l (omega arith) ∙ ap (λ (j : ℕ). replicate (room - j) noSlot) lk)
+    ∙ slot-zeros (room - k))
+    ∙ zeros-zero ((room - k) * 12)
+
+-- the whole record
+pub row-passes : (n : ℕ) (c : Cell) → n ≤ 256 → SoundCell n c → rowOk n (encRaw (ofCell c)) ≡ true
+unfolding rowOk
+row-passes n c h ok =
+    let e : decRaw (encRaw (ofCell c)) ≡ ofCell c = raw-enc (ofCell c) (cell-raw n c h ok) in
+    rw (e, plan-passes n c ok, sizes-pass n c ok, stamps, keeps, count) (zeros-pass n c ok)
+  where
+    count : num countF (ofCell c) ≡ length (c .held)
+    count = unfold ofCell in refl
+    stamps : risen (num boundF (ofCell c)) 0 (num countF (ofCell c)) (ofCell c .slots) ≡ true
+    stamps = unfold ofCell in risen-passes 0 (c .bound) room (c .held) (ok .few) (ok .held)
+    keeps : keptOk (ofCell c) ≡ true
+    keeps = unfold ofCell in kept-passes (c .eqn) (c .out) (c .bound) (c .held) (c .next) (c .kept) (ok .kept)

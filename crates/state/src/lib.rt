@@ -1,0 +1,1 @@
+// Valid bytes are the bytes of sound states: laws alone, in proofs/.
