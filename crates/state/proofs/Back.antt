@@ -1,0 +1,229 @@
+-- A record that passes number 15's tests is the record of the cell that it gives, and the cell is sound.
+use Prim.Native.Nat.{ℕ, zero, suc, _+_, _*_, _-_, _^_, _<_, _≤_, min}
+use mathlib.Core.Path.{_≡_, refl, sym, ap, ap₂, _∙_, subst}
+use mathlib.Core.List.{List, [], _∷_, _++_, map}
+use mathlib.Core.Bool.{Bool, true, false, not, cond, _&&_, _||_}
+use mathlib.Core.Option.{Option, none, some}
+use native.Mathlib.Omega.{arith}
+use lib.Dec.{eqb, ltb, leb, lit<, lit≤, T}
+use lib.IntN.{ℤ, pos}
+use lib.ListN.{length, getD, take, drop, length-map}
+use lib.Seq.{length-take-le}
+use borrow.Author.Tests.{eqb-true, eqb-false, ltb-true, leb-true, lt-ltb, ne-eqb, eq-eqb, le-leb}
+use mir.Syntax.{w64}
+use mir.Val.{ofZ, toZ}
+use mir.Facts.{ofZ-toZ}
+use Rattle.meaning.specs.Plan.{Unary, time, neg, plus, Calc, add, sub, mul, div, rem, lt, le, eq, Binary, calc, keep, merge, Eqn, input, nil, unit, one, two, last, delay, isInput, reads}
+use Rattle.meaning.specs.Plan as plan
+use Rattle.meaning.specs.Events.{horizon}
+use Rattle.machine.specs.State.{Kept, Cell, room, noKept}
+use Rattle.operators.specs.Operators.{operatorCount, isOperator, usesA, usesB, usesK, eqnOf, numberOf, firstOf, secondOf, valueOf, unaryNumber, binaryNumber}
+use Rattle.operators.proofs.Numbers.{agree}
+use Rattle.operators.proofs.Laws.{number-back, first-back, second-back, value-back, reads-by-number}
+use Rattle.le.specs.Bytes.{Bytes, allZero}
+use Rattle.le.specs.Layout.{decFields}
+use Rattle.layout.specs.Record.{Slot, Raw, noSlot, num, decRaw, opF, aF, bF, outF, countF, flagF, priorFlagF, smallF, kF, boundF, nextF, keptF, valueF, priorF, lastF}
+use Rattle.layout.proofs.Laws.{RawOk, raw-ok, num-small}
+use Rattle.layout.proofs.Slots.{slots-many}
+use Rattle.cells.specs.View.{flag, flagOf, bitsOf, KeptNums, noNums, keptNums, slotOf, padTo, ofCell}
+use Rattle.cells.specs.Back.{optional, eventOf, heldOf, keptOf, toCell}
+use Rattle.cells.specs.Sound.{IsValue, IsOptional, AllBelow, Rising, IsNext, LastKept, DelayKept, IsKept, SoundCell}
+use Rattle.valid.specs.Valid.{argOk, kOk, outOk, planOk, nextOk, sizesOk, risen, flagOk, noneIf, noneOk, lastOk, delayOk, keptOk, rowOk}
+use Rattle.valid.proofs.Tests.{left, right}
+use Rattle.valid.proofs.Link.{PlanFacts, plan-facts, used-is, eqnIn}
+use Rattle.state.proofs.Tail.{slots-back, stamps-back, bits-value}
+
+-- ---- what the tests say
+
+pub record RowFacts (n : ℕ) (p : List ℕ) : Type 0 where
+  pub plan : PlanFacts n (decRaw p)
+  pub count : num countF (decRaw p) ≤ room
+  pub bound : num boundF (decRaw p) ≤ horizon
+  pub next : nextOk (num outF (decRaw p)) (num nextF (decRaw p)) (num boundF (decRaw p)) ≡ true
+  pub small : num smallF (decRaw p) ≡ 0
+  pub rest : num lastF (decRaw p) ≡ 0
+  pub stamps : risen (num boundF (decRaw p)) 0 (num countF (decRaw p)) (decRaw p .slots) ≡ true
+  pub kept : keptOk (decRaw p) ≡ true
+  pub zeros : allZero (drop (64 + num countF (decRaw p) * 12) p) ≡ true
+
+pub row-facts : (n : ℕ) (p : List ℕ) → rowOk n p ≡ true → RowFacts n p
+unfolding rowOk sizesOk
+row-facts n p e =
+    let r = decRaw p in
+    let z : Bool = allZero (drop (64 + num countF r * 12) p) in
+    let k : Bool = keptOk r in
+    let s : Bool = risen (num boundF r) 0 (num countF r) (r .slots) in
+    let e₁ = right (planOk n r) (sizesOk r && (s && (k && z))) e in
+    let e₂ = right (sizesOk r) (s && (k && z)) e₁ in
+    let e₃ = right s (k && z) e₂ in
+    let f = left (sizesOk r) (s && (k && z)) e₁ in
+    let c : Bool = leb (num countF r) room in
+    let b : Bool = leb (num boundF r) horizon in
+    let x : Bool = nextOk (num outF r) (num nextF r) (num boundF r) in
+    let y : Bool = eqb (num smallF r) 0 in
+    let w : Bool = eqb (num lastF r) 0 in
+    let f₁ = right c (b && (x && (y && w))) f in
+    let f₂ = right b (x && (y && w)) f₁ in
+    let f₃ = right x (y && w) f₂ in
+    record {
+      plan = plan-facts n r (left (planOk n r) (sizesOk r && (s && (k && z))) e);
+      count = leb-true (num countF r) room (left c (b && (x && (y && w))) f);
+      bound = leb-true (num boundF r) horizon (left b (x && (y && w)) f₁);
+      next = left x (y && w) f₂;
+      small = eqb-true (num smallF r) 0 (left y w f₃);
+      rest = eqb-true (num lastF r) 0 (right y w f₃);
+      stamps = left s (k && z) e₂;
+      kept = left k z e₃;
+      zeros = right k z e₃;
+    }
+
+-- ---- the plan part
+
+k-is : (used : Bool) (u : ℕ) → u < 2 ^ 64 → kOk used u ≡ true → ofZ w64 (cond used (toZ w64 u) (pos 0)) ≡ u
+k-is true u h e = ofZ-toZ {w = w64} {n = u} (record { fits = h })
+k-is false u h e = sym (eqb-true u 0 e)
+
+k-value : (used : Bool) (u : ℕ) → u < 2 ^ 64 → IsValue (cond used (toZ w64 u) (pos 0))
+k-value true u h = bits-value u h
+k-value false u h = lit< tt
+
+out-is : (op out : ℕ) → outOk op out ≡ true → flag (not (eqb out 0)) ≡ out
+out-is op out e = small out (go (eqb op 1) e)
+  where
+    small : (o : ℕ) → o < 2 → flag (not (eqb o 0)) ≡ o
+    small zero h = refl
+    small (suc zero) h = refl
+    small (suc (suc o)) h = absurd (omega arith)
+    go : (b : Bool) → cond b (eqb out 0) (ltb out 2) ≡ true → out < 2
+    go true e = let z = eqb-true out 0 e in omega arith
+    go false e = ltb-true out 2 e
+
+used-arg : (used : Bool) (a n : ℕ) → argOk used a n ≡ true → used ≡ true → a < n
+used-arg used a n e u = ltb-true a n (rw u at e)
+
+reads-below : (n : ℕ) (r : Raw) → PlanFacts n r → AllBelow n (reads (eqnIn r))
+reads-below n r f =
+    subst (AllBelow n) (sym (reads-by-number (num aF r) (num bF r) (toZ w64 (num kF r)) (num opF r) (f .least) (f .most))) (go (usesB (num opF r)) refl (usesA (num opF r)) refl)
+  where
+    op : ℕ
+    op = num opF r
+    go : (u : Bool) → usesB op ≡ u → (v : Bool) → usesA op ≡ v → AllBelow n (cond u (num aF r ∷ num bF r ∷ []) (cond v (num aF r ∷ []) []))
+    go true eu v ev = (used-arg (usesA op) (num aF r) n (f .a-ok) (le-leb 4 op (omega (arith, leb-true 8 op eu))), (used-arg (usesB op) (num bF r) n (f .b-ok) eu, tt))
+    go false eu true ev = (used-arg (usesA op) (num aF r) n (f .a-ok) ev, tt)
+    go false eu false ev = tt
+
+-- an input has number 1
+input-number : (a b : ℕ) (k : ℤ) (op : ℕ) → 1 ≤ op → op ≤ operatorCount → isInput (eqnOf op a b k) ≡ eqb op 1
+unfolding eqnOf
+input-number a b k op l h = agree (λ n. isInput (eqnOf n a b k)) (λ n. eqb n 1) 1 operatorCount refl op l (omega arith)
+
+no-input : (op out : ℕ) → outOk op out ≡ true → eqb op 1 ≡ true → not (eqb out 0) ≡ false
+no-input op out e q =
+    let z : eqb out 0 ≡ true = rw q at e in
+    rw z
+
+-- ---- what is kept
+
+abbrev lastNums : Kept → KeptNums
+lastNums k = record { flag = flagOf (k .prev); priorFlag = 0; kept = bitsOf (k .prev); value = 0; prior = 0 }
+
+abbrev delayNums : Kept → KeptNums
+delayNums k = record { flag = flagOf (k .value); priorFlag = flagOf (k .prior); kept = k .since; value = bitsOf (k .value); prior = bitsOf (k .prior) }
+
+nums-by-number : (a b : ℕ) (v : ℤ) (k : Kept) (op : ℕ) → 1 ≤ op → op ≤ operatorCount
+    → keptNums (eqnOf op a b v) k ≡ cond (eqb op 18) (lastNums k) (cond (eqb op 19) (delayNums k) noNums)
+unfolding eqnOf
+nums-by-number a b v k op l h =
+    agree (λ n. keptNums (eqnOf n a b v) k) (λ n. cond (eqb n 18) (lastNums k) (cond (eqb n 19) (delayNums k) noNums)) 1 operatorCount refl op l (omega arith)
+
+-- a flag and what it stands for
+pub record FlagFacts (has x : ℕ) : Type 0 where
+  pub flag : flagOf (optional has x) ≡ has
+  pub bits : bitsOf (optional has x) ≡ x
+  pub isOptional : IsOptional (optional has x)
+
+flag-facts : (has x : ℕ) → x < 2 ^ 64 → flagOk has x ≡ true → FlagFacts has x
+flag-facts zero x h e = record { flag = refl; bits = sym (eqb-true x 0 e); isOptional = tt }
+flag-facts (suc zero) x h e = record { flag = refl; bits = ofZ-toZ {w = w64} {n = x} (record { fits = h }); isOptional = bits-value x h }
+flag-facts (suc (suc n)) x h e =
+    let ne : suc (suc n) ≡ 0 → ⊥ = λ q. absurd (omega arith) in
+    let z = eqb-true (suc (suc n)) 1 (rw (ne-eqb (suc (suc n)) 0 ne) at e) in
+    absurd (omega arith)
+
+absent : (y has x : ℕ) → noneIf y has ≡ true → y ≡ 0 → optional has x ≡ none
+absent y has x e z =
+    let q : has ≡ 0 = eqb-true has 0 (rw (eq-eqb y 0 z) at e) in
+    rw q
+
+module _ (r : Raw) (ok : RawOk r) where
+  word : (j : ℕ) → 8 ≤ j → j < 15 → num j r < 2 ^ 64
+  word j l h = go j l h (num-small r j ok h)
+    where
+      go : (j : ℕ) → 8 ≤ j → j < 15 → num j r < 256 ^ getD Rattle.layout.specs.Record.headWidths j 0 → num j r < 2 ^ 64
+      go zero l h q = absurd (omega arith)
+      go (suc zero) l h q = absurd (omega arith)
+      go (suc (suc zero)) l h q = absurd (omega arith)
+      go (suc (suc (suc zero))) l h q = absurd (omega arith)
+      go (suc (suc (suc (suc zero)))) l h q = absurd (omega arith)
+      go (suc (suc (suc (suc (suc zero))))) l h q = absurd (omega arith)
+      go (suc (suc (suc (suc (suc (suc zero)))))) l h q = absurd (omega arith)
+      go (suc (suc (suc (suc (suc (suc (suc zero))))))) l h q = absurd (omega arith)
+      go (suc (suc (suc (suc (suc (suc (suc (suc zero)))))))) l h q = q
+      go (suc (suc (suc (suc (suc (suc (suc (suc (suc zero))))))))) l h q = q
+      go (suc (suc (suc (suc (suc (suc (suc (suc (suc (suc zero)))))))))) l h q = q
+      go (suc (suc (suc (suc (suc (suc (suc (suc (suc (suc (suc zero))))))))))) l h q = q
+      go (suc (suc (suc (suc (suc (suc (suc (suc (suc (suc (suc (suc zero)))))))))))) l h q = q
+      go (suc (suc (suc (suc (suc (suc (suc (suc (suc (suc (suc (suc (suc zero))))))))))))) l h q = q
+      go (suc (suc (suc (suc (suc (suc (suc (suc (suc (suc (suc (suc (suc (suc zero)))))))))))))) l h q = q
+      go (suc (suc (suc (suc (suc (suc (suc (suc (suc (suc (suc (suc (suc (suc (suc j))))))))))))))) l h q = absurd (omega arith)
+
+  last-kept : lastOk r ≡ true → num opF r ≡ 18 → LastKept (num boundF r) (keptOf r) × (lastNums (keptOf r) ≡ record { flag = num flagF r; priorFlag = num priorFlagF r; kept = num keptF r; value = num valueF r; prior = num priorF r })
+  unfolding lastOk keptOf
+  last-kept e op =
+      let a : Bool = flagOk (num flagF r) (num keptF r) in
+      let b : Bool = noneIf (num boundF r) (num flagF r) in
+      let c : Bool = eqb (num priorFlagF r) 0 in
+      let d : Bool = eqb (num valueF r) 0 in
+      let f : Bool = eqb (num priorF r) 0 in
+      let e₁ = right a (b && (c && (d && f))) e in
+      let e₂ = right b (c && (d && f)) e₁ in
+      let e₃ = right c (d && f) e₂ in
+      let g = flag-facts (num flagF r) (num keptF r) (word keptF (lit≤ tt) (lit< tt)) (left a (b && (c && (d && f))) e) in
+      let z = absent (num boundF r) (num flagF r) (num keptF r) (left b (c && (d && f)) e₁) in
+      rw (eq-eqb (num opF r) 18 op)
+      (record { prev = g .isOptional; fresh = z; since = refl; value = refl; prior = refl },
+      λ i. record { flag = g .flag i; priorFlag = sym (eqb-true (num priorFlagF r) 0 (left c (d && f) e₂)) i; kept = g .bits i; value = sym (eqb-true (num valueF r) 0 (left d f e₃)) i; prior = sym (eqb-true (num priorF r) 0 (right d f e₃)) i })
+
+  delay-kept : delayOk r ≡ true → num opF r ≡ 19 → DelayKept (num boundF r) (keptOf r) × (delayNums (keptOf r) ≡ record { flag = num flagF r; priorFlag = num priorFlagF r; kept = num keptF r; value = num valueF r; prior = num priorF r })
+  unfolding delayOk keptOf
+  delay-kept e op =
+      let a : Bool = flagOk (num flagF r) (num valueF r) in
+      let b : Bool = flagOk (num priorFlagF r) (num priorF r) in
+      let c : Bool = noneIf (num keptF r) (num flagF r) in
+      let d : Bool = noneIf (num boundF r) (num priorFlagF r) in
+      let f : Bool = leb (num keptF r) (num boundF r) in
+      let e₁ = right a (b && (c && (d && f))) e in
+      let e₂ = right b (c && (d && f)) e₁ in
+      let e₃ = right c (d && f) e₂ in
+      let g = flag-facts (num flagF r) (num valueF r) (word valueF (lit≤ tt) (lit< tt)) (left a (b && (c && (d && f))) e) in
+      let h = flag-facts (num priorFlagF r) (num priorF r) (word priorF (lit≤ tt) (lit< tt)) (left b (c && (d && f)) e₁) in
+      let n18 : num opF r ≡ 18 → ⊥ = λ q. absurd (omega arith) in
+      rw (ne-eqb (num opF r) 18 n18, eq-eqb (num opF r) 19 op)
+      (record {
+        prev = refl; since = leb-true (num keptF r) (num boundF r) (right d f e₃); value = g .isOptional; prior = h .isOptional;
+        unset = absent (num keptF r) (num flagF r) (num valueF r) (left c (d && f) e₂); fresh = absent (num boundF r) (num priorFlagF r) (num priorF r) (left d f e₃) },
+      λ i. record { flag = g .flag i; priorFlag = h .flag i; kept = num keptF r; value = g .bits i; prior = h .bits i })
+
+  none-kept : noneOk r ≡ true → (num opF r ≡ 18 → ⊥) → (num opF r ≡ 19 → ⊥) → (keptOf r ≡ noKept) × (noNums ≡ record { flag = num flagF r; priorFlag = num priorFlagF r; kept = num keptF r; value = num valueF r; prior = num priorF r })
+  unfolding noneOk keptOf
+  none-kept e n18 n19 =
+      let a : Bool = eqb (num flagF r) 0 in
+      let b : Bool = eqb (num priorFlagF r) 0 in
+      let c : Bool = eqb (num keptF r) 0 in
+      let d : Bool = eqb (num valueF r) 0 in
+      let f : Bool = eqb (num priorF r) 0 in
+      let e₁ = right a (b && (c && (d && f))) e in
+      let e₂ = right b (c && (d && f)) e₁ in
+      let e₃ = right c (d && f) e₂ in
+      (rw (ne-eqb (num opF r) 18 n18, ne-eqb (num opF r) 19 n19),
+      λ i. record { flag = sym (eqb-true (num flagF r) 0 (left a (b && (c && (d && f))) e)) i; priorFlag = sym (eqb-true (num priorFlagF r) 0 (left b (c && (d && f)) e₁)) i; kept = sym (eqb-true (num keptF r) 0 (left c (d && f) e₂)) i; value = sym (eqb-true (num valueF r) 0 (left d f e₃)) i; prior = sym (eqb-true (num priorF r) 0 (right d f e₃)) i })
