@@ -150,8 +150,22 @@ cell-raw n c h ok =
     let b = ok .bound in
     let f = ok .few in
     record {
-      heads = (number-below (c .eqn), (first-below n h (c .eqn) (ok .arguments), (second-below n h (c .eqn) (ok .arguments), (bool-below (c .out), (omega arith,
-        (k .flag, (k .priorFlag, (lit< tt, (bits-below (valueOf (c .eqn)) (ok .value), (omega arith, (next-small (c .out) (ok .next), (k .kept, (k .value, (k .prior, (lit< tt, tt)))))))))))))));
+      heads = (
+        number-below (c .eqn),
+        (
+          first-below n h (c .eqn) (ok .arguments),
+          (
+            second-below n h (c .eqn) (ok .arguments),
+            (
+              bool-below (c .out),
+              (
+                omega arith,
+                (k .flag, (k .priorFlag, (lit< tt, (bits-below (valueOf (c .eqn)) (ok .value), (omega arith, (next-small (c .out) (ok .next), (k .kept, (k .value, (k .prior, (lit< tt, tt)))))))))),
+              ),
+            ),
+          ),
+        ),
+      );
       many = pad-length room noSlot (map slotOf (c .held));
       good = slots-small 0 (c .bound) room (c .held) b (ok .held);
     }

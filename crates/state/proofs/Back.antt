@@ -79,21 +79,22 @@ row-facts n p e =
 
 -- ---- the plan part
 
-k-is : (used : Bool) (u : ℕ) → u < 2 ^ 64 → kOk used u ≡ true → ofZ w64 (cond used (toZ w64 u) (pos 0)) ≡ u
+pub k-is : (used : Bool) (u : ℕ) → u < 2 ^ 64 → kOk used u ≡ true → ofZ w64 (cond used (toZ w64 u) (pos 0)) ≡ u
 k-is true u h e = ofZ-toZ {w = w64} {n = u} (record { fits = h })
 k-is false u h e = sym (eqb-true u 0 e)
 
-k-value : (used : Bool) (u : ℕ) → u < 2 ^ 64 → IsValue (cond used (toZ w64 u) (pos 0))
+pub k-value : (used : Bool) (u : ℕ) → u < 2 ^ 64 → IsValue (cond used (toZ w64 u) (pos 0))
 k-value true u h = bits-value u h
 k-value false u h = lit< tt
 
-out-is : (op out : ℕ) → outOk op out ≡ true → flag (not (eqb out 0)) ≡ out
+pub out-is : (op out : ℕ) → outOk op out ≡ true → flag (not (eqb out 0)) ≡ out
 out-is op out e = small out (go (eqb op 1) e)
   where
     small : (o : ℕ) → o < 2 → flag (not (eqb o 0)) ≡ o
     small zero h = refl
     small (suc zero) h = refl
     small (suc (suc o)) h = absurd (omega arith)
+
     go : (b : Bool) → cond b (eqb out 0) (ltb out 2) ≡ true → out < 2
     go true e = let z = eqb-true out 0 e in omega arith
     go false e = ltb-true out 2 e
@@ -101,36 +102,37 @@ out-is op out e = small out (go (eqb op 1) e)
 used-arg : (used : Bool) (a n : ℕ) → argOk used a n ≡ true → used ≡ true → a < n
 used-arg used a n e u = ltb-true a n (rw u at e)
 
-reads-below : (n : ℕ) (r : Raw) → PlanFacts n r → AllBelow n (reads (eqnIn r))
+pub reads-below : (n : ℕ) (r : Raw) → PlanFacts n r → AllBelow n (reads (eqnIn r))
 reads-below n r f =
     subst (AllBelow n) (sym (reads-by-number (num aF r) (num bF r) (toZ w64 (num kF r)) (num opF r) (f .least) (f .most))) (go (usesB (num opF r)) refl (usesA (num opF r)) refl)
   where
     op : ℕ
     op = num opF r
+
     go : (u : Bool) → usesB op ≡ u → (v : Bool) → usesA op ≡ v → AllBelow n (cond u (num aF r ∷ num bF r ∷ []) (cond v (num aF r ∷ []) []))
     go true eu v ev = (used-arg (usesA op) (num aF r) n (f .a-ok) (le-leb 4 op (omega (arith, leb-true 8 op eu))), (used-arg (usesB op) (num bF r) n (f .b-ok) eu, tt))
     go false eu true ev = (used-arg (usesA op) (num aF r) n (f .a-ok) ev, tt)
     go false eu false ev = tt
 
 -- an input has number 1
-input-number : (a b : ℕ) (k : ℤ) (op : ℕ) → 1 ≤ op → op ≤ operatorCount → isInput (eqnOf op a b k) ≡ eqb op 1
+pub input-number : (a b : ℕ) (k : ℤ) (op : ℕ) → 1 ≤ op → op ≤ operatorCount → isInput (eqnOf op a b k) ≡ eqb op 1
 unfolding eqnOf
 input-number a b k op l h = agree (λ n. isInput (eqnOf n a b k)) (λ n. eqb n 1) 1 operatorCount refl op l (omega arith)
 
-no-input : (op out : ℕ) → outOk op out ≡ true → eqb op 1 ≡ true → not (eqb out 0) ≡ false
+pub no-input : (op out : ℕ) → outOk op out ≡ true → eqb op 1 ≡ true → not (eqb out 0) ≡ false
 no-input op out e q =
     let z : eqb out 0 ≡ true = rw q at e in
     rw z
 
 -- ---- what is kept
 
-abbrev lastNums : Kept → KeptNums
+abbrev pub lastNums : Kept → KeptNums
 lastNums k = record { flag = flagOf (k .prev); priorFlag = 0; kept = bitsOf (k .prev); value = 0; prior = 0 }
 
-abbrev delayNums : Kept → KeptNums
+abbrev pub delayNums : Kept → KeptNums
 delayNums k = record { flag = flagOf (k .value); priorFlag = flagOf (k .prior); kept = k .since; value = bitsOf (k .value); prior = bitsOf (k .prior) }
 
-nums-by-number : (a b : ℕ) (v : ℤ) (k : Kept) (op : ℕ) → 1 ≤ op → op ≤ operatorCount
+pub nums-by-number : (a b : ℕ) (v : ℤ) (k : Kept) (op : ℕ) → 1 ≤ op → op ≤ operatorCount
     → keptNums (eqnOf op a b v) k ≡ cond (eqb op 18) (lastNums k) (cond (eqb op 19) (delayNums k) noNums)
 unfolding eqnOf
 nums-by-number a b v k op l h =
@@ -156,7 +158,7 @@ absent y has x e z =
     rw q
 
 module _ (r : Raw) (ok : RawOk r) where
-  word : (j : ℕ) → 8 ≤ j → j < 15 → num j r < 2 ^ 64
+  pub word : (j : ℕ) → 8 ≤ j → j < 15 → num j r < 2 ^ 64
   word j l h = go j l h (num-small r j ok h)
     where
       go : (j : ℕ) → 8 ≤ j → j < 15 → num j r < 256 ^ getD Rattle.layout.specs.Record.headWidths j 0 → num j r < 2 ^ 64
@@ -177,7 +179,7 @@ module _ (r : Raw) (ok : RawOk r) where
       go (suc (suc (suc (suc (suc (suc (suc (suc (suc (suc (suc (suc (suc (suc zero)))))))))))))) l h q = q
       go (suc (suc (suc (suc (suc (suc (suc (suc (suc (suc (suc (suc (suc (suc (suc j))))))))))))))) l h q = absurd (omega arith)
 
-  last-kept : lastOk r ≡ true → num opF r ≡ 18 → LastKept (num boundF r) (keptOf r) × (lastNums (keptOf r) ≡ record { flag = num flagF r; priorFlag = num priorFlagF r; kept = num keptF r; value = num valueF r; prior = num priorF r })
+  pub last-kept : lastOk r ≡ true → num opF r ≡ 18 → LastKept (num boundF r) (keptOf r) × (lastNums (keptOf r) ≡ record { flag = num flagF r; priorFlag = num priorFlagF r; kept = num keptF r; value = num valueF r; prior = num priorF r })
   unfolding lastOk keptOf
   last-kept e op =
       let a : Bool = flagOk (num flagF r) (num keptF r) in
@@ -190,11 +192,12 @@ module _ (r : Raw) (ok : RawOk r) where
       let e₃ = right c (d && f) e₂ in
       let g = flag-facts (num flagF r) (num keptF r) (word keptF (lit≤ tt) (lit< tt)) (left a (b && (c && (d && f))) e) in
       let z = absent (num boundF r) (num flagF r) (num keptF r) (left b (c && (d && f)) e₁) in
-      rw (eq-eqb (num opF r) 18 op)
-      (record { prev = g .isOptional; fresh = z; since = refl; value = refl; prior = refl },
-      λ i. record { flag = g .flag i; priorFlag = sym (eqb-true (num priorFlagF r) 0 (left c (d && f) e₂)) i; kept = g .bits i; value = sym (eqb-true (num valueF r) 0 (left d f e₃)) i; prior = sym (eqb-true (num priorF r) 0 (right d f e₃)) i })
+      rw (eq-eqb (num opF r) 18 op) (
+        record { prev = g .isOptional; fresh = z; since = refl; value = refl; prior = refl },
+        λ i. record { flag = g .flag i; priorFlag = sym (eqb-true (num priorFlagF r) 0 (left c (d && f) e₂)) i; kept = g .bits i; value = sym (eqb-true (num valueF r) 0 (left d f e₃)) i; prior = sym (eqb-true (num priorF r) 0 (right d f e₃)) i },
+      )
 
-  delay-kept : delayOk r ≡ true → num opF r ≡ 19 → DelayKept (num boundF r) (keptOf r) × (delayNums (keptOf r) ≡ record { flag = num flagF r; priorFlag = num priorFlagF r; kept = num keptF r; value = num valueF r; prior = num priorF r })
+  pub delay-kept : delayOk r ≡ true → num opF r ≡ 19 → DelayKept (num boundF r) (keptOf r) × (delayNums (keptOf r) ≡ record { flag = num flagF r; priorFlag = num priorFlagF r; kept = num keptF r; value = num valueF r; prior = num priorF r })
   unfolding delayOk keptOf
   delay-kept e op =
       let a : Bool = flagOk (num flagF r) (num valueF r) in
@@ -208,13 +211,19 @@ module _ (r : Raw) (ok : RawOk r) where
       let g = flag-facts (num flagF r) (num valueF r) (word valueF (lit≤ tt) (lit< tt)) (left a (b && (c && (d && f))) e) in
       let h = flag-facts (num priorFlagF r) (num priorF r) (word priorF (lit≤ tt) (lit< tt)) (left b (c && (d && f)) e₁) in
       let n18 : num opF r ≡ 18 → ⊥ = λ q. absurd (omega arith) in
-      rw (ne-eqb (num opF r) 18 n18, eq-eqb (num opF r) 19 op)
-      (record {
-        prev = refl; since = leb-true (num keptF r) (num boundF r) (right d f e₃); value = g .isOptional; prior = h .isOptional;
-        unset = absent (num keptF r) (num flagF r) (num valueF r) (left c (d && f) e₂); fresh = absent (num boundF r) (num priorFlagF r) (num priorF r) (left d f e₃) },
-      λ i. record { flag = g .flag i; priorFlag = h .flag i; kept = num keptF r; value = g .bits i; prior = h .bits i })
+      rw (ne-eqb (num opF r) 18 n18, eq-eqb (num opF r) 19 op) (
+        record {
+          prev = refl;
+          since = leb-true (num keptF r) (num boundF r) (right d f e₃);
+          value = g .isOptional;
+          prior = h .isOptional;
+          unset = absent (num keptF r) (num flagF r) (num valueF r) (left c (d && f) e₂);
+          fresh = absent (num boundF r) (num priorFlagF r) (num priorF r) (left d f e₃);
+        },
+        λ i. record { flag = g .flag i; priorFlag = h .flag i; kept = num keptF r; value = g .bits i; prior = h .bits i },
+      )
 
-  none-kept : noneOk r ≡ true → (num opF r ≡ 18 → ⊥) → (num opF r ≡ 19 → ⊥) → (keptOf r ≡ noKept) × (noNums ≡ record { flag = num flagF r; priorFlag = num priorFlagF r; kept = num keptF r; value = num valueF r; prior = num priorF r })
+  pub none-kept : noneOk r ≡ true → (num opF r ≡ 18 → ⊥) → (num opF r ≡ 19 → ⊥) → (keptOf r ≡ noKept) × (noNums ≡ record { flag = num flagF r; priorFlag = num priorFlagF r; kept = num keptF r; value = num valueF r; prior = num priorF r })
   unfolding noneOk keptOf
   none-kept e n18 n19 =
       let a : Bool = eqb (num flagF r) 0 in
@@ -224,6 +233,7 @@ module _ (r : Raw) (ok : RawOk r) where
       let f : Bool = eqb (num priorF r) 0 in
       let e₁ = right a (b && (c && (d && f))) e in
       let e₂ = right b (c && (d && f)) e₁ in
-      let e₃ = right c (d && f) e₂ in
-      (rw (ne-eqb (num opF r) 18 n18, ne-eqb (num opF r) 19 n19),
-      λ i. record { flag = sym (eqb-true (num flagF r) 0 (left a (b && (c && (d && f))) e)) i; priorFlag = sym (eqb-true (num priorFlagF r) 0 (left b (c && (d && f)) e₁)) i; kept = sym (eqb-true (num keptF r) 0 (left c (d && f) e₂)) i; value = sym (eqb-true (num valueF r) 0 (left d f e₃)) i; prior = sym (eqb-true (num priorF r) 0 (right d f e₃)) i })
+      let e₃ = right c (d && f) e₂ in (
+        rw (ne-eqb (num opF r) 18 n18, ne-eqb (num opF r) 19 n19),
+        λ i. record { flag = sym (eqb-true (num flagF r) 0 (left a (b && (c && (d && f))) e)) i; priorFlag = sym (eqb-true (num priorFlagF r) 0 (left b (c && (d && f)) e₁)) i; kept = sym (eqb-true (num keptF r) 0 (left c (d && f) e₂)) i; value = sym (eqb-true (num valueF r) 0 (left d f e₃)) i; prior = sym (eqb-true (num priorF r) 0 (right d f e₃)) i },
+      )

@@ -1,3 +1,4 @@
 pub mod Passes
 pub mod Tail
 pub mod Back
+pub mod Rows

@@ -245,7 +245,9 @@ row-passes n c h ok =
   where
     count : num countF (ofCell c) ≡ length (c .held)
     count = unfold ofCell in refl
+
     stamps : risen (num boundF (ofCell c)) 0 (num countF (ofCell c)) (ofCell c .slots) ≡ true
     stamps = unfold ofCell in risen-passes 0 (c .bound) room (c .held) (ok .few) (ok .held)
+
     keeps : keptOk (ofCell c) ≡ true
     keeps = unfold ofCell in kept-passes (c .eqn) (c .out) (c .bound) (c .held) (c .next) (c .kept) (ok .kept)

@@ -46,9 +46,11 @@ zero-list (x ∷ l) e = ap₂ _∷_ (eqb-true x 0 (first (eqb x 0) e)) (zero-lis
   where
     never : false ≡ true → ⊥
     never q = let z : _≡_ {A = ℕ} 0 1 = ap (λ (b : Bool). cond b 1 0) q in omega arith
+
     first : (p : Bool) → cond p (allZero l) false ≡ true → p ≡ true
     first true q = refl
     first false q = q
+
     second : (p : Bool) → cond p (allZero l) false ≡ true → allZero l ≡ true
     second true q = q
     second false q = absurd (never q)
@@ -108,6 +110,8 @@ stamps-back lo top zero l h ok e = leb-true lo top e
 stamps-back lo top (suc c) [] h ok e = absurd (omega arith)
 stamps-back lo top (suc c) (x ∷ l) h ok e =
     let q : x .stamp + 1 ≡ suc (x .stamp) = omega arith in
-    let r = right (leb lo (x .stamp)) (risen top (x .stamp + 1) c l) e in
-    (leb-true lo (x .stamp) (left (leb lo (x .stamp)) (risen top (x .stamp + 1) c l) e), bits-value (x .value) (ok .0 .1),
-    stamps-back (suc (x .stamp)) top c l (omega arith) (ok .1) (rw q at r))
+    let r = right (leb lo (x .stamp)) (risen top (x .stamp + 1) c l) e in (
+      leb-true lo (x .stamp) (left (leb lo (x .stamp)) (risen top (x .stamp + 1) c l) e),
+      bits-value (x .value) (ok .0 .1),
+      stamps-back (suc (x .stamp)) top c l (omega arith) (ok .1) (rw q at r),
+    )
