@@ -2,3 +2,4 @@ pub mod Passes
 pub mod Tail
 pub mod Back
 pub mod Rows
+pub mod Whole

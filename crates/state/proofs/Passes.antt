@@ -49,7 +49,7 @@ op-two (calc eq) = refl
 op-two keep = refl
 op-two merge = refl
 
-op-passes : (e : Eqn) → isOperator (numberOf e) ≡ true
+pub op-passes : (e : Eqn) → isOperator (numberOf e) ≡ true
 unfolding numberOf
 op-passes input = refl
 op-passes nil = refl
