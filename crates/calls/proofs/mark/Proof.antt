@@ -1,0 +1,47 @@
+use Prim.Native.Nat.{ℕ, _+_, _-_, _*_, _<_, _≤_, min}
+use mathlib.Core.Path.{_≡_, refl, sym, ap, ap₂, _∙_}
+use mathlib.Core.Bool.{Bool, true, false, cond}
+use borrow.Author.Tests.{lt-ltb, le-ltb, eq-eqb, ne-eqb, le-leb, lt-leb}
+use borrow.Rule.Slice.PartMut.{midOf, putMid}
+use lib.Dec.{ltb, leb, eqb}
+use denote.Ref.{now}
+use Rattle.meaning.specs.Events.{horizon}
+use Rattle.machine.specs.State.{room}
+use Rattle.layout.specs.Record.{Raw, decRaw, encRaw, encode, decode, num, withNum, slotAt, rowAt, change, opF, outF, countF, boundF, nextF}
+use Rattle.layout.proofs.Laws.{row-mid, lent}
+use Rattle.layout.proofs.Loops.{row-len}
+use Rattle.step.specs.Step.{below, releasedRow}
+use Rattle.calls.specs.Numbers.{readingRow, readingRaw, progressRow, progressRaw, waitingSlot, collectRow, collectRaw, collectedRaw}
+use Rattle.calls.proofs.Steps
+use borrow.Author.Needs.{needs}
+use native.Mathlib.Omega.{arith}
+use Rattle.calls.proofs.mark.Statement.{statement}
+use Rattle.calls.proofs.mark.Tie as tie
+use Rattle.calls.proofs.mark.Reads as reads
+use Rattle.calls.proofs.mark.Lts as lts
+use Rattle.layout.proofs.put_word.Reads as put-word-reads
+use Rattle.layout.proofs.stamp_at.Reads as stamp-at-reads
+
+-- src/lib.rt:157:9
+stamp-at-requires : tie.Need-stamp-at-requires
+stamp-at-requires c κs = search needs
+
+-- src/lib.rt:158:28
+add-put-word : tie.Need-add-put-word
+add-put-word c = search needs
+
+-- src/lib.rt:158:5
+put-word-requires : tie.Need-put-word-requires
+put-word-requires c κs = search needs
+
+-- src/lib.rt:153:1
+same-length : tie.Need-same-length
+same-length c = search needs
+
+-- src/lib.rt:153:1
+returns : tie.Need-returns
+returns c = let a = c .before .before .before .before .before .before .before .args in let p = now (a .r) in let r = decRaw p in c .before .before .put-word .ensures ∙ ap (λ (t : ℕ). encRaw (withNum nextF (t + 1) r)) (c .before .before .before .before .stamp-at .ensures .0)
+
+pub mark-spec : {M : Type 1} → statement M
+mark-spec =
+    tie.close (tie.spec stamp-at-requires add-put-word put-word-requires same-length returns)

@@ -1,0 +1,170 @@
+// The offers' and collect's refusals and steps, on the bytes of n records.
+ghost use mathlib.Core.Path.{_≡_};
+ghost use Prim.Native.Nat.{_*_, _+_, _≤_, _<_, _^_};
+ghost use lib.ListN.{length};
+ghost use Rattle.layout.specs.Record as layout;
+ghost use Rattle.layout.specs.Record.{decRaw, encode, decode, withNum, boundF, nextF, rowAt, slotAt, change};
+ghost use Rattle.calls.specs.Numbers.{readingRow, readingRaw, progressRow, progressRaw, waitingSlot, collectRow, collectRaw, collectedRaw};
+use limits::Bound;
+use limits::Queue;
+
+fn reading_row(r: &[u8], t: u32) -> u32
+    requires { ⌜ length (now r) ≡ 256 ⌝ }
+    ensures { λ x. ⌜ x ≡ readingRow (decRaw (now (r .entry))) t ⌝ }
+{
+    let op = layout::byte_at(r, 0);
+    if op != 1 {
+        return 7;
+    }
+    let bound = layout::word_at(r, 1);
+    if (t as u64) < bound {
+        return 8;
+    }
+    let count = layout::byte_at(r, 4);
+    if Queue::ROOM as u64 <= count {
+        return 9;
+    }
+    0
+}
+
+// The number that an offer of a reading gets, after 15.
+pub fn reading_number(state: &[u8], n: usize, stream: u32, t: u32) -> u32
+    requires { ⌜ n * 256 ≤ length (now state) ⌝ }
+    ensures { λ x. ⌜ x ≡ readingRaw n (decode n (now (state .entry))) stream t ⌝ }
+{
+    let i = stream as usize;
+    if n <= i {
+        return 7;
+    }
+    let at = i * 256;
+    let end = at + 256;
+    reading_row(&state[at..end], t)
+}
+
+fn progress_row(r: &[u8], y: u64) -> u32
+    requires { ⌜ length (now r) ≡ 256 ⌝ }
+    ensures { λ x. ⌜ x ≡ progressRow (decRaw (now (r .entry))) y ⌝ }
+{
+    let op = layout::byte_at(r, 0);
+    if op != 1 {
+        return 7;
+    }
+    if Bound::HORIZON < y {
+        return 10;
+    }
+    let bound = layout::word_at(r, 1);
+    if y < bound {
+        return 8;
+    }
+    0
+}
+
+// The number that an offer of progress gets, after 15.
+pub fn progress_number(state: &[u8], n: usize, stream: u32, y: u64) -> u32
+    requires { ⌜ n * 256 ≤ length (now state) ⌝ }
+    ensures { λ x. ⌜ x ≡ progressRaw n (decode n (now (state .entry))) stream y ⌝ }
+{
+    let i = stream as usize;
+    if n <= i {
+        return 7;
+    }
+    let at = i * 256;
+    let end = at + 256;
+    progress_row(&state[at..end], y)
+}
+
+// Progress writes the bound and nothing more.
+pub fn progress(state: &mut [u8], n: usize, i: usize, y: u64)
+    requires { ⌜ (n * 256 ≤ length (now state)) × (i < n) ⌝ }
+    ensures { λ _. ⌜ now (state .exit) ≡ encode n (change i (withNum boundF y) (decode n (now (state .entry)))) ⌝ }
+{
+    let at = i * 256;
+    let end = at + 256;
+    layout::put_word(&mut state[at..end], 1, y);
+}
+
+// The slot of the oldest waiting event of a record, or as many as it holds.
+fn waiting_slot(r: &[u8]) -> usize
+    requires { ⌜ length (now r) ≡ 256 ⌝ }
+    ensures { λ x. ⌜ (x ≡ waitingSlot (decRaw (now (r .entry)))) × (x ≤ 16) ⌝ }
+{
+    step::leading(r, step::held(r), layout::word_at(r, 2))
+}
+
+fn collect_row(r: &[u8]) -> u32
+    requires { ⌜ length (now r) ≡ 256 ⌝ }
+    ensures { λ x. ⌜ x ≡ collectRow (decRaw (now (r .entry))) ⌝ }
+{
+    let out = layout::byte_at(r, 3);
+    if out == 0 {
+        return 13;
+    }
+    if waiting_slot(r) < step::held(r) {
+        return 0;
+    }
+    14
+}
+
+// The number that a collect gets, after 15.
+pub fn collect_number(state: &[u8], n: usize, stream: u32) -> u32
+    requires { ⌜ n * 256 ≤ length (now state) ⌝ }
+    ensures { λ x. ⌜ x ≡ collectRaw n (decode n (now (state .entry))) stream ⌝ }
+{
+    let i = stream as usize;
+    if n <= i {
+        return 13;
+    }
+    let at = i * 256;
+    let end = at + 256;
+    collect_row(&state[at..end])
+}
+
+// Where the oldest waiting event of stream i lies.
+pub fn oldest(state: &[u8], n: usize, i: usize) -> usize
+    requires { ⌜ (n * 256 ≤ length (now state)) × (i < n) ⌝ }
+    ensures { λ x. ⌜ (x ≡ waitingSlot (rowAt (decode n (now (state .entry))) i)) × (x ≤ 16) ⌝ }
+{
+    let at = i * 256;
+    let end = at + 256;
+    waiting_slot(&state[at..end])
+}
+
+// The stamp in slot j of stream i.
+pub fn stamp_of(state: &[u8], n: usize, i: usize, j: usize) -> u32
+    requires { ⌜ (n * 256 ≤ length (now state)) × (i < n) × (j < 16) ⌝ }
+    ensures { λ x. ⌜ x ≡ slotAt j (rowAt (decode n (now (state .entry))) i) .stamp ⌝ }
+{
+    let at = i * 256;
+    let end = at + 256;
+    layout::stamp_at(&state[at..end], j) as u32
+}
+
+// The value in slot j of stream i, in two's complement.
+pub fn value_of(state: &[u8], n: usize, i: usize, j: usize) -> u64
+    requires { ⌜ (n * 256 ≤ length (now state)) × (i < n) × (j < 16) ⌝ }
+    ensures { λ x. ⌜ x ≡ slotAt j (rowAt (decode n (now (state .entry))) i) .value ⌝ }
+{
+    let at = i * 256;
+    let end = at + 256;
+    layout::value_at(&state[at..end], j)
+}
+
+// Marks the event in slot j of a record as collected.
+fn mark(r: &mut [u8], j: usize)
+    requires { ⌜ (length (now r) ≡ 256) × (j < 16) ⌝ }
+    ensures { λ _. ⌜ now (r .exit) ≡ layout.encRaw (withNum nextF (slotAt j (decRaw (now (r .entry))) .stamp + 1) (decRaw (now (r .entry)))) ⌝ }
+{
+    let t = layout::stamp_at(r, j);
+    layout::put_word(r, 2, t + 1);
+}
+
+// Collects the event in slot j of stream i, and lets go what nobody waits for any more.
+pub fn collect(state: &mut [u8], n: usize, i: usize, j: usize)
+    requires { ⌜ (n * 256 ≤ length (now state)) × (i < n) × (j < 16) ⌝ }
+    ensures { λ _. ⌜ now (state .exit) ≡ encode n (collectedRaw i j (decode n (now (state .entry)))) ⌝ }
+{
+    let at = i * 256;
+    let end = at + 256;
+    mark(&mut state[at..end], j);
+    step::release_row(state, n, i);
+}
