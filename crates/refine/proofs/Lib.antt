@@ -1,3 +1,4 @@
 pub mod Rows
 pub mod Queues
 pub mod Whole
+pub mod Calls

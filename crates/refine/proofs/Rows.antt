@@ -30,7 +30,7 @@ cond-self : (b : Bool) → cond b true false ≡ b
 cond-self true = refl
 cond-self false = refl
 
-cond-same : {A : Type 0} (b : Bool) (x : A) → cond b x x ≡ x
+pub cond-same : {A : Type 0} (b : Bool) (x : A) → cond b x x ≡ x
 cond-same true x = refl
 cond-same false x = refl
 
