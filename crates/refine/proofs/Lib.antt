@@ -2,3 +2,4 @@ pub mod Rows
 pub mod Queues
 pub mod Whole
 pub mod Calls
+pub mod Collects
