@@ -1,0 +1,32 @@
+-- What every call but load answers and leaves: the machine's outcome on the state that the bytes give.
+use Prim.Native.Nat.{ℕ}
+use mathlib.Core.Bool.{Bool, true, false, cond}
+use mathlib.Core.List.{List}
+use lib.IntN.{ℤ, pos}
+use Rattle.machine.specs.State.{State}
+use Rattle.machine.specs.Calls.{Call, Outcome, call}
+use Rattle.cells.specs.View.{bytesOf}
+use Rattle.cells.specs.Back.{stateOf}
+use Rattle.valid.specs.Valid.{stateLength, count, valid}
+
+-- the number and the results that a call returns, and the buffer that it leaves
+pub record Reply : Type 0 where
+  pub number : ℕ
+  pub moves : ℕ
+  pub stamp : ℕ
+  pub value : ℤ
+  pub buffer : List ℕ
+
+-- "Number 15 comes before the others": all results are 0, and the buffer stays
+abbrev pub notState : List ℕ → Reply
+notState s = record { number = 15; moves = 0; stamp = 0; value = pos 0; buffer = s }
+
+abbrev pub replyOf : Outcome → Reply
+replyOf o = record { number = o .number; moves = o .moves; stamp = o .stamp; value = o .value; buffer = bytesOf stateLength (o .state) }
+
+-- the state that valid bytes give
+abbrev pub stateIn : List ℕ → State
+stateIn s = stateOf (count s) s
+
+unfoldable pub reply : Call → List ℕ → Reply
+reply c s = cond (valid s) (replyOf (call c (stateIn s))) (notState s)

@@ -1,0 +1,72 @@
+// The calls that the firmware links. Each works on a lent state, asks nothing of its caller, and is promised equal to the
+// definition `reply`: its number, its results and the buffer it leaves.
+ghost use mathlib.Core.Path.{_≡_};
+ghost use Rattle.machine.specs.Calls.{reading, progress, moving, running, collecting};
+ghost use Rattle.engine.specs.Reply.{reply};
+
+// Offers a reading (stream, stamp, value) of an input.
+#[no_mangle]
+pub extern "C" fn tessla_offer_reading(state: &mut [u8], stream: u32, stamp: u32, value: i64) -> u32
+    ensures number { λ r. ⌜ r ≡ reply (reading stream stamp value) (now (state .entry)) .number ⌝ }
+    ensures buffer { λ _. ⌜ now (state .exit) ≡ reply (reading stream stamp value) (now (state .entry)) .buffer ⌝ }
+{
+    let n = valid::streams(state);
+    if n == 0 {
+        return 15;
+    }
+    let number = calls::reading_number(state, n, stream, stamp);
+    if number != 0 {
+        return number;
+    }
+    step::offer(state, n, stream as usize, stamp, num::bits(value));
+    0
+}
+
+// Offers progress (stream, new bound) of an input.
+#[no_mangle]
+pub extern "C" fn tessla_offer_progress(state: &mut [u8], stream: u32, bound: u64) -> u32
+    ensures number { λ r. ⌜ r ≡ reply (progress stream bound) (now (state .entry)) .number ⌝ }
+    ensures buffer { λ _. ⌜ now (state .exit) ≡ reply (progress stream bound) (now (state .entry)) .buffer ⌝ }
+{
+    let n = valid::streams(state);
+    if n == 0 {
+        return 15;
+    }
+    let number = calls::progress_number(state, n, stream, bound);
+    if number != 0 {
+        return number;
+    }
+    calls::progress(state, n, stream as usize, bound);
+    0
+}
+
+// Collects the oldest waiting event of an output.
+#[no_mangle]
+pub extern "C" fn tessla_collect(
+    state: &mut [u8],
+    stream: u32,
+    stamp: &mut u32,
+    value: &mut i64,
+) -> u32
+    ensures number { λ r. ⌜ r ≡ reply (collecting stream) (now (state .entry)) .number ⌝ }
+    ensures stamp { λ _. ⌜ now (stamp .exit) ≡ reply (collecting stream) (now (state .entry)) .stamp ⌝ }
+    ensures value { λ _. ⌜ now (value .exit) ≡ reply (collecting stream) (now (state .entry)) .value ⌝ }
+    ensures buffer { λ _. ⌜ now (state .exit) ≡ reply (collecting stream) (now (state .entry)) .buffer ⌝ }
+{
+    *stamp = 0;
+    *value = 0;
+    let n = valid::streams(state);
+    if n == 0 {
+        return 15;
+    }
+    let number = calls::collect_number(state, n, stream);
+    if number != 0 {
+        return number;
+    }
+    let i = stream as usize;
+    let j = calls::oldest(state, n, i);
+    *stamp = calls::stamp_of(state, n, i, j);
+    *value = num::of_bits(calls::value_of(state, n, i, j));
+    calls::collect(state, n, i, j);
+    0
+}
