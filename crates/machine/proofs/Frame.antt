@@ -11,9 +11,9 @@ use lib.Seq.{getD-set-same}
 use Rattle.meaning.specs.Plan.{isInput, reads, nil}
 use Rattle.meaning.specs.Events.{Event}
 use Rattle.machine.specs.State.{Cell, State, absent, cellAt, withKept}
-use Rattle.machine.specs.Step.{argA, argB, advance, absorb, absorbed, write, told, tell, raise, releases}
+use Rattle.machine.specs.Step.{argA, argB, advance, absorb, absorbed, write, told, tell, raise, releases, leastWaiting}
 use Rattle.machine.proofs.Cells.{set-cases, told-at, beyond}
-use Rattle.machine.proofs.Release.{releases-looser, releases-size, Looser}
+use Rattle.machine.proofs.Release.{releases-looser, Looser, Grown, waiting-grows}
 
 -- N is M but for held events and kept data
 pub record Frame (M N : State) : Type 0 where
@@ -41,6 +41,13 @@ looser-frame M N h = record {
   nexts = λ i. ap (λ c. c .next) (h .cells i);
 }
 
+-- the same streams wait
+pub frame-waiting : (s : ℕ) (M N : State) → Frame M N → leastWaiting s N ≡ leastWaiting s M
+frame-waiting s M N f =
+    let x = waiting-grows s M N (record { eqns = f .eqns; outs = f .outs s; bounds = λ r k. let e = f .bounds r in omega arith; marks = let e = f .nexts s in omega arith }) in
+    let y = waiting-grows s N M (record { eqns = λ r. sym (f .eqns r); outs = sym (f .outs s); bounds = λ r k. let e = f .bounds r in omega arith; marks = let e = f .nexts s in omega arith }) in
+    omega arith
+
 absorbed-frame : (s : ℕ) (M : State) → s < length M → Frame M (absorbed s M)
 unfolding absorbed
 absorbed-frame s M l = record {
@@ -66,11 +73,11 @@ tell-frame s (e ∷ es) M = record {
 }
 
 module _ (s y : ℕ) (new : List Event) (M : State) (there : s < length M) where
-  abbrev up : Cell
+  abbrev pub up : Cell
   up = advance y new (cellAt M s)
 
   -- the step, but for held events and kept data, is the write of the bound
-  raise-frame : Frame (set M s up) (raise s y new M)
+  pub raise-frame : Frame (set M s up) (raise s y new M)
   unfolding raise write
   raise-frame =
       frame-then (set M s up) (tell s new (write s y new M)) (raise s y new M)

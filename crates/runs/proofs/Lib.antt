@@ -14,3 +14,5 @@ pub mod Claimed
 pub mod Room
 pub mod Reached
 pub mod Whole
+pub mod Tidy
+pub mod Local

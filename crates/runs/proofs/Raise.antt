@@ -51,16 +51,16 @@ edge-self (delay c d) s t y q = λ p. q
 module _ (S : Streams) (M : State) (inv : Tracks S M) (s y : ℕ) (new : List Event) (there : s < length M) (grows : cellAt M s .bound < y)
     (top : y ≤ horizon) (near : Ahead (cellAt M s .eqn) M y) (comes : New (S s) (cellAt M s .bound) y new) where
   -- ---- the bound goes up
-  abbrev M₁ : State
+  abbrev pub M₁ : State
   M₁ = set M s (advance y new (cellAt M s))
 
-  abbrev C : ℕ → Cell
+  abbrev pub C : ℕ → Cell
   C i = cellAt M₁ i
 
-  C-self : C s ≡ advance y new (cellAt M s)
+  pub C-self : C s ≡ advance y new (cellAt M s)
   C-self = getD-set-same M s (advance y new (cellAt M s)) absent there
 
-  C-other : (i : ℕ) → (i ≡ s → ⊥) → C i ≡ cellAt M i
+  pub C-other : (i : ℕ) → (i ≡ s → ⊥) → C i ≡ cellAt M i
   C-other i n = getD-set-other M s i (advance y new (cellAt M s)) absent n
 
   C-cases : (P : ℕ → Cell → Type 0) → ((i : ℕ) → (i ≡ s → ⊥) → P i (cellAt M i)) → P s (advance y new (cellAt M s)) → (i : ℕ) → P i (C i)
@@ -75,15 +75,15 @@ module _ (S : Streams) (M : State) (inv : Tracks S M) (s y : ℕ) (new : List Ev
   C-next : (i : ℕ) → C i .next ≡ cellAt M i .next
   C-next = C-cases (λ i c. c .next ≡ cellAt M i .next) (λ i n. refl) refl
 
-  C-up : (i : ℕ) → cellAt M i .bound ≤ C i .bound
+  pub C-up : (i : ℕ) → cellAt M i .bound ≤ C i .bound
   C-up = C-cases (λ i c. cellAt M i .bound ≤ c .bound) (λ i n. omega arith) (omega arith)
 
-  C-new : (i : ℕ) → (es : List Event) × New (S i) (cellAt M i .bound) (C i .bound) es × (C i .held ≡ cellAt M i .held ++ es)
+  pub C-new : (i : ℕ) → (es : List Event) × New (S i) (cellAt M i .bound) (C i .bound) es × (C i .held ≡ cellAt M i .held ++ es)
   C-new =
       C-cases (λ i c. (es : List Event) × New (S i) (cellAt M i .bound) (c .bound) es × (c .held ≡ cellAt M i .held ++ es))
       (λ i n. ([], new-none (S i) (cellAt M i .bound), sym (append-nil (cellAt M i .held)))) (new, comes, refl)
 
-  shows : (i : ℕ) → Seen (known S M₁ i) (min (leastWaiting i M) (cellAt M i .bound)) (view (C i))
+  pub shows : (i : ℕ) → Seen (known S M₁ i) (min (leastWaiting i M) (cellAt M i .bound)) (view (C i))
   shows i =
       let n = C-new i in
       rw (n .2, inv .held i) (held-shows (S i) (leastWaiting i M) (cellAt M i .bound) (C i .bound) (n .0) (n .1))
@@ -92,7 +92,7 @@ module _ (S : Streams) (M : State) (inv : Tracks S M) (s y : ℕ) (new : List Ev
   same-below : (i p : ℕ) → p < cellAt M s .bound → known S M i p ≡ known S M₁ i p
   same-below i p l = C-cases (λ i c. cut (S i) (cellAt M i .bound) p ≡ cut (S i) (c .bound) p) (λ i n. refl) (rw (cut-yes (S s) (cellAt M s .bound) p l, cut-yes (S s) y p (omega arith))) i
 
-  own-kept : absorb (C s .eqn) (C s) (C (argA (C s .eqn))) (C (argB (C s .eqn))) ≡ keptOf (C s .eqn) (known S M₁) s y
+  pub own-kept : absorb (C s .eqn) (C s) (C (argA (C s .eqn))) (C (argB (C s .eqn))) ≡ keptOf (C s .eqn) (known S M₁) s y
   own-kept =
       kept-absorbed (known S M) (known S M₁) s (cellAt M s .bound) y grows same-below C (λ i. min (leastWaiting i M) (cellAt M i .bound)) shows (omega arith) (ap (λ c. c .bound) C-self) (C s .eqn)
       (each-map (λ a h. let x = waiting-le-reader a M s (rw (C-eqn s) at h) in omega arith) (reads (C s .eqn)) (each-read (C s .eqn)))
