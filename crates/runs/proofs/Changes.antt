@@ -24,7 +24,7 @@ use Rattle.machine.proofs.Frame.{raise-out, raise-next, raise-bound, output-the
 use Rattle.machine.proofs.Moves.{reachOf, goal, goal-ge, can-equation, can-up, no-input, lowest-can, oldest-ge}
 use Rattle.runs.specs.History.{into}
 use Rattle.runs.specs.Claim.{planOf}
-use Rattle.runs.proofs.Tracks.{Tracks, held-rising, held-from-mark, New, new-events}
+use Rattle.runs.proofs.Tracks.{Tracks, held-rising, held-from-mark, New, Rise, new-events}
 use Rattle.runs.proofs.Raise.{raise-tracks}
 use Rattle.runs.proofs.Decide.{Finds, ahead-finds, finds-new, finds-le, reach-top, reach-ahead}
 use Rattle.runs.proofs.Marks.{collected-cell, collected-next, collect-tracks}
@@ -45,10 +45,10 @@ into-other i s (e ∷ es) n = rw (into, ne-eqb s i (λ q. n (sym q))) (into-othe
 module _ (ds : List Declared) where
   -- ---- a move
   module _ (W : World) (g : Good ds W) (s : ℕ) (there : s < length (W .state)) (can : T (canMove s (W .state))) where
-    abbrev M : State
+    abbrev pub M : State
     M = W .state
 
-    abbrev es : List Event
+    abbrev pub es : List Event
     es = comesIn s M
 
     move-is : move s M ≡ raise s (goal s M) es M
@@ -84,12 +84,17 @@ module _ (ds : List Declared) where
       comes : New (S s) (cellAt M s .bound) (goal s M) es
       comes = rw comes-is (finds-new finds (cellAt M s .held))
 
+      -- the step may be made
+      pub rise : Rise S M s (goal s M) es
+      rise =
+          let low = finds-le finds (cellAt M s .held) in
+          let far = reach-top S M (r .tracks) rd s row equation in
+          record { there = there; grows = can-up s M can; top = omega arith; near = reach-ahead S M (r .tracks) rd s row equation (goal s M) low; comes = comes }
+
       move-right : Right ds S X
       move-right =
-          let low = finds-le finds (cellAt M s .held) in
-          let top = reach-top S M (r .tracks) rd s row equation in
           record {
-            tracks = raise-tracks S M (r .tracks) s (goal s M) es there (can-up s M can) (omega arith) (reach-ahead S M (r .tracks) rd s row equation (goal s M) low) comes;
+            tracks = raise-tracks S M (r .tracks) s (goal s M) es rise;
             handed = λ i o. r .handed i (rw (raise-out s (goal s M) es M there i) at o) ∙ ap (λ n. events (S i) n) (sym (raise-next s (goal s M) es M there i));
             came = λ i k. N-cases (λ i b. i < length ds → W .came i ++ into i (arrivals s es) ≡ events (S i) b)
                 (λ i d k. rw (into-other i s es d) (append-nil (W .came i) ∙ r .came i k))

@@ -23,7 +23,7 @@ use Rattle.machine.proofs.Rising.{drop-more}
 use Rattle.machine.proofs.Release.{Grown, waiting-grows}
 use Rattle.machine.proofs.Frame.{Frame, frame-waiting, raise-frame, raise-eqn, raise-out, raise-next, raise-bound}
 use Rattle.runs.proofs.Kept.{keptOf}
-use Rattle.runs.proofs.Tracks.{cut, cut-yes, cut-no, known, Ahead, Tracks, New, new-events, new-grows}
+use Rattle.runs.proofs.Tracks.{cut, cut-yes, cut-no, known, Ahead, Tracks, new-events, Rise}
 use Rattle.runs.proofs.Decide.{floor-read}
 use Rattle.runs.proofs.Raise as raised
 use Rattle.runs.proofs.Tidy.{refreshed, refreshed-is, tidied, stale, Near, near-of}
@@ -52,23 +52,22 @@ refreshed-stale (delay x z) K s y o a b k l = rw (ne-eqb (o .bound) 0 (λ e. ome
     gone true = refl
     gone false = refl
 
-module _ (S : Streams) (M : State) (inv : Tracks S M) (s y : ℕ) (new : List Event) (there : s < length M) (grows : cellAt M s .bound < y)
-    (top : y ≤ horizon) (near : Ahead (cellAt M s .eqn) M y) (comes : New (S s) (cellAt M s .bound) y new) where
+module _ (S : Streams) (M : State) (inv : Tracks S M) (s y : ℕ) (new : List Event) (rise : Rise S M s y new) where
   abbrev C : ℕ → Cell
-  C i = raised.C S M inv s y new there grows top near comes i
+  C i = raised.C S M inv s y new rise i
 
   abbrev M₁ : State
-  M₁ = raised.M₁ S M inv s y new there grows top near comes
+  M₁ = raised.M₁ S M inv s y new rise
 
   -- the bound goes up, and nothing else is done yet
   abbrev N : State
   N = set M s (stale (advance y new (cellAt M s)))
 
   N-self : cellAt N s ≡ stale (C s)
-  N-self = getD-set-same M s (stale (advance y new (cellAt M s))) absent there ∙ ap stale (sym (raised.C-self S M inv s y new there grows top near comes))
+  N-self = getD-set-same M s (stale (advance y new (cellAt M s))) absent (rise .there) ∙ ap stale (sym (raised.C-self S M inv s y new rise))
 
   N-other : (i : ℕ) → (i ≡ s → ⊥) → cellAt N i ≡ C i
-  N-other i n = getD-set-other M s i (stale (advance y new (cellAt M s))) absent n ∙ sym (raised.C-other S M inv s y new there grows top near comes i n)
+  N-other i n = getD-set-other M s i (stale (advance y new (cellAt M s))) absent n ∙ sym (raised.C-other S M inv s y new rise i n)
 
   N-is : (i : ℕ) → cellAt N i ≡ withKept (cellAt N i .kept) (C i)
   N-is i = go (look (eqb i s))
@@ -90,27 +89,27 @@ module _ (S : Streams) (M : State) (inv : Tracks S M) (s y : ℕ) (new : List Ev
   }
 
   same-waiting : (i : ℕ) → leastWaiting i N ≡ leastWaiting i (raise s y new M)
-  same-waiting i = frame-waiting i M₁ N N-frame ∙ sym (frame-waiting i M₁ (raise s y new M) (raise-frame s y new M there))
+  same-waiting i = frame-waiting i M₁ N N-frame ∙ sym (frame-waiting i M₁ (raise s y new M) (raise-frame s y new M (rise .there)))
 
   waiting-up : (i : ℕ) → leastWaiting i M ≤ leastWaiting i (raise s y new M)
   waiting-up i =
       waiting-grows i M (raise s y new M) (record {
-        eqns = raise-eqn s y new M there;
-        outs = raise-out s y new M there i;
-        bounds = λ r h. raise-bound s y new M there (λ i b. cellAt M i .bound ≤ b) (λ i n. omega arith) (omega arith) r;
-        marks = let e = raise-next s y new M there i in omega arith;
+        eqns = raise-eqn s y new M (rise .there);
+        outs = raise-out s y new M (rise .there) i;
+        bounds = λ r h. raise-bound s y new M (rise .there) (λ i b. cellAt M i .bound ≤ b) (λ i n. omega arith) (omega arith) r;
+        marks = let e = raise-next s y new M (rise .there) i in omega arith;
       })
 
   held-is : (i : ℕ) → dropBelow (leastWaiting i N) (cellAt N i .held) ≡ dropBelow (leastWaiting i (raise s y new M)) (events (S i) (C i .bound))
   held-is i =
-      let n = raised.C-new S M inv s y new there grows top near comes i in
+      let n = raised.C-new S M inv s y new rise i in
       rw (N-held i, same-waiting i, n .2, inv .held i, new-events (n .1)) (drop-more (leastWaiting i M) (leastWaiting i (raise s y new M)) (events (S i) (cellAt M i .bound)) (n .0) (waiting-up i))
 
   C-self : C s ≡ advance y new (cellAt M s)
-  C-self = raised.C-self S M inv s y new there grows top near comes
+  C-self = raised.C-self S M inv s y new rise
 
   C-other : (i : ℕ) → (i ≡ s → ⊥) → C i ≡ cellAt M i
-  C-other = raised.C-other S M inv s y new there grows top near comes
+  C-other = raised.C-other S M inv s y new rise
 
   own-fresh : refreshed (C s .eqn) (stale (C s)) (cellAt N (argA (C s .eqn))) (cellAt N (argB (C s .eqn))) ≡ keptOf (C s .eqn) (known S M₁) s (C s .bound)
   own-fresh =
@@ -118,11 +117,11 @@ module _ (S : Streams) (M : State) (inv : Tracks S M) (s y : ℕ) (new : List Ev
       let b = ap (λ c. c .bound) C-self in
       refreshed-same e (stale (C s)) (cellAt N (argA e)) (cellAt N (argB e)) (C (argA e)) (C (argB e)) (N-held (argA e)) (N-held (argB e))
       ∙ refreshed-stale e (known S M) s (cellAt M s .bound) (C s) (C (argA e)) (C (argB e)) (rw C-self (inv .kept s)) (omega arith)
-      ∙ raised.own-kept S M inv s y new there grows top near comes ∙ ap (λ x. keptOf e (known S M₁) s x) (sym b)
+      ∙ raised.own-kept S M inv s y new rise ∙ ap (λ x. keptOf e (known S M₁) s x) (sym b)
 
   same-below : (i p : ℕ) → p < cellAt M i .bound → known S M i p ≡ known S M₁ i p
   same-below i p l =
-      let u = raised.C-up S M inv s y new there grows top near comes i in
+      let u = raised.C-up S M inv s y new rise i in
       rw (cut-yes (S i) (cellAt M i .bound) p l, cut-yes (S i) (C i .bound) p (omega arith))
 
   other-fresh : (i : ℕ) → (i ≡ s → ⊥) → refreshed (C i .eqn) (C i) (cellAt N (argA (C i .eqn))) (cellAt N (argB (C i .eqn))) ≡ keptOf (C i .eqn) (known S M₁) i (C i .bound)
@@ -132,7 +131,7 @@ module _ (S : Streams) (M : State) (inv : Tracks S M) (s y : ℕ) (new : List Ev
       let b : C i .bound ≡ cellAt M i .bound = ap (λ c. c .bound) c in
       refreshed-same e (C i) (cellAt N (argA e)) (cellAt N (argB e)) (C (argA e)) (C (argB e)) (N-held (argA e)) (N-held (argB e))
       ∙ refreshed-is (known S M) (known S M₁) (λ j. cellAt M j .bound) (λ j. min (leastWaiting j M) (cellAt M j .bound)) (λ j. C j) i (cellAt M i .bound) same-below (λ j p l. cut-no (S j) (cellAt M j .bound) p l)
-      (λ j. omega arith) (raised.shows S M inv s y new there grows top near comes) b refl e
+      (λ j. omega arith) (raised.shows S M inv s y new rise) b refl e
       (rw c (floor-read S M inv i)) (rw c (near-of (cellAt M i .eqn) M (cellAt M i .bound) (inv .ahead i))) (rw c (inv .kept i))
       ∙ ap (λ x. keptOf e (known S M₁) i x) (sym b)
 
@@ -147,7 +146,7 @@ module _ (S : Streams) (M : State) (inv : Tracks S M) (s y : ℕ) (new : List Ev
   pub step-tidies : (i : ℕ) → cellAt (raise s y new M) i ≡ tidied N i
   step-tidies i =
       let k = keptOf (C i .eqn) (known S M₁) i (C i .bound) in
-      raised.raise-cell S M inv s y new there grows top near comes i
+      raised.raise-cell S M inv s y new rise i
       ∙ ap (λ h. withHeld h (withKept k (C i))) (sym (held-is i))
       ∙ ap (λ c. withHeld (dropBelow (leastWaiting i N) (cellAt N i .held)) (withKept k c)) (sym bare)
       ∙ ap (λ x. withHeld (dropBelow (leastWaiting i N) (cellAt N i .held)) (withKept x (cellAt N i))) (sym (fresh i))

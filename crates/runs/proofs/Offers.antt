@@ -23,7 +23,7 @@ use Rattle.machine.proofs.Rising.{found-append}
 use Rattle.machine.proofs.Frame.{raise-size, raise-eqn, raise-out, raise-next, raise-bound, input-there}
 use Rattle.runs.specs.History.{into}
 use Rattle.runs.specs.Claim.{planOf}
-use Rattle.runs.proofs.Tracks.{Ahead, Tracks, New, quiet, event, new-events}
+use Rattle.runs.proofs.Tracks.{Ahead, Tracks, New, quiet, event, Rise, new-events}
 use Rattle.runs.proofs.Raise.{raise-tracks}
 use Rattle.runs.proofs.Marks.{input-is, progress-tracks, progress-events}
 use Rattle.runs.proofs.World.{World, then, Shape, Agrees, Right, Good}
@@ -72,7 +72,7 @@ module _ (ds : List Declared) where
   }
 
   module _ (W : World) (g : Good ds W) (s : ℕ) (isIn : T (isInput (cellAt (W .state) s .eqn))) where
-    abbrev M : State
+    abbrev pub M : State
     M = W .state
 
     there : s < length M
@@ -126,10 +126,10 @@ module _ (ds : List Declared) where
 
     -- ---- a reading
     module _ (t : ℕ) (v : ℤ) (l : cellAt M s .bound ≤ t) (h : t < horizon) where
-      abbrev R : State
+      abbrev pub R : State
       R = raise s (suc t) (ev t v ∷ []) M
 
-      abbrev Y : World
+      abbrev pub Y : World
       Y = then (reading s t v) W (done (arrivals s (ev t v ∷ [])) R)
 
       R-cases : (P : ℕ → ℕ → Type 0) → ((i : ℕ) → (i ≡ s → ⊥) → P i (cellAt M i .bound)) → P s (suc t) → (i : ℕ) → P i (cellAt R i .bound)
@@ -153,7 +153,7 @@ module _ (ds : List Declared) where
           R-cases (λ i b. b ≤ p → found (Y .accepted i) p ≡ none) (λ i n k. rw (others i n) (g .above i p k))
           (λ k. rw own (grown-at p ∙ rw (g .above s p (omega arith), ne-eqb t p (λ e. omega arith)))) i
 
-      before : (rd : Streams) → Agrees ds rd Y → Agrees ds rd W
+      pub before : (rd : Streams) → Agrees ds rd Y → Agrees ds rd W
       before rd a = record { below = λ i j p k. a .below i j p (let u = R-up i in omega arith) ∙ go i p k (look (eqb i s)) }
         where
           go : (i p : ℕ) → p < cellAt M i .bound → Is (eqb i s) → found (Y .accepted i) p ≡ found (W .accepted i) p
@@ -173,6 +173,10 @@ module _ (ds : List Declared) where
           event {t = t} {v = v} l (λ p j k. now rd S sol a p (omega arith) ∙ rw (g .above s p j, ne-eqb t p (λ e. omega arith)))
           (now rd S sol a t (omega arith) ∙ rw (g .above s t l, eqb-self t))
 
+      -- the step may be made
+      pub rise : (rd S : Streams) → Solves (planOf ds) rd S horizon → Agrees ds rd Y → Rise S M s (suc t) (ev t v ∷ [])
+      rise rd S sol a = record { there = there; grows = omega arith; top = h; near = ahead-input (cellAt M s .eqn) isIn M (suc t); comes = comes rd S sol a }
+
       reading-good : Good ds Y
       reading-good = record {
         shape = raise-shape M s (suc t) (ev t v ∷ []) there (g .shape);
@@ -183,7 +187,7 @@ module _ (ds : List Declared) where
             let r = g .right rd S sol (before rd a) in
             let n = comes rd S sol a in
             record {
-              tracks = raise-tracks S M (r .tracks) s (suc t) (ev t v ∷ []) there (omega arith) h (ahead-input (cellAt M s .eqn) isIn M (suc t)) n;
+              tracks = raise-tracks S M (r .tracks) s (suc t) (ev t v ∷ []) (rise rd S sol a);
               handed = λ i o. r .handed i (rw (raise-out s (suc t) (ev t v ∷ []) M there i) at o) ∙ ap (λ n. events (S i) n) (sym (raise-next s (suc t) (ev t v ∷ []) M there i));
               came = λ i k. ap (λ x. W .came i ++ x) (into-one i s (ev t v))
                   ∙ R-cases (λ i b. i < length ds → W .came i ++ cond (eqb s i) (ev t v ∷ []) [] ≡ events (S i) b)

@@ -26,7 +26,7 @@ use Rattle.machine.proofs.Window.{Seen}
 use Rattle.machine.proofs.Rising.{drop-more}
 use Rattle.machine.proofs.Release.{each-read, among, read-among, waiting-le-reader, waiting-grows, Grown, releases-at, releases-looser, looser-waiting}
 use Rattle.runs.proofs.Kept.{keptOf, kept-cong, kept-told, kept-absorbed, Edge}
-use Rattle.runs.proofs.Tracks.{cut, cut-yes, cut-no, cut-quiet, cut-event, known, Ahead, ahead-grows, Tracks, New, quiet, event, new-grows, new-none, new-events, held-shows}
+use Rattle.runs.proofs.Tracks.{cut, cut-yes, cut-no, cut-quiet, cut-event, known, Ahead, ahead-grows, Tracks, New, quiet, event, Rise, new-grows, new-none, new-events, held-shows}
 
 -- ---- a reader ahead of the new event, a delay of it, is just ahead
 
@@ -48,8 +48,7 @@ edge-self (two g c d) s t y q = tt
 edge-self (last c d) s t y q = tt
 edge-self (delay c d) s t y q = λ p. q
 
-module _ (S : Streams) (M : State) (inv : Tracks S M) (s y : ℕ) (new : List Event) (there : s < length M) (grows : cellAt M s .bound < y)
-    (top : y ≤ horizon) (near : Ahead (cellAt M s .eqn) M y) (comes : New (S s) (cellAt M s .bound) y new) where
+module _ (S : Streams) (M : State) (inv : Tracks S M) (s y : ℕ) (new : List Event) (rise : Rise S M s y new) where
   -- ---- the bound goes up
   abbrev pub M₁ : State
   M₁ = set M s (advance y new (cellAt M s))
@@ -58,13 +57,13 @@ module _ (S : Streams) (M : State) (inv : Tracks S M) (s y : ℕ) (new : List Ev
   C i = cellAt M₁ i
 
   pub C-self : C s ≡ advance y new (cellAt M s)
-  C-self = getD-set-same M s (advance y new (cellAt M s)) absent there
+  C-self = getD-set-same M s (advance y new (cellAt M s)) absent (rise .there)
 
   pub C-other : (i : ℕ) → (i ≡ s → ⊥) → C i ≡ cellAt M i
   C-other i n = getD-set-other M s i (advance y new (cellAt M s)) absent n
 
   C-cases : (P : ℕ → Cell → Type 0) → ((i : ℕ) → (i ≡ s → ⊥) → P i (cellAt M i)) → P s (advance y new (cellAt M s)) → (i : ℕ) → P i (C i)
-  C-cases P = set-cases P M s (advance y new (cellAt M s)) there
+  C-cases P = set-cases P M s (advance y new (cellAt M s)) (rise .there)
 
   C-eqn : (i : ℕ) → C i .eqn ≡ cellAt M i .eqn
   C-eqn = C-cases (λ i c. c .eqn ≡ cellAt M i .eqn) (λ i n. refl) refl
@@ -81,7 +80,7 @@ module _ (S : Streams) (M : State) (inv : Tracks S M) (s y : ℕ) (new : List Ev
   pub C-new : (i : ℕ) → (es : List Event) × New (S i) (cellAt M i .bound) (C i .bound) es × (C i .held ≡ cellAt M i .held ++ es)
   C-new =
       C-cases (λ i c. (es : List Event) × New (S i) (cellAt M i .bound) (c .bound) es × (c .held ≡ cellAt M i .held ++ es))
-      (λ i n. ([], new-none (S i) (cellAt M i .bound), sym (append-nil (cellAt M i .held)))) (new, comes, refl)
+      (λ i n. ([], new-none (S i) (cellAt M i .bound), sym (append-nil (cellAt M i .held)))) (new, (rise .comes), refl)
 
   pub shows : (i : ℕ) → Seen (known S M₁ i) (min (leastWaiting i M) (cellAt M i .bound)) (view (C i))
   shows i =
@@ -94,7 +93,7 @@ module _ (S : Streams) (M : State) (inv : Tracks S M) (s y : ℕ) (new : List Ev
 
   pub own-kept : absorb (C s .eqn) (C s) (C (argA (C s .eqn))) (C (argB (C s .eqn))) ≡ keptOf (C s .eqn) (known S M₁) s y
   own-kept =
-      kept-absorbed (known S M) (known S M₁) s (cellAt M s .bound) y grows same-below C (λ i. min (leastWaiting i M) (cellAt M i .bound)) shows (omega arith) (ap (λ c. c .bound) C-self) (C s .eqn)
+      kept-absorbed (known S M) (known S M₁) s (cellAt M s .bound) y (rise .grows) same-below C (λ i. min (leastWaiting i M) (cellAt M i .bound)) shows (omega arith) (ap (λ c. c .bound) C-self) (C s .eqn)
       (each-map (λ a h. let x = waiting-le-reader a M s (rw (C-eqn s) at h) in omega arith) (reads (C s .eqn)) (each-read (C s .eqn)))
       (ap (λ c. c .kept) C-self ∙ inv .kept s ∙ ap (λ e. keptOf e (known S M) s (cellAt M s .bound)) (sym (C-eqn s)))
 
@@ -104,7 +103,7 @@ module _ (S : Streams) (M : State) (inv : Tracks S M) (s y : ℕ) (new : List Ev
   self₂ : cellAt M₂ s ≡ withKept (keptOf (C s .eqn) (known S M₁) s (C s .bound)) (C s)
   unfolding write absorbed
   self₂ =
-      getD-set-same M₁ s (withKept (absorb (C s .eqn) (C s) (C (argA (C s .eqn))) (C (argB (C s .eqn)))) (C s)) absent (rw (length-set M s (advance y new (cellAt M s))) there)
+      getD-set-same M₁ s (withKept (absorb (C s .eqn) (C s) (C (argA (C s .eqn))) (C (argB (C s .eqn)))) (C s)) absent (rw (length-set M s (advance y new (cellAt M s))) (rise .there))
       ∙ ap (λ k. withKept k (C s)) (own-kept ∙ ap (λ x. keptOf (C s .eqn) (known S M₁) s x) (sym (ap (λ c. c .bound) C-self)))
 
   other₂ : (i : ℕ) → (i ≡ s → ⊥) → cellAt M₂ i ≡ withKept (keptOf (C i .eqn) (known S M) i (C i .bound)) (C i)
@@ -192,7 +191,7 @@ module _ (S : Streams) (M : State) (inv : Tracks S M) (s y : ℕ) (new : List Ev
       ap (λ es. cellAt (tell s es M₂) i) b ∙ ap (λ N. cellAt N i) (tell-one t v M₂) ∙ told-event t v l n e a i
 
   cells₃ : (i : ℕ) → cellAt M₃ i ≡ withKept (keptOf (C i .eqn) (known S M₁) i (C i .bound)) (C i)
-  cells₃ = cells₃-of comes refl refl
+  cells₃ = cells₃-of (rise .comes) refl refl
 
   -- ---- release
   abbrev freed : List ℕ
@@ -264,7 +263,7 @@ module _ (S : Streams) (M : State) (inv : Tracks S M) (s y : ℕ) (new : List Ev
           rw (j, c, w) (inv .held i)
 
   ahead₄ : (i : ℕ) → Ahead (C i .eqn) M (C i .bound)
-  ahead₄ = C-cases (λ i c. Ahead (c .eqn) M (c .bound)) (λ i n. inv .ahead i) near
+  ahead₄ = C-cases (λ i c. Ahead (c .eqn) M (c .bound)) (λ i n. inv .ahead i) (rise .near)
 
   raise-is : raise s y new M ≡ M₄
   unfolding raise
@@ -275,7 +274,7 @@ module _ (S : Streams) (M : State) (inv : Tracks S M) (s y : ℕ) (new : List Ev
     held = λ i. ap (λ c. c .held) (cells₄ i) ∙ rw (waiting₄ i, bound₄ i) (held₄ i);
     kept = λ i. ap (λ c. c .kept) (cells₄ i) ∙ rw (eqn₄ i, bound₄ i) (kept-cong (C i .eqn) (known S M₁) (known S M₄) i (C i .bound) (λ j p l. ap (λ k. cut (S j) k p) (sym (bound₄ j))));
     ahead = λ i. rw (eqn₄ i, bound₄ i) (ahead-grows (C i .eqn) M M₄ (C i .bound) (λ j. let x = C-up j in let z = bound₄ j in omega arith) (ahead₄ i));
-    top = λ i. rw (bound₄ i) (C-cases (λ i c. c .bound ≤ horizon) (λ i n. inv .top i) top i);
+    top = λ i. rw (bound₄ i) (C-cases (λ i c. c .bound ≤ horizon) (λ i n. inv .top i) (rise .top) i);
     taken = λ i. let e = ap (λ c. c .next) (cells₄ i) in let f = bound₄ i in let x = C-next i in let z = C-up i in let u = inv .taken i in omega arith;
   }
 

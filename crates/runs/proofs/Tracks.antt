@@ -147,3 +147,12 @@ cut-event f lo t p l n d = cut-quiet f lo t p l n ∙ go (decLt p t)
     go : Dec (p < t) → cut f t p ≡ cut f (suc t) p
     go (yes c) = rw (cut-yes f t p c, cut-yes f (suc t) p (omega arith))
     go (no c) = rw (cut-no f t p (omega arith), cut-no f (suc t) p (omega arith))
+
+-- ---- a step that may be made: stream s goes on to y, with these new events
+
+pub record Rise (S : Streams) (M : State) (s y : ℕ) (new : List Event) : Type 0 where
+  pub there : s < length M
+  pub grows : cellAt M s .bound < y
+  pub top : y ≤ horizon
+  pub near : Ahead (cellAt M s .eqn) M y
+  pub comes : New (S s) (cellAt M s .bound) y new
