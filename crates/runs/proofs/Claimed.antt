@@ -40,7 +40,7 @@ module _ (ds : List Declared) (keeps : Keeps ds) (cs : List Call) (typed : AllTy
   pub good : Good ds W
   good = calls-good ds cs (start ds) typed (start-good ds)
 
-  state-is : W .state ≡ final ds cs
+  pub state-is : W .state ≡ final ds cs
   state-is = worlds-state cs (start ds)
 
   module _ (S : Streams) (sol : Solves (planOf ds) (readings ds cs) S horizon) where

@@ -16,3 +16,4 @@ pub mod Reached
 pub mod Whole
 pub mod Tidy
 pub mod Local
+pub mod RunTidy
