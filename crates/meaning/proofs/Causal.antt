@@ -1,11 +1,11 @@
--- What the table reads: the undelayed arguments at the stamp itself, and everything only before it.
+-- What the table reads: readings and undelayed arguments at the stamp itself, and everything before it.
 use mathlib.Core.Path.{_≡_, refl, ap}
 use mathlib.Core.Bool.{Bool, _&&_}
 use Prim.Native.Nat.{ℕ, zero, suc, _<_}
 use native.Mathlib.Nat.{lt-suc-self}
 use native.Mathlib.Omega.{arith}
-use lib.Dec.{ltb}
-use Rattle.meaning.specs.Plan.{Eqn, input, nil, unit, one, two, last, delay, undelayed}
+use lib.Dec.{T, ltb}
+use Rattle.meaning.specs.Plan.{Eqn, input, nil, unit, one, two, last, delay, isInput, undelayed}
 use Rattle.meaning.specs.Events.{Stream, Streams, has, events}
 use Rattle.meaning.specs.Table.{latest, any-below, fires, delay-at, at}
 use Rattle.meaning.proofs.Each.{Each}
@@ -30,11 +30,11 @@ unfolding fires
 fires-cong a b d a′ b′ d′ t ha hb hd =
     any-cong t _ _ λ p l. rw (ha p l, hb p l, hd p l, any-cong t (λ q. ltb p q && has (b q)) (λ q. ltb p q && has (b′ q)) (λ q m. rw (hb q m)))
 
-pub at-cong : (e : Eqn) (rd rd′ S S′ : Streams) (s t : ℕ) → rd s t ≡ rd′ s t
+pub at-cong : (e : Eqn) (rd rd′ S S′ : Streams) (s t : ℕ) → (T (isInput e) → rd s t ≡ rd′ s t)
     → Each (λ a. S a t ≡ S′ a t) (undelayed e) → ((a : ℕ) → SameBelow t (S a) (S′ a))
     → at e rd S s t ≡ at e rd′ S′ s t
 unfolding at
-at-cong input rd rd′ S S′ s t r now past = r
+at-cong input rd rd′ S S′ s t r now past = r tt
 at-cong nil rd rd′ S S′ s t r now past = refl
 at-cong unit rd rd′ S S′ s t r now past = refl
 at-cong (one f a) rd rd′ S S′ s t r now past = rw (now .0)

@@ -1,13 +1,12 @@
 -- A stream is clear at a depth if no way of undelayed arguments from it is as long; clear streams lie on no cycle.
-use mathlib.Core.Path.{_≡_, refl}
-use mathlib.Core.Bool.{Bool, true, false}
-use mathlib.Core.List.{List, [], _∷_, List·Memᴰ}
+use mathlib.Core.Bool.{Bool, false}
+use mathlib.Core.List.{[]}
 use Prim.Native.Nat.{ℕ, zero, suc, _+_, _≤_}
 use native.Mathlib.Nat.{zero-add, suc-add}
 use lib.Dec.{T}
 use lib.ListN.{length, List·getD-eq-default}
 use Rattle.meaning.specs.Plan.{nil, Plan, eqnAt, undelayed}
-use Rattle.meaning.specs.Cycle.{Leads, step, then, Acyclic}
+use Rattle.meaning.specs.Cycle.{Leads, step, then}
 use Rattle.meaning.proofs.Each.{all, Each, each-map, each-at, all-each, each-to-all}
 
 -- every way of undelayed arguments from s has fewer than d steps

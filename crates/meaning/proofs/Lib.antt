@@ -1,4 +1,6 @@
+pub mod Computed
 pub mod Tests
+pub mod Options
 pub mod Each
 pub mod Induction
 pub mod Clear
@@ -6,5 +8,8 @@ pub mod Free
 pub mod Causal
 pub mod Unique
 pub mod Exists
+pub mod Within
 pub mod Ways
 pub mod Solution
+pub mod CycleTest
+pub mod CasesHold

@@ -3,3 +3,4 @@ pub mod Events
 pub mod Table
 pub mod Cycle
 pub mod Meaning
+pub mod Cases

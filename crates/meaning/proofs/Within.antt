@@ -1,0 +1,57 @@
+-- Every argument is a stream of the plan: as a property, and as a test.
+use mathlib.Core.Bool.{Bool}
+use mathlib.Core.List.{List·Memᴰ, List·Memᴰ·not-nil}
+use Prim.Native.Nat.{ℕ, zero, suc, _<_}
+use native.Mathlib.Nat.{not-suc-le-zero}
+use native.Mathlib.Omega.{arith}
+use native.Mathlib.Decide.{decLt}
+use lib.Dec.{T, ltb, ltb→lt}
+use lib.ListN.{length, List·getD-eq-default}
+use Rattle.meaning.specs.Plan.{Eqn, input, nil, unit, one, two, last, delay, Plan, eqnAt, reads, undelayed}
+use Rattle.meaning.specs.Cycle.{downFrom}
+use Rattle.meaning.proofs.Each.{Each, all, each-map, each-at, all-each}
+use Rattle.meaning.proofs.Induction.{below-suc}
+
+-- every undelayed argument is a stream of the plan
+abbrev pub Within : Plan → Type 0
+Within plan = (s a : ℕ) → List·Memᴰ a (undelayed (eqnAt plan s)) → a < length plan
+
+-- each stream below n, one after the other
+pub each-below : (P : ℕ → Type 0) (n : ℕ) → Each P (downFrom n) → (s : ℕ) → s < n → P s
+unfolding downFrom
+each-below P zero h s l = absurd (not-suc-le-zero l)
+each-below P (suc n) h s l = below-suc P n (each-below P n (h .1)) (h .0) s l
+
+pub below-each : (P : ℕ → Type 0) (n : ℕ) → ((s : ℕ) → s < n → P s) → Each P (downFrom n)
+unfolding downFrom
+below-each P zero h = tt
+below-each P (suc n) h = (h n (omega arith), below-each P n (λ s l. h s (omega arith)))
+
+pub undelayed-read : (P : ℕ → Type 0) (e : Eqn) → Each P (reads e) → Each P (undelayed e)
+undelayed-read P input h = tt
+undelayed-read P nil h = tt
+undelayed-read P unit h = tt
+undelayed-read P (one f a) h = h
+undelayed-read P (two g a b) h = h
+undelayed-read P (last a b) h = h .1
+undelayed-read P (delay a b) h = h .1
+
+pub reads-within : (plan : Plan) → ((s : ℕ) → s < length plan → Each (λ a. a < length plan) (reads (eqnAt plan s))) → Within plan
+reads-within plan below s a m = go (decLt s (length plan))
+  where
+    go : Dec (s < length plan) → a < length plan
+    go (yes l) = each-at (λ a. a < length plan) (undelayed (eqnAt plan s)) (undelayed-read (λ a. a < length plan) (eqnAt plan s) (below s l)) m
+    go (no l) = absurd (List·Memᴰ·not-nil (rw (List·getD-eq-default plan nil {n = s} (omega arith)) at m))
+
+abbrev pub readsBelow : Plan → ℕ → Bool
+readsBelow plan s = all (λ a. ltb a (length plan)) (reads (eqnAt plan s))
+
+unfoldable pub within : Plan → Bool
+unfolding downFrom
+within plan = all (readsBelow plan) (downFrom (length plan))
+
+pub within-sound : (plan : Plan) → T (within plan) → Within plan
+unfolding within
+within-sound plan h =
+    reads-within plan (λ s l. each-map (λ a t. ltb→lt a (length plan) t) (reads (eqnAt plan s)) (all-each (λ a. ltb a (length plan)) (reads (eqnAt plan s))
+    (each-below (λ s. T (readsBelow plan s)) (length plan) (all-each (readsBelow plan) (downFrom (length plan)) h) s l)))

@@ -1,0 +1,125 @@
+-- The worked cases: plans with readings, and the events that a stream of each must have.
+use Prim.Native.Nat.{ℕ}
+use mathlib.Core.Bool.{Bool, true, false}
+use mathlib.Core.List.{List, [], _∷_}
+use lib.ListN.{getD}
+use lib.IntN.{ℤ, pos, negsuc}
+use Rattle.meaning.specs.Plan.{Unary, time, neg, set, plus, add, sub, mul, div, rem, lt, le, eq, Binary, calc, keep, merge, input, nil, unit, one, two, last, delay, Plan}
+use Rattle.meaning.specs.Events.{Event, ev, Streams, found}
+
+pub record Case : Type 0 where
+  pub plan : Plan
+  -- the readings of streams 0, 1, ..
+  pub readings : List (List Event)
+  pub stream : ℕ
+  -- the events expected of the stream below the stamp `until`
+  pub until : ℕ
+  pub expected : List Event
+
+abbrev pub given : List (List Event) → Streams
+given rs s = found (getD rs s [])
+
+abbrev pub case : Plan → List (List Event) → ℕ → ℕ → List Event → Case
+case p r s u e = record { plan = p; readings = r; stream = s; until = u; expected = e }
+
+-- the count of visits of document 01
+abbrev pub count : Plan
+count = input ∷ unit ∷ one (set (pos 0)) 1 ∷ last 5 0 ∷ one (plus (pos 1)) 3 ∷ two merge 4 2 ∷ []
+
+-- a delay that sets itself again each time it fires
+abbrev pub ticking : Plan
+ticking = unit ∷ two merge 3 0 ∷ one (set (pos 7)) 1 ∷ delay 2 0 ∷ []
+
+-- one operator, and the events of its arguments
+abbrev pub unary : Unary → List Event → List Event → Case
+unary f a e = case (input ∷ one f 0 ∷ []) (a ∷ []) 1 4 e
+
+abbrev pub binary : Binary → List Event → List Event → List Event → Case
+binary g a b e = case (input ∷ input ∷ two g 0 1 ∷ []) (a ∷ b ∷ []) 2 4 e
+
+abbrev pub lasting : List Event → List Event → List Event → Case
+lasting a b e = case (input ∷ input ∷ last 0 1 ∷ []) (a ∷ b ∷ []) 2 6 e
+
+abbrev pub delayed : List Event → List Event → List Event → Case
+delayed a b e = case (input ∷ input ∷ delay 0 1 ∷ []) (a ∷ b ∷ []) 2 15 e
+
+-- the least and the greatest value
+abbrev pub least : ℤ
+least = negsuc 9223372036854775807
+
+abbrev pub greatest : ℤ
+greatest = pos 9223372036854775807
+
+unfoldable pub cases : List Case
+cases =
+    -- M1: the count. M2: a visit at stamp 0 alone: only value 0 at 0.
+    case count ((ev 3 (pos 7) ∷ ev 5 (pos 7) ∷ []) ∷ []) 5 7 (ev 0 (pos 0) ∷ ev 3 (pos 1) ∷ ev 5 (pos 2) ∷ [])
+    ∷ case count ((ev 0 (pos 7) ∷ []) ∷ []) 5 4 (ev 0 (pos 0) ∷ [])
+    -- M3: last, a=7 at 3, b at 3: none. M4: b at 4: 7.
+    ∷ lasting (ev 3 (pos 7) ∷ []) (ev 3 (pos 1) ∷ []) []
+    ∷ lasting (ev 3 (pos 7) ∷ []) (ev 4 (pos 1) ∷ []) (ev 4 (pos 7) ∷ [])
+    -- M5: a delay of 10 set at 0, b again at 10: fires at 10. M6: b at 9 with no a event: no firing at 10.
+    ∷ delayed (ev 0 (pos 10) ∷ []) (ev 0 (pos 1) ∷ ev 10 (pos 1) ∷ []) (ev 10 (pos 0) ∷ [])
+    ∷ delayed (ev 0 (pos 10) ∷ []) (ev 0 (pos 1) ∷ ev 9 (pos 1) ∷ []) []
+    -- M7: delay 10 at stamp 3, no set point there: nothing. M8: delay 0 at a set point: nothing.
+    ∷ delayed (ev 3 (pos 10) ∷ []) [] []
+    ∷ delayed (ev 0 (pos 0) ∷ []) (ev 0 (pos 1) ∷ []) []
+    -- M9: −7 div 2 is −3, rem −1
+    ∷ binary (calc div) (ev 0 (negsuc 6) ∷ []) (ev 0 (pos 2) ∷ []) (ev 0 (negsuc 2) ∷ [])
+    ∷ binary (calc rem) (ev 0 (negsuc 6) ∷ []) (ev 0 (pos 2) ∷ []) (ev 0 (negsuc 0) ∷ [])
+    -- M10: the least value div −1: none; rem −1: 0
+    ∷ binary (calc div) (ev 0 least ∷ []) (ev 0 (negsuc 0) ∷ []) []
+    ∷ binary (calc rem) (ev 0 least ∷ []) (ev 0 (negsuc 0) ∷ []) (ev 0 (pos 0) ∷ [])
+    -- M11: 3,037,000,499 squared is 9,223,372,030,926,249,001. M12: 3,037,000,500 squared: none.
+    ∷ binary (calc mul) (ev 0 (pos 3037000499) ∷ []) (ev 0 (pos 3037000499) ∷ []) (ev 0 (pos 9223372030926249001) ∷ [])
+    ∷ binary (calc mul) (ev 0 (pos 3037000500) ∷ []) (ev 0 (pos 3037000500) ∷ []) []
+    -- a delay that sets itself again at its own firing
+    ∷ case ticking [] 3 40 (ev 7 (pos 0) ∷ ev 14 (pos 0) ∷ ev 21 (pos 0) ∷ ev 28 (pos 0) ∷ ev 35 (pos 0) ∷ [])
+    -- a delay that b sets anew fires at the later due stamp alone; a value below 0 fires nothing
+    ∷ delayed (ev 0 (pos 10) ∷ ev 5 (pos 7) ∷ []) (ev 0 (pos 1) ∷ ev 5 (pos 1) ∷ []) (ev 12 (pos 0) ∷ [])
+    ∷ delayed (ev 0 (negsuc 2) ∷ []) (ev 0 (pos 1) ∷ []) []
+    -- last of itself: taken, never an event
+    ∷ case (last 0 1 ∷ input ∷ []) ([] ∷ (ev 0 (pos 1) ∷ ev 2 (pos 1) ∷ []) ∷ []) 0 4 []
+    -- keep: only where b is not 0. merge: a's event, or else b's.
+    ∷ binary keep (ev 0 (pos 5) ∷ ev 1 (pos 6) ∷ ev 2 (pos 7) ∷ []) (ev 0 (pos 1) ∷ ev 1 (pos 0) ∷ ev 3 (pos 1) ∷ []) (ev 0 (pos 5) ∷ [])
+    ∷ binary merge (ev 0 (pos 5) ∷ ev 1 (pos 6) ∷ []) (ev 1 (pos 8) ∷ ev 2 (pos 9) ∷ []) (ev 0 (pos 5) ∷ ev 1 (pos 6) ∷ ev 2 (pos 9) ∷ [])
+    -- the operators of one argument
+    ∷ unary time (ev 3 (pos 7) ∷ []) (ev 3 (pos 3) ∷ [])
+    ∷ unary (set (pos 9)) (ev 3 (pos 7) ∷ []) (ev 3 (pos 9) ∷ [])
+    ∷ unary (plus (negsuc 0)) (ev 2 least ∷ ev 3 (pos 7) ∷ []) (ev 3 (pos 6) ∷ [])
+    ∷ unary neg (ev 2 least ∷ ev 3 (pos 7) ∷ []) (ev 3 (negsuc 6) ∷ [])
+    -- arithmetic: only if both have an event; nothing outside the value range, nothing for a zero divisor
+    ∷ binary (calc add) (ev 1 (pos 5) ∷ ev 2 (pos 5) ∷ ev 3 greatest ∷ []) (ev 0 (pos 3) ∷ ev 2 (pos 3) ∷ ev 3 (pos 1) ∷ []) (ev 2 (pos 8) ∷ [])
+    ∷ binary (calc sub) (ev 2 (pos 5) ∷ ev 3 least ∷ []) (ev 2 (pos 8) ∷ ev 3 (pos 1) ∷ []) (ev 2 (negsuc 2) ∷ [])
+    ∷ binary (calc div) (ev 1 (pos 5) ∷ []) (ev 1 (pos 0) ∷ []) []
+    ∷ binary (calc rem) (ev 1 (pos 5) ∷ []) (ev 1 (pos 0) ∷ []) []
+    -- comparisons give 1 or 0
+    ∷ binary (calc lt) (ev 1 (pos 1) ∷ ev 2 (pos 2) ∷ ev 3 (pos 3) ∷ []) (ev 1 (pos 2) ∷ ev 2 (pos 2) ∷ ev 3 (pos 2) ∷ []) (ev 1 (pos 1) ∷ ev 2 (pos 0) ∷ ev 3 (pos 0) ∷ [])
+    ∷ binary (calc le) (ev 1 (pos 1) ∷ ev 2 (pos 2) ∷ ev 3 (pos 3) ∷ []) (ev 1 (pos 2) ∷ ev 2 (pos 2) ∷ ev 3 (pos 2) ∷ []) (ev 1 (pos 1) ∷ ev 2 (pos 1) ∷ ev 3 (pos 0) ∷ [])
+    ∷ binary (calc eq) (ev 1 (pos 1) ∷ ev 2 (pos 2) ∷ ev 3 (pos 3) ∷ []) (ev 1 (pos 2) ∷ ev 2 (pos 2) ∷ ev 3 (pos 2) ∷ []) (ev 1 (pos 0) ∷ ev 2 (pos 1) ∷ ev 3 (pos 0) ∷ [])
+    -- nil has no event, unit one of value 0 at stamp 0
+    ∷ case (nil ∷ []) [] 0 4 []
+    ∷ case (unit ∷ []) [] 0 4 (ev 0 (pos 0) ∷ [])
+    ∷ []
+
+-- Plans, and whether the cycle test takes them
+pub record Verdict : Type 0 where
+  pub plan : Plan
+  pub taken : Bool
+
+abbrev pub verdict : Plan → Bool → Verdict
+verdict p b = record { plan = p; taken = b }
+
+unfoldable pub verdicts : List Verdict
+verdicts =
+    -- merge of itself: refused. last of itself: taken.
+    verdict (two merge 0 0 ∷ []) false
+    ∷ verdict (last 0 1 ∷ input ∷ []) true
+    -- round by two streams, and by three
+    ∷ verdict (one neg 1 ∷ one neg 0 ∷ []) false
+    ∷ verdict (input ∷ two (calc add) 0 2 ∷ two merge 0 3 ∷ one time 1 ∷ []) false
+    -- the second argument of a last or a delay is not delayed, the first is
+    ∷ verdict (input ∷ last 0 1 ∷ []) false
+    ∷ verdict (input ∷ delay 0 2 ∷ one time 1 ∷ []) false
+    ∷ verdict (input ∷ delay 2 0 ∷ one time 1 ∷ []) true
+    ∷ []
