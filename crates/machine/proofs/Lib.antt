@@ -7,3 +7,4 @@ pub mod Frame
 pub mod Moves
 pub mod Outcomes
 pub mod Small
+pub mod Greatest

@@ -19,6 +19,7 @@ use Rattle.meaning.specs.Events.{Event, Streams, found, events, has, horizon}
 use Rattle.meaning.proofs.Tests.{Is, yes!, no!, look, T-and-r, eqb-self}
 use Rattle.meaning.proofs.Each.{Each, each-map}
 use Rattle.meaning.proofs.Clear.{clear, clear-args}
+use Rattle.meaning.proofs.Within.{undelayed-read}
 use Rattle.machine.specs.State.{Cell, State, cellAt, room}
 use Rattle.machine.specs.Reach.{view, pastLatest, limit, point, stops, reach}
 use Rattle.machine.specs.Step.{argA, argB, readsIt, leastWaiting, dropBelow, canMove}
@@ -28,15 +29,6 @@ use Rattle.machine.proofs.Release.{waiting-who}
 use Rattle.machine.proofs.Moves.{reachOf, reach-gt, goal-gt, can-of, no-input}
 use Rattle.runs.proofs.Kept.{keptOf, pointOf, point-le}
 use Rattle.runs.proofs.Tracks.{known, Tracks}
-
-args-in : (P : ℕ → Type 0) (e : Eqn) → Each P (reads e) → Each P (undelayed e)
-args-in P input h = tt
-args-in P nil h = tt
-args-in P unit h = tt
-args-in P (one f a) h = h
-args-in P (two g a b) h = h
-args-in P (last a b) h = h .1
-args-in P (delay a b) h = h .1
 
 each-zip : (P Q R : ℕ → Type 0) → ((a : ℕ) → P a → Q a → R a) → (xs : List ℕ) → Each P xs → Each Q xs → Each R xs
 each-zip P Q R f [] h k = tt
@@ -109,7 +101,7 @@ module _ (S : Streams) (M : State) (inv : Tracks S M) (collected : (s : ℕ) →
       higher (suc d) s c k =
           go (decLt y (C s .bound)) (look (isInput (C s .eqn)))
           (each-zip (λ a. T (clear plan d a)) (λ a. a < length M) (λ a. y < C a .bound) (λ a c k. higher d a c k) (undelayed (C s .eqn))
-          (rw (planned s) (clear-args plan d s c)) (args-in (λ a. a < length M) (C s .eqn) (arguments s)))
+          (rw (planned s) (clear-args plan d s c)) (undelayed-read (λ a. a < length M) (C s .eqn) (arguments s)))
         where
           go : Dec (y < C s .bound) → Is (isInput (C s .eqn)) → Each (λ a. y < C a .bound) (undelayed (C s .eqn)) → y < C s .bound
           go (yes h) i w = h
