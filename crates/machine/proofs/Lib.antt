@@ -8,3 +8,4 @@ pub mod Moves
 pub mod Outcomes
 pub mod Small
 pub mod Greatest
+pub mod Worked
