@@ -17,3 +17,4 @@ pub mod Whole
 pub mod Tidy
 pub mod Local
 pub mod RunTidy
+pub mod Worked
