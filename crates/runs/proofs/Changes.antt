@@ -26,10 +26,10 @@ use Rattle.runs.specs.History.{into}
 use Rattle.runs.specs.Claim.{planOf}
 use Rattle.runs.proofs.Tracks.{Tracks, held-rising, held-from-mark, New, Rise, new-events}
 use Rattle.runs.proofs.Raise.{raise-tracks}
-use Rattle.runs.proofs.Decide.{Finds, ahead-finds, finds-new, finds-le, reach-top, reach-ahead}
+use Rattle.runs.proofs.Move.{raise-shape, move-raise, rise as move-rise}
 use Rattle.runs.proofs.Marks.{collected-cell, collected-next, collect-tracks}
 use Rattle.runs.proofs.World.{World, then, into-append, Shape, Agrees, Right, Good}
-use Rattle.runs.proofs.Offers.{into-none, came-good, refused-came, raise-shape}
+use Rattle.runs.proofs.Offers.{into-none, came-good, refused-came}
 
 -- the events that come into one stream
 pub into-own : (s : ℕ) (es : List Event) → into s (arrivals s es) ≡ es
@@ -51,10 +51,6 @@ module _ (ds : List Declared) where
     abbrev pub es : List Event
     es = comesIn s M
 
-    move-is : move s M ≡ raise s (goal s M) es M
-    unfolding move
-    move-is = refl
-
     abbrev N : State
     N = raise s (goal s M) es M
 
@@ -67,29 +63,9 @@ module _ (ds : List Declared) where
     up : (i : ℕ) → cellAt M i .bound ≤ cellAt N i .bound
     up = N-cases (λ i b. cellAt M i .bound ≤ b) (λ i n. omega arith) (goal-ge s M)
 
-    comes-is : es ≡ added (ahead s M) (cellAt M s .held)
-    unfolding comesIn
-    comes-is = refl
-
     module _ (rd S : Streams) (sol : Solves (planOf ds) rd S horizon) (r : Right ds S W) where
-      row : (p : ℕ) → p < horizon → S s p ≡ at (cellAt M s .eqn) rd S s p
-      row p l = rw (g .shape .eqns s) (sol .each s p l)
-
-      equation : cellAt M s .eqn ≡ input → ⊥
-      equation = no-input (cellAt M s .eqn) (can-equation s M can)
-
-      finds : Finds (S s) (cellAt M s .bound) (reachOf s M) (ahead s M)
-      finds = ahead-finds S M (r .tracks) rd s row equation
-
-      comes : New (S s) (cellAt M s .bound) (goal s M) es
-      comes = rw comes-is (finds-new finds (cellAt M s .held))
-
-      -- the step may be made
       pub rise : Rise S M s (goal s M) es
-      rise =
-          let low = finds-le finds (cellAt M s .held) in
-          let far = reach-top S M (r .tracks) rd s row equation in
-          record { there = there; grows = can-up s M can; top = omega arith; near = reach-ahead S M (r .tracks) rd s row equation (goal s M) low; comes = comes }
+      rise = move-rise ds rd S sol M (g .shape) (r .tracks) s there can
 
       move-right : Right ds S X
       move-right =
@@ -98,7 +74,7 @@ module _ (ds : List Declared) where
             handed = λ i o. r .handed i (rw (raise-out s (goal s M) es M there i) at o) ∙ ap (λ n. events (S i) n) (sym (raise-next s (goal s M) es M there i));
             came = λ i k. N-cases (λ i b. i < length ds → W .came i ++ into i (arrivals s es) ≡ events (S i) b)
                 (λ i d k. rw (into-other i s es d) (append-nil (W .came i) ∙ r .came i k))
-                (λ k. rw (into-own s es) (ap (λ x. x ++ es) (r .came s k) ∙ sym (new-events comes))) i k;
+                (λ k. rw (into-own s es) (ap (λ x. x ++ es) (r .came s k) ∙ sym (new-events (rise .comes)))) i k;
           }
 
     moved-good : Good ds X
@@ -111,7 +87,7 @@ module _ (ds : List Declared) where
     }
 
     pub move-good : Good ds (record { state = move s M; accepted = W .accepted; known = W .known; handed = W .handed; came = λ i. W .came i ++ into i (arrivals s es) })
-    move-good = rw move-is moved-good
+    move-good = rw (move-raise s M) moved-good
 
   pub move-one-good : (W : World) → Good ds W → (s : ℕ) → Good ds (then (moving s) W (moveOne s (W .state)))
   unfolding moveOne

@@ -4,6 +4,7 @@ pub mod Raise
 pub mod Fires
 pub mod Decide
 pub mod World
+pub mod Move
 pub mod Marks
 pub mod Offers
 pub mod Changes

@@ -26,6 +26,7 @@ use Rattle.runs.specs.Claim.{planOf}
 use Rattle.runs.proofs.Tracks.{Ahead, Tracks, New, quiet, event, Rise, new-events}
 use Rattle.runs.proofs.Raise.{raise-tracks}
 use Rattle.runs.proofs.Marks.{input-is, progress-tracks, progress-events}
+use Rattle.runs.proofs.Move.{raise-shape}
 use Rattle.runs.proofs.World.{World, then, Shape, Agrees, Right, Good}
 
 pub into-none : (i : ℕ) → into i [] ≡ []
@@ -63,13 +64,6 @@ module _ (ds : List Declared) where
 
   pub refused-came : (W : World) → Good ds W → Good ds (record { state = W .state; accepted = W .accepted; known = W .known; handed = W .handed; came = λ i. W .came i ++ into i [] })
   refused-came W = came-good W (λ i. W .came i ++ into i []) (λ i. rw (into-none i) (append-nil (W .came i)))
-
-  pub raise-shape : (M : State) (s y : ℕ) (new : List Event) → s < length M → Shape ds M → Shape ds (raise s y new M)
-  raise-shape M s y new l h = record {
-    size = raise-size s y new M l ∙ h .size;
-    eqns = λ i. raise-eqn s y new M l i ∙ h .eqns i;
-    outs = λ i. raise-out s y new M l i ∙ h .outs i;
-  }
 
   module _ (W : World) (g : Good ds W) (s : ℕ) (isIn : T (isInput (cellAt (W .state) s .eqn))) where
     abbrev pub M : State
@@ -179,7 +173,7 @@ module _ (ds : List Declared) where
 
       reading-good : Good ds Y
       reading-good = record {
-        shape = raise-shape M s (suc t) (ev t v ∷ []) there (g .shape);
+        shape = raise-shape ds M s (suc t) (ev t v ∷ []) there (g .shape);
         inputs = λ i j. R-cases (λ i b. T (isInput (eqnAt (planOf ds) i)) → cond (eqb s i) (suc t) (W .known i) ≡ b)
             (λ i n j. rw (ne-eqb s i (λ e. n (sym e))) (g .inputs i j)) (λ j. rw (eqb-self s)) i j;
         above = above-now;

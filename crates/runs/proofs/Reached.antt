@@ -29,6 +29,7 @@ use Rattle.runs.specs.History.{Typed, AllTyped, after}
 use Rattle.runs.specs.Claim.{planOf, Keeps, final, readings, IsEquation, IsOutput, AtRest, Quiet, AllQuiet, RestReached}
 use Rattle.runs.proofs.Tracks.{Tracks}
 use Rattle.runs.proofs.Marks.{collected-cell, collected-next}
+use Rattle.runs.proofs.Move.{move-raise}
 use Rattle.runs.proofs.World.{Shape}
 use Rattle.runs.proofs.Numbers.{stuck-12, nothing-14}
 use Rattle.runs.proofs.Claimed.{tracks, shape}
@@ -114,10 +115,6 @@ call-run M = refl
 call-collect : (s : ℕ) (M : State) → call (collecting s) M ≡ collect s M
 unfolding call
 call-collect s M = refl
-
-move-raise : (s : ℕ) (M : State) → move s M ≡ raise s (goal s M) (comesIn s M) M
-unfolding move
-move-raise s M = refl
 
 -- something waits for collection
 abbrev waiting : Option Event → Bool
