@@ -143,6 +143,10 @@ drop-shorter w (e ∷ es) = go (look (ltb (e .stamp) w)) (drop-shorter w es)
     go (yes! q x) h = rw (drop-yes w e es q) (omega arith)
     go (no! q x) h = rw (drop-no w e es q) (omega arith)
 
+-- dropping more leaves fewer
+pub drop-fewer : (w u : ℕ) (xs : List Event) → w ≤ u → length (dropBelow u xs) ≤ length (dropBelow w xs)
+drop-fewer w u xs l = rw (sym (drop-again w u xs l)) (drop-shorter u (dropBelow w xs))
+
 pub rising-drop : (w lo hi : ℕ) (xs : List Event) → Rising lo hi xs → Rising lo hi (dropBelow w xs)
 unfolding dropBelow
 rising-drop w lo hi [] r = tt

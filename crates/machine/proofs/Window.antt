@@ -164,7 +164,7 @@ module _ (f v : Stream) (lo : ℕ) (w : Seen f lo v) where
       go (yes m) ih = rw (latest-suc v t, latest-suc f t, w .from t (omega arith), or-assoc, ih m)
       go (no m) ih = let e : k ≡ suc t = omega arith in rw e (latest-in (suc t))
 
-  seen-has : (p : ℕ) → T (has (v p)) → T (has (f p))
+  pub seen-has : (p : ℕ) → T (has (v p)) → T (has (f p))
   seen-has p h = go (decLe lo p)
     where
       go : Dec (lo ≤ p) → T (has (f p))

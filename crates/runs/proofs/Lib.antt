@@ -19,3 +19,4 @@ pub mod Tidy
 pub mod Local
 pub mod RunTidy
 pub mod Worked
+pub mod Order

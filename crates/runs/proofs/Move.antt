@@ -35,7 +35,8 @@ unfolding comesIn
 comes-is s M = refl
 
 module _ (ds : List Declared) (rd S : Streams) (sol : Solves (planOf ds) rd S horizon) (M : State) (shape : Shape ds M) (inv : Tracks S M) where
-  row : (s p : ℕ) → p < horizon → S s p ≡ at (cellAt M s .eqn) rd S s p
+  -- each stream has what its row says
+  pub row : (s p : ℕ) → p < horizon → S s p ≡ at (cellAt M s .eqn) rd S s p
   row s p l = rw (shape .eqns s) (sol .each s p l)
 
   -- what an equation finds
