@@ -20,3 +20,4 @@ pub mod Local
 pub mod RunTidy
 pub mod Worked
 pub mod Order
+pub mod RunOrder
