@@ -1,19 +1,17 @@
 -- A step changes one bound; equations, outputs, marks of collection and the other bounds stay.
 use mathlib.Core.Path.{_≡_, refl, sym, _∙_, ap}
-use mathlib.Core.Bool.{Bool, true, false, cond}
-use mathlib.Core.List.{List, [], _∷_, map}
-use Prim.Native.Nat.{ℕ, _≤_, _<_}
+use mathlib.Core.List.{List, [], _∷_}
+use Prim.Native.Nat.{ℕ, _<_}
 use native.Mathlib.Omega.{arith}
 use native.Mathlib.Decide.{decLt}
-use lib.Dec.{T, not-T}
+use lib.Dec.{T}
 use lib.ListN.{length, set, length-set, length-map}
-use lib.Seq.{getD-set-same}
-use Rattle.meaning.specs.Plan.{isInput, reads, nil}
+use Rattle.meaning.specs.Plan.{isInput, reads}
 use Rattle.meaning.specs.Events.{Event}
-use Rattle.machine.specs.State.{Cell, State, absent, cellAt, withKept}
-use Rattle.machine.specs.Step.{argA, argB, advance, absorb, absorbed, write, told, tell, raise, releases, leastWaiting}
+use Rattle.machine.specs.State.{Cell, State, cellAt, withKept}
+use Rattle.machine.specs.Step.{argA, argB, advance, absorb, absorbed, write, told, tell, raise, leastWaiting}
 use Rattle.machine.proofs.Cells.{set-cases, told-at, beyond}
-use Rattle.machine.proofs.Release.{releases-looser, Looser, Grown, waiting-grows}
+use Rattle.machine.proofs.Release.{releases-looser, Looser, waiting-grows}
 
 -- N is M but for held events and kept data
 pub record Frame (M N : State) : Type 0 where

@@ -1,8 +1,8 @@
 -- The reach is the greatest bound that document 01's sentence allows, or the present bound if that is greater.
-use mathlib.Core.Path.{_≡_, refl, sym, ap}
+use mathlib.Core.Path.{_≡_}
 use mathlib.Core.Logic.{_⊎_, inl, inr}
-use mathlib.Core.Bool.{Bool, true, false, not, cond, _&&_}
-use Prim.Native.Nat.{ℕ, zero, suc, pred, _+_, _-_, _≤_, _<_, min, max}
+use mathlib.Core.Bool.{Bool, false}
+use Prim.Native.Nat.{ℕ, suc, pred, _+_, _-_, _≤_, _<_, min, max}
 use native.Mathlib.Omega.{arith}
 use native.Mathlib.Decide.{decLt, decLe}
 use lib.Dec.{T, ltb, lt→ltb, ltb→lt, nltb→le}
@@ -10,7 +10,7 @@ use Rattle.meaning.specs.Plan.{Eqn, input, nil, unit, one, two, last, delay}
 use Rattle.meaning.specs.Events.{has, horizon}
 use Rattle.meaning.proofs.Tests.{T-and, T-and-l, T-and-r}
 use Rattle.machine.specs.State.{Cell}
-use Rattle.machine.specs.Reach.{view, pastLatest, least, limit, point, stops, reach}
+use Rattle.machine.specs.Reach.{view, pastLatest, least, point, stops, reach}
 use Rattle.machine.proofs.Search.{least-ge, least-le, least-before, least-hit, least-min}
 use Rattle.machine.proofs.Window.{past-le, past-max, past-hit}
 

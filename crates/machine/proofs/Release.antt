@@ -1,21 +1,21 @@
 -- Who waits for a stream's events, and what release does: only held events change.
 use mathlib.Core.Path.{_≡_, refl, sym, _∙_, ap}
 use mathlib.Core.Logic.{_⊎_, inl, inr}
-use mathlib.Core.Bool.{Bool, true, false, not, cond, _||_}
+use mathlib.Core.Bool.{Bool, true, false, cond, _||_}
 use mathlib.Core.List.{List, [], _∷_}
-use Prim.Native.Nat.{ℕ, zero, suc, _+_, _≤_, _<_, min}
+use Prim.Native.Nat.{ℕ, zero, suc, _≤_, _<_, min}
 use native.Mathlib.Omega.{arith}
 use native.Mathlib.Decide.{decLt}
-use lib.Dec.{T, eqb, eqb→eq, eqb-refl, T-not, not-T}
-use lib.ListN.{length, getD, set, length-set}
+use lib.Dec.{T, eqb, eqb→eq, eqb-refl}
+use lib.ListN.{length, set, length-set}
 use lib.Seq.{set-out, getD-set-same, getD-set-other}
 use Rattle.meaning.specs.Plan.{Eqn, input, nil, unit, one, two, last, delay, reads}
 use Rattle.meaning.specs.Events.{Event, horizon}
-use Rattle.meaning.proofs.Tests.{Is, yes!, no!, look, true-is, false-is, T-or, T-or-l, T-or-r, eqb-self}
-use Rattle.meaning.proofs.Each.{Each, each-map}
+use Rattle.meaning.proofs.Tests.{Is, yes!, no!, look, true-is, T-or, T-or-l, T-or-r}
+use Rattle.meaning.proofs.Each.{Each}
 use Rattle.machine.specs.State.{Cell, State, absent, cellAt, withHeld}
 use Rattle.machine.specs.Step.{readsIt, leastReader, leastWaiting, dropBelow, release, releases}
-use Rattle.machine.proofs.Cells.{set-cases, beyond, ne-eqb, eqb-ne}
+use Rattle.machine.proofs.Cells.{beyond, eqb-ne}
 use Rattle.machine.proofs.Rising.{drop-again}
 
 -- ---- reading

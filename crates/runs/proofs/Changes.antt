@@ -1,34 +1,33 @@
 -- Move, run and collect, each refused or done, keep what holds.
 use mathlib.Core.Path.{_≡_, refl, sym, _∙_, ap}
-use mathlib.Core.Bool.{Bool, true, false, not, cond, _&&_}
+use mathlib.Core.Bool.{not, cond}
 use mathlib.Core.Option.{Option, none, some}
 use mathlib.Core.List.{List, [], _∷_, _++_, append-nil, append-assoc}
-use Prim.Native.Nat.{ℕ, zero, suc, _+_, _≤_, _<_}
+use Prim.Native.Nat.{ℕ, zero, suc, _≤_, _<_}
 use native.Mathlib.Omega.{arith}
-use native.Mathlib.Decide.{decLt, decLe}
-use lib.Dec.{T, leb, ltb, eqb, eqb→eq, eqb-refl, ltb→lt, nltb→le, T-not, not-T}
+use native.Mathlib.Decide.{decLt}
+use lib.Dec.{T, ltb, eqb, ltb→lt, T-not}
 use lib.ListN.{length, set, length-set}
-use lib.IntN.{ℤ}
-use Rattle.meaning.specs.Plan.{Eqn, input, eqnAt, isInput}
-use Rattle.meaning.specs.Events.{Event, ev, Stream, Streams, found, events, orElse, horizon}
+use Rattle.meaning.specs.Plan.{eqnAt, isInput}
+use Rattle.meaning.specs.Events.{Event, ev, Streams, events, horizon}
 use Rattle.meaning.specs.Table.{at, Solves}
-use Rattle.meaning.proofs.Tests.{Is, yes!, no!, look, true-is, false-is, not-twice, eqb-self}
-use Rattle.machine.specs.State.{Declared, Cell, State, cellAt, withNext}
-use Rattle.machine.specs.Step.{ahead, newBound, added, canMove, comesIn, move, raise, release, leastWaiting, dropBelow}
-use Rattle.machine.specs.Calls.{moving, running, collecting, Arrival, arrivals, Outcome, refused, done, unless, noEquation, moveOne, lowest, oneMore, run, oldest, handOut, collect}
-use Rattle.machine.proofs.Cells.{set-cases, ne-eqb, eqb-ne}
+use Rattle.meaning.proofs.Tests.{Is, yes!, no!, look, not-twice, eqb-self}
+use Rattle.machine.specs.State.{Declared, State, cellAt, withNext}
+use Rattle.machine.specs.Step.{canMove, comesIn, move, raise, release}
+use Rattle.machine.specs.Calls.{moving, running, collecting, arrivals, Outcome, noEquation, moveOne, lowest, run, oldest, handOut, collect}
+use Rattle.machine.proofs.Cells.{ne-eqb}
 use Rattle.machine.proofs.Rising.{Oldest, nothing, this, oldest-is, events-some, events-flat, found-high}
 use Rattle.machine.proofs.Outcomes.{unless-cases, equation-there, run-more, run-ends, run-number}
 use Rattle.machine.proofs.Release.{release-size}
 use Rattle.machine.proofs.Frame.{raise-out, raise-next, raise-bound, output-there}
-use Rattle.machine.proofs.Moves.{reachOf, goal, goal-ge, can-equation, can-up, no-input, lowest-can, oldest-ge}
+use Rattle.machine.proofs.Moves.{goal, goal-ge, can-equation, lowest-can, oldest-ge}
 use Rattle.runs.specs.History.{into}
 use Rattle.runs.specs.Claim.{planOf}
-use Rattle.runs.proofs.Tracks.{Tracks, held-rising, held-from-mark, New, Rise, new-events}
+use Rattle.runs.proofs.Tracks.{Tracks, held-rising, held-from-mark, Rise, new-events}
 use Rattle.runs.proofs.Raise.{raise-tracks}
 use Rattle.runs.proofs.Move.{raise-shape, move-raise, rise as move-rise}
 use Rattle.runs.proofs.Marks.{collected-cell, collected-next, collect-tracks}
-use Rattle.runs.proofs.World.{World, then, into-append, Shape, Agrees, Right, Good}
+use Rattle.runs.proofs.World.{World, then, into-append, Right, Good}
 use Rattle.runs.proofs.Offers.{into-none, came-good, refused-came}
 
 -- the events that come into one stream

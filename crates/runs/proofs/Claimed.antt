@@ -1,30 +1,29 @@
 -- Each part of the claim, of every solution for the accepted readings: what the caller saw is tied to the state.
-use mathlib.Core.Path.{_≡_, refl, sym, _∙_, ap, subst}
-use mathlib.Core.Bool.{Bool, true, false, not, cond}
-use mathlib.Core.Option.{Option, none, some}
-use mathlib.Core.List.{List, [], _∷_, _++_, append-nil, append-assoc, map}
-use Prim.Native.Nat.{ℕ, zero, suc, _≤_, _<_}
+use mathlib.Core.Path.{_≡_, sym, _∙_, ap}
+use mathlib.Core.Bool.{not}
+use mathlib.Core.Option.{Option, none}
+use mathlib.Core.List.{List, [], _∷_, _++_}
+use Prim.Native.Nat.{ℕ, suc, _≤_, _<_}
 use native.Mathlib.Omega.{arith}
-use native.Mathlib.Decide.{decLe}
-use lib.Dec.{T, leb, ltb, T-not}
-use lib.ListN.{length, length-map}
+use lib.Dec.{T, T-not}
+use lib.ListN.{length}
 use lib.IntN.{ℤ}
-use Rattle.meaning.specs.Plan.{Plan, eqnAt, isInput, reads}
-use Rattle.meaning.specs.Events.{Event, ev, Stream, Streams, found, events, horizon}
+use Rattle.meaning.specs.Plan.{eqnAt, isInput, reads}
+use Rattle.meaning.specs.Events.{Event, Streams, found, events, horizon}
 use Rattle.meaning.specs.Table.{Solves}
-use Rattle.meaning.proofs.Tests.{Is, yes!, no!, look, T-and-l}
+use Rattle.meaning.proofs.Tests.{Is, yes!, no!, look}
 use Rattle.meaning.proofs.Each.{Each}
 use Rattle.meaning.proofs.Ways.{acyclic-clear}
-use Rattle.machine.specs.State.{Declared, State, cellAt, loaded, room}
-use Rattle.machine.specs.Step.{canMove, leastWaiting}
+use Rattle.machine.specs.State.{Declared, State, cellAt, loaded}
+use Rattle.machine.specs.Step.{canMove}
 use Rattle.machine.specs.Calls.{Call, oldest, offerReading}
 use Rattle.machine.proofs.Rising.{Oldest, nothing, this, oldest-is, events-flat, events-prefix}
 use Rattle.machine.proofs.Moves.{can-equation}
 use Rattle.machine.proofs.Frame.{output-there}
-use Rattle.runs.specs.History.{AllTyped, after, log, arrived, into, accepted, known, handed}
-use Rattle.runs.specs.Claim.{planOf, All, Keeps, final, readings, IsInput, IsEquation, IsOutput, handedOut, knownTo, FurthestBehind, AtRest, Beginning, Holds}
+use Rattle.runs.specs.History.{AllTyped, arrived, into, handed}
+use Rattle.runs.specs.Claim.{planOf, All, Keeps, final, readings, IsInput, IsOutput, handedOut, knownTo, FurthestBehind, AtRest, Beginning, Holds}
 use Rattle.runs.proofs.Tracks.{Tracks, held-rising, held-from-mark}
-use Rattle.runs.proofs.World.{World, start, worlds, worlds-state, worlds-accepted, worlds-known, worlds-handed, worlds-came, Shape, Agrees, Right, Good}
+use Rattle.runs.proofs.World.{World, start, worlds, worlds-state, worlds-accepted, worlds-known, worlds-handed, worlds-came, Shape, Right, Good}
 use Rattle.runs.proofs.Numbers.{move-12, collect-14, offer-9}
 use Rattle.runs.proofs.Rest.{behind-holds-none, at-rest}
 use Rattle.runs.proofs.Start.{start-good, calls-good}

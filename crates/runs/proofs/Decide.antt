@@ -3,29 +3,28 @@
 use mathlib.Core.Path.{_≡_, refl, sym, _∙_, ap}
 use mathlib.Core.Bool.{Bool, true, false, not, cond, _&&_}
 use mathlib.Core.Option.{Option, none, some}
-use mathlib.Core.List.{List, [], _∷_, _++_, append-nil}
-use Prim.Native.Nat.{ℕ, zero, suc, pred, _+_, _-_, _≤_, _<_, min, max}
+use mathlib.Core.List.{List, [], _∷_, append-nil}
+use Prim.Native.Nat.{ℕ, suc, pred, _-_, _≤_, _<_, min, max}
 use native.Mathlib.Omega.{arith}
-use native.Mathlib.Decide.{decLt, decLe}
-use lib.Dec.{T, leb, ltb, eqb, ltb→lt, nltb→le, lt→ltb, T-not, not-T}
+use lib.Dec.{T, leb, ltb, ltb→lt, nltb→le}
 use lib.ListN.{length}
 use lib.IntN.{ℤ}
 use Rattle.meaning.specs.Plan.{Eqn, input, nil, unit, one, two, last, delay, reads}
-use Rattle.meaning.specs.Events.{Event, ev, Stream, Streams, found, events, has, orElse, horizon}
-use Rattle.meaning.specs.Table.{one-at, two-at, unit-at, latest, last-at, is, fires, delay-at, at}
-use Rattle.meaning.proofs.Tests.{Is, yes!, no!, look, true-is, false-is}
+use Rattle.meaning.specs.Events.{Event, ev, Stream, Streams, has, orElse, horizon}
+use Rattle.meaning.specs.Table.{latest, last-at, is, fires, delay-at, at}
+use Rattle.meaning.proofs.Tests.{Is, yes!, no!, look}
 use Rattle.meaning.proofs.Each.{Each, each-map}
 use Rattle.meaning.proofs.Causal.{latest-cong}
 use Rattle.meaning.proofs.Induction.{strong}
 use Rattle.machine.specs.State.{Cell, State, cellAt, room}
-use Rattle.machine.specs.Reach.{view, pastLatest, least, limit, point, stops, reach, valueAt, due, gives, first, Next, event, silent, nextOf, decide}
+use Rattle.machine.specs.Reach.{view, pastLatest, limit, point, stops, reach, valueAt, due, gives, first, Next, event, silent, nextOf, decide}
 use Rattle.machine.specs.Step.{argA, argB, leastWaiting, newBound, added}
 use Rattle.machine.specs.Step as step
 use Rattle.machine.proofs.Search.{least-ge, least-le, least-before, least-hit}
 use Rattle.machine.proofs.Window.{Seen, has-none, latest-seam, past-cong, past-flat, past-seam}
 use Rattle.machine.proofs.Release.{each-read, waiting-le-reader}
 use Rattle.runs.proofs.Kept.{keptOf, below, pointOf, point-le, point-new, value-seam}
-use Rattle.runs.proofs.Tracks.{cut, cut-yes, known, Ahead, Tracks, New, quiet, new-none, held-shows}
+use Rattle.runs.proofs.Tracks.{cut-yes, known, Ahead, Tracks, New, quiet, new-none, held-shows}
 use Rattle.runs.proofs.Tracks as tracks
 use Rattle.runs.proofs.Fires.{fires-latest}
 

@@ -1,32 +1,29 @@
 -- The local step equals tidying all streams, in every state of a run.
 use mathlib.Core.Path.{_≡_, refl, sym, _∙_, ap}
-use mathlib.Core.Bool.{Bool, true, false, not, cond}
-use mathlib.Core.Option.{Option, none, some}
-use mathlib.Core.List.{List, [], _∷_, _++_}
-use Prim.Native.Nat.{ℕ, zero, suc, pred, _≤_, _<_, min, max}
+use mathlib.Core.Bool.{Bool, true, false, cond}
+use mathlib.Core.Option.{Option, none}
+use mathlib.Core.List.{List}
+use Prim.Native.Nat.{ℕ, _≤_, _<_, min}
 use native.Mathlib.Omega.{arith}
-use lib.Dec.{T, eqb, eqb→eq}
-use lib.ListN.{length, set, length-set}
+use lib.Dec.{eqb, eqb→eq}
+use lib.ListN.{set, length-set}
 use lib.Seq.{getD-set-same, getD-set-other}
 use lib.IntN.{ℤ}
-use Rattle.meaning.specs.Plan.{Eqn, input, nil, unit, one, two, last, delay, reads}
-use Rattle.meaning.specs.Events.{Event, Streams, events, orElse, horizon}
-use Rattle.meaning.specs.Table.{latest}
+use Rattle.meaning.specs.Plan.{Eqn, input, nil, unit, one, two, last, delay}
+use Rattle.meaning.specs.Events.{Event, Streams, events}
 use Rattle.meaning.proofs.Tests.{Is, yes!, no!, look}
-use Rattle.meaning.proofs.Each.{Each}
-use Rattle.machine.specs.State.{Kept, Cell, State, absent, cellAt, withHeld, withKept}
-use Rattle.machine.specs.Reach.{view, pastLatest}
+use Rattle.machine.specs.State.{Cell, State, absent, cellAt, withHeld, withKept}
 use Rattle.machine.specs.Step.{argA, argB, advance, absorb, later, dropBelow, leastWaiting, raise}
-use Rattle.machine.proofs.Cells.{set-cases, ne-eqb, eqb-ne}
+use Rattle.machine.proofs.Cells.{ne-eqb, eqb-ne}
 use Rattle.machine.proofs.Window.{or-none}
 use Rattle.machine.proofs.Rising.{drop-more}
-use Rattle.machine.proofs.Release.{Grown, waiting-grows}
+use Rattle.machine.proofs.Release.{waiting-grows}
 use Rattle.machine.proofs.Frame.{Frame, frame-waiting, raise-frame, raise-eqn, raise-out, raise-next, raise-bound}
 use Rattle.runs.proofs.Kept.{keptOf}
-use Rattle.runs.proofs.Tracks.{cut, cut-yes, cut-no, known, Ahead, Tracks, new-events, Rise}
+use Rattle.runs.proofs.Tracks.{cut-yes, cut-no, known, Tracks, new-events, Rise}
 use Rattle.runs.proofs.Decide.{floor-read}
 use Rattle.runs.proofs.Raise as raised
-use Rattle.runs.proofs.Tidy.{refreshed, refreshed-is, tidied, stale, Near, near-of}
+use Rattle.runs.proofs.Tidy.{refreshed, refreshed-is, tidied, stale, near-of}
 
 -- of the arguments only held events are looked at
 refreshed-same : (e : Eqn) (o a b c d : Cell) → a .held ≡ c .held → b .held ≡ d .held → refreshed e o a b ≡ refreshed e o c d

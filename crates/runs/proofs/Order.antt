@@ -6,31 +6,31 @@
 -- So two ways to rest from one state end with equal bounds, and bounds and marks determine the state.
 use mathlib.Core.Path.{_≡_, refl, sym, _∙_, ap}
 use mathlib.Core.Bool.{Bool, true, false, not, cond, _&&_}
-use mathlib.Core.Option.{Option, none, some}
-use mathlib.Core.List.{List, [], _∷_}
-use Prim.Native.Nat.{ℕ, zero, suc, _+_, _-_, _≤_, _<_, min, max}
+use mathlib.Core.Option.{none, some}
+use mathlib.Core.List.{List}
+use Prim.Native.Nat.{ℕ, suc, _≤_, _<_}
 use native.Mathlib.Omega.{arith}
 use native.Mathlib.Decide.{decLt}
 use lib.Dec.{T, leb, ltb, leb→le, nleb→lt, ltb→lt, nltb→le, lt→ltb, T-not, not-T}
 use lib.ListN.{length}
 use lib.Seq.{ext-getD}
 use lib.IntN.{ℤ}
-use Rattle.meaning.specs.Plan.{Eqn, input, nil, unit, one, two, last, delay, reads, isInput}
-use Rattle.meaning.specs.Events.{Event, ev, Stream, Streams, found, events, has, horizon}
+use Rattle.meaning.specs.Plan.{Eqn, input, nil, unit, one, two, last, delay, reads}
+use Rattle.meaning.specs.Events.{Event, Streams, events, has, horizon}
 use Rattle.meaning.specs.Table.{Solves}
 use Rattle.meaning.proofs.Tests.{Is, yes!, no!, look, T-and, T-and-l, T-and-r}
 use Rattle.meaning.proofs.Each.{Each}
 use Rattle.machine.specs.State.{Declared, Kept, Cell, State, absent, cellAt, room}
-use Rattle.machine.specs.Reach.{view, limit, point, stops, reach, Next, event, silent}
-use Rattle.machine.specs.Step.{argA, argB, dropBelow, leastWaiting, ahead, newBound, canMove, comesIn, move}
+use Rattle.machine.specs.Reach.{view, limit, point, stops, Next}
+use Rattle.machine.specs.Step.{argA, argB, leastWaiting, ahead, newBound, canMove, comesIn, move}
 use Rattle.machine.proofs.Window.{seen-has}
 use Rattle.machine.proofs.Rising.{events-flat, drop-fewer}
-use Rattle.machine.proofs.Release.{Grown, waiting-grows}
-use Rattle.machine.proofs.Frame.{Frame, frame-waiting, raise-size, raise-eqn, raise-out, raise-next, raise-bound}
+use Rattle.machine.proofs.Release.{waiting-grows}
+use Rattle.machine.proofs.Frame.{Frame, frame-waiting, raise-next, raise-bound}
 use Rattle.machine.proofs.Moves.{reachOf, reach-gt, goal, can-equation, can-of, no-input, goal-ge}
 use Rattle.runs.specs.Claim.{planOf}
-use Rattle.runs.proofs.Kept.{keptOf, kept-cong, pointOf}
-use Rattle.runs.proofs.Tracks.{cut, cut-yes, cut-no, known, Tracks, New}
+use Rattle.runs.proofs.Kept.{keptOf, kept-cong}
+use Rattle.runs.proofs.Tracks.{cut, cut-yes, known, Tracks}
 use Rattle.runs.proofs.Decide.{Finds, nothing, something, finds-le, floor, floor-read, shows-now, arg-at, point-is, in-reach}
 use Rattle.runs.proofs.World.{Shape}
 use Rattle.runs.proofs.Move.{row, equation-finds, move-raise, move-tracks, move-shape}

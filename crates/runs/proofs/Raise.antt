@@ -2,31 +2,30 @@
 -- Write: the stream's own kept data follows from what its arguments and itself hold. Tell: of what is known only the new
 -- event's stamp changed, and each reader ahead of it takes just that. Release: a stream's least waiting reader changes
 -- only for the stream and its arguments, and dropping twice is dropping once.
-use mathlib.Core.Path.{_≡_, refl, sym, _∙_, ap, subst}
-use mathlib.Core.Bool.{Bool, true, false, not, cond, _||_}
-use mathlib.Core.Option.{Option, none, some}
+use mathlib.Core.Path.{_≡_, refl, sym, _∙_, ap}
+use mathlib.Core.Bool.{not, cond}
+use mathlib.Core.Option.{none, some}
 use mathlib.Core.List.{List, [], _∷_, _++_, append-nil, map}
-use Prim.Native.Nat.{ℕ, zero, suc, _+_, _≤_, _<_, min}
+use Prim.Native.Nat.{ℕ, suc, _≤_, _<_, min}
 use native.Mathlib.Nat.{lt-suc-self}
 use native.Mathlib.Omega.{arith}
-use native.Mathlib.Decide.{decLt, decLe}
-use lib.Dec.{T, ltb, eqb, eqb→eq, eqb-refl, lt→ltb, ltb→lt, nltb→le, T-not, not-T}
-use lib.ListN.{length, set, length-set}
+use lib.Dec.{T, ltb, eqb, eqb→eq, ltb→lt, nltb→le, T-not}
+use lib.ListN.{set, length-set}
 use lib.Seq.{getD-set-same, getD-set-other}
 use lib.IntN.{ℤ}
 use Rattle.meaning.specs.Plan.{Eqn, input, nil, unit, one, two, last, delay, reads}
-use Rattle.meaning.specs.Events.{Event, ev, Stream, Streams, found, events, horizon}
-use Rattle.meaning.proofs.Tests.{Is, yes!, no!, look, true-is, false-is, eqb-self, T-or-l, T-or-r, not-or-l, not-or-r}
-use Rattle.meaning.proofs.Each.{Each, each-map}
-use Rattle.machine.specs.State.{Cell, State, absent, cellAt, withHeld, withKept, withBound, withNext}
+use Rattle.meaning.specs.Events.{Event, ev, Streams, events, horizon}
+use Rattle.meaning.proofs.Tests.{Is, yes!, no!, look, not-or-l, not-or-r}
+use Rattle.meaning.proofs.Each.{each-map}
+use Rattle.machine.specs.State.{Cell, State, absent, cellAt, withHeld, withKept}
 use Rattle.machine.specs.Reach.{view}
-use Rattle.machine.specs.Step.{argA, argB, advance, absorb, absorbed, write, told, tell, readsIt, keptTold, dropBelow, leastWaiting, release, releases, raise}
-use Rattle.machine.proofs.Cells.{set-cases, told-at, ne-eqb, eqb-ne}
+use Rattle.machine.specs.Step.{argA, argB, advance, absorb, absorbed, write, told, tell, readsIt, keptTold, dropBelow, leastWaiting, releases, raise}
+use Rattle.machine.proofs.Cells.{set-cases, told-at, eqb-ne}
 use Rattle.machine.proofs.Window.{Seen}
 use Rattle.machine.proofs.Rising.{drop-more}
-use Rattle.machine.proofs.Release.{each-read, among, read-among, waiting-le-reader, waiting-grows, Grown, releases-at, releases-looser, looser-waiting}
+use Rattle.machine.proofs.Release.{each-read, among, read-among, waiting-le-reader, waiting-grows, releases-at, releases-looser, looser-waiting}
 use Rattle.runs.proofs.Kept.{keptOf, kept-cong, kept-told, kept-absorbed, Edge}
-use Rattle.runs.proofs.Tracks.{cut, cut-yes, cut-no, cut-quiet, cut-event, known, Ahead, ahead-grows, Tracks, New, quiet, event, Rise, new-grows, new-none, new-events, held-shows}
+use Rattle.runs.proofs.Tracks.{cut, cut-yes, cut-no, cut-quiet, cut-event, known, Ahead, ahead-grows, Tracks, New, quiet, event, Rise, new-none, new-events, held-shows}
 
 -- ---- a reader ahead of the new event, a delay of it, is just ahead
 

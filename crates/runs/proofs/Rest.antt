@@ -3,30 +3,29 @@
 -- undelayed arguments are all above y has its reach above y, for no first argument of a last or delay lies below y. It
 -- cannot move, so it is full and an event waits; but what it holds lies below y, and some reader of a bound below y, or
 -- collection, waits for it, against the choice of y or of rest. So by the cycle rule all bounds are above y.
-use mathlib.Core.Path.{_≡_, refl, sym, _∙_, ap}
+use mathlib.Core.Path.{_≡_, refl, ap}
 use mathlib.Core.Logic.{_⊎_, inl, inr}
-use mathlib.Core.Bool.{Bool, true, false, not, cond, _&&_, _||_}
-use mathlib.Core.Option.{Option, none, some}
+use mathlib.Core.Bool.{not, _&&_}
+use mathlib.Core.Option.{none}
 use mathlib.Core.List.{List, [], _∷_}
-use Prim.Native.Nat.{ℕ, zero, suc, _+_, _≤_, _<_, min, max}
+use Prim.Native.Nat.{ℕ, zero, suc, _≤_, _<_}
 use native.Mathlib.Omega.{arith}
-use native.Mathlib.Decide.{decLt, decLe}
-use lib.Dec.{T, leb, ltb, eqb, ltb→lt, T-not, not-T}
+use native.Mathlib.Decide.{decLt}
+use lib.Dec.{T, ltb, ltb→lt, T-not, not-T}
 use lib.ListN.{length}
-use lib.IntN.{ℤ}
 use Rattle.meaning.specs.Plan.{Eqn, input, nil, unit, one, two, last, delay, Plan, eqnAt, isInput, reads, undelayed}
 use Rattle.meaning.specs.Events.{Event, Streams, found, events, has, horizon}
 use Rattle.meaning.proofs.Tests.{Is, yes!, no!, look, T-and-r, eqb-self}
-use Rattle.meaning.proofs.Each.{Each, each-map}
+use Rattle.meaning.proofs.Each.{Each}
 use Rattle.meaning.proofs.Clear.{clear, clear-args}
 use Rattle.meaning.proofs.Within.{undelayed-read}
-use Rattle.machine.specs.State.{Cell, State, cellAt, room}
-use Rattle.machine.specs.Reach.{view, pastLatest, limit, point, stops, reach}
-use Rattle.machine.specs.Step.{argA, argB, readsIt, leastWaiting, dropBelow, canMove}
+use Rattle.machine.specs.State.{Cell, State, cellAt}
+use Rattle.machine.specs.Reach.{view, limit, point, stops}
+use Rattle.machine.specs.Step.{argA, argB, readsIt, leastWaiting, canMove}
 use Rattle.machine.proofs.Window.{past-le}
 use Rattle.machine.proofs.Rising.{Rising, events-rising, rising-dropped}
 use Rattle.machine.proofs.Release.{waiting-who}
-use Rattle.machine.proofs.Moves.{reachOf, reach-gt, goal-gt, can-of, no-input}
+use Rattle.machine.proofs.Moves.{reach-gt, goal-gt, can-of, no-input}
 use Rattle.runs.proofs.Kept.{keptOf, pointOf, point-le}
 use Rattle.runs.proofs.Tracks.{known, Tracks}
 

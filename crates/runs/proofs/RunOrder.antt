@@ -1,6 +1,6 @@
 -- In a run: two lists of moves and runs from one state that both end where no equation can move leave the same state.
-use mathlib.Core.Path.{_≡_, refl, sym, _∙_, ap, subst}
-use mathlib.Core.Bool.{Bool, true, false, not}
+use mathlib.Core.Path.{_≡_}
+use mathlib.Core.Bool.{not}
 use mathlib.Core.List.{List, [], _∷_}
 use Prim.Native.Nat.{ℕ, zero, suc, _<_}
 use native.Mathlib.Omega.{arith}
@@ -13,7 +13,7 @@ use Rattle.meaning.proofs.Tests.{Is, yes!, no!, look, not-twice}
 use Rattle.meaning.proofs.Solution.{solution-exists}
 use Rattle.machine.specs.State.{Declared, State, cellAt}
 use Rattle.machine.specs.Step.{canMove, move}
-use Rattle.machine.specs.Calls.{Call, reading, progress, moving, running, collecting, Outcome, noEquation, moveOne, lowest, run, call}
+use Rattle.machine.specs.Calls.{Call, reading, progress, moving, running, collecting, noEquation, moveOne, lowest, run, call}
 use Rattle.machine.proofs.Moves.{can-equation, lowest-can}
 use Rattle.machine.proofs.Outcomes.{unless-cases, equation-there, run-more, run-ends}
 use Rattle.runs.specs.History.{AllTyped, after}

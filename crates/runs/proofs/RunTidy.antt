@@ -1,6 +1,5 @@
 -- Every state of a run is tidy, and each move and each accepted reading leaves what tidying all streams would leave.
-use mathlib.Core.Path.{_≡_, refl, sym, _∙_, ap, subst}
-use mathlib.Core.Bool.{Bool, true, false, not}
+use mathlib.Core.Path.{_≡_, refl, subst}
 use mathlib.Core.List.{List, [], _∷_}
 use Prim.Native.Nat.{ℕ, suc, _≤_, _<_, _^_}
 use native.Mathlib.Omega.{arith}
@@ -9,7 +8,6 @@ use lib.ListN.{length, set}
 use lib.IntN.{ℤ}
 use Rattle.meaning.specs.Plan.{isInput}
 use Rattle.meaning.specs.Events.{ev, Streams, found, horizon}
-use Rattle.meaning.specs.Table.{Solves}
 use Rattle.meaning.specs.Meaning.{meaning}
 use Rattle.meaning.proofs.Tests.{not-twice}
 use Rattle.meaning.proofs.Solution.{solution-exists}
@@ -20,7 +18,7 @@ use Rattle.machine.proofs.Moves.{goal}
 use Rattle.machine.proofs.Outcomes.{unless-cases}
 use Rattle.runs.specs.History.{AllTyped}
 use Rattle.runs.specs.Claim.{planOf, readings, final, Keeps}
-use Rattle.runs.proofs.World.{World, Agrees, Right, Good}
+use Rattle.runs.proofs.World.{World, Agrees, Good}
 use Rattle.runs.proofs.Offers as offers
 use Rattle.runs.proofs.Changes as changes
 use Rattle.runs.proofs.Claimed.{W, good, state-is, tracks}

@@ -2,26 +2,23 @@
 -- up to date from all held events, and everything that nobody waits for were let go.
 -- Both sides are the one state that tracks the solution at the new bounds.
 use mathlib.Core.Path.{_≡_, refl, sym, _∙_, ap}
-use mathlib.Core.Bool.{Bool, true, false, not, cond}
-use mathlib.Core.Option.{Option, none, some}
-use mathlib.Core.List.{List, [], _∷_, _++_}
-use Prim.Native.Nat.{ℕ, zero, suc, pred, _+_, _≤_, _<_, min, max}
+use mathlib.Core.Bool.{cond}
+use mathlib.Core.Option.{none}
+use Prim.Native.Nat.{ℕ, zero, suc, pred, _≤_, _<_, min, max}
 use native.Mathlib.Omega.{arith}
-use native.Mathlib.Decide.{decLt, decLe}
-use lib.Dec.{T, eqb, eqb→eq, eqb-refl, T-not}
-use lib.ListN.{length, set}
-use lib.IntN.{ℤ}
+use native.Mathlib.Decide.{decLt}
+use lib.Dec.{eqb, eqb→eq}
 use Rattle.meaning.specs.Plan.{Eqn, input, nil, unit, one, two, last, delay, reads}
-use Rattle.meaning.specs.Events.{Event, Stream, Streams, events, orElse, horizon}
+use Rattle.meaning.specs.Events.{Streams, events, orElse}
 use Rattle.meaning.specs.Table.{latest}
 use Rattle.meaning.proofs.Tests.{Is, yes!, no!, look, eqb-self}
 use Rattle.meaning.proofs.Each.{Each}
 use Rattle.meaning.proofs.Causal.{latest-cong}
 use Rattle.machine.specs.State.{Kept, Cell, State, cellAt, withHeld, withKept}
 use Rattle.machine.specs.Reach.{view, pastLatest}
-use Rattle.machine.specs.Step.{argA, argB, advance, absorb, later, dropBelow, leastWaiting, raise}
+use Rattle.machine.specs.Step.{argA, argB, later, dropBelow, leastWaiting}
 use Rattle.machine.proofs.Cells.{ne-eqb, eqb-ne}
-use Rattle.machine.proofs.Window.{Seen, seen-or, or-none, latest-flat, latest-seam, past-cong, past-flat, past-below, past-mono, past-seam}
+use Rattle.machine.proofs.Window.{Seen, seen-or, or-none, latest-flat, latest-seam, past-cong, past-flat, past-below, past-seam}
 use Rattle.machine.proofs.Rising.{drop-again}
 use Rattle.runs.proofs.Kept.{keptOf, below, pointOf, point-le}
 use Rattle.runs.proofs.Tracks.{cut-no, known, Ahead, Tracks}

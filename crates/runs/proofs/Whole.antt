@@ -1,5 +1,5 @@
 -- Whole runs: demands 2 and 3, for every list of calls from the state that load fills.
-use Prim.Native.Nat.{ℕ, _≤_, _^_}
+use Prim.Native.Nat.{_≤_, _^_}
 use mathlib.Core.List.{List}
 use lib.ListN.{length}
 use Rattle.meaning.specs.Events.{horizon}
