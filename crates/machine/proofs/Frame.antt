@@ -1,5 +1,5 @@
 -- A step changes one bound; equations, outputs, marks of collection and the other bounds stay.
-use mathlib.Core.Path.{_≡_, refl, sym, _∙_, ap}
+use mathlib.Core.Path.{_≡_, refl, _∙_, ap}
 use mathlib.Core.List.{List, [], _∷_}
 use Prim.Native.Nat.{ℕ, _<_}
 use native.Mathlib.Omega.{arith}
@@ -9,17 +9,9 @@ use lib.ListN.{length, set, length-set, length-map}
 use Rattle.meaning.specs.Plan.{isInput, reads}
 use Rattle.meaning.specs.Events.{Event}
 use Rattle.machine.specs.State.{Cell, State, cellAt, withKept}
-use Rattle.machine.specs.Step.{argA, argB, advance, absorb, absorbed, write, told, tell, raise, leastWaiting}
+use Rattle.machine.specs.Step.{argA, argB, advance, absorb, absorbed, write, told, tell, raise}
 use Rattle.machine.proofs.Cells.{set-cases, told-at, beyond}
-use Rattle.machine.proofs.Release.{releases-looser, Looser, waiting-grows}
-
--- N is M but for held events and kept data
-pub record Frame (M N : State) : Type 0 where
-  pub size : length N ≡ length M
-  pub eqns : (i : ℕ) → cellAt N i .eqn ≡ cellAt M i .eqn
-  pub outs : (i : ℕ) → cellAt N i .out ≡ cellAt M i .out
-  pub bounds : (i : ℕ) → cellAt N i .bound ≡ cellAt M i .bound
-  pub nexts : (i : ℕ) → cellAt N i .next ≡ cellAt M i .next
+use Rattle.machine.proofs.Release.{Frame, looser-frame, releases-looser}
 
 frame-then : (M N O : State) → Frame M N → Frame N O → Frame M O
 frame-then M N O f g = record {
@@ -29,22 +21,6 @@ frame-then M N O f g = record {
   bounds = λ i. g .bounds i ∙ f .bounds i;
   nexts = λ i. g .nexts i ∙ f .nexts i;
 }
-
-pub looser-frame : (M N : State) → Looser M N → Frame M N
-looser-frame M N h = record {
-  size = h .size;
-  eqns = λ i. ap (λ c. c .eqn) (h .cells i);
-  outs = λ i. ap (λ c. c .out) (h .cells i);
-  bounds = λ i. ap (λ c. c .bound) (h .cells i);
-  nexts = λ i. ap (λ c. c .next) (h .cells i);
-}
-
--- the same streams wait
-pub frame-waiting : (s : ℕ) (M N : State) → Frame M N → leastWaiting s N ≡ leastWaiting s M
-frame-waiting s M N f =
-    let x = waiting-grows s M N (record { eqns = f .eqns; outs = f .outs s; bounds = λ r k. let e = f .bounds r in omega arith; marks = let e = f .nexts s in omega arith }) in
-    let y = waiting-grows s N M (record { eqns = λ r. sym (f .eqns r); outs = sym (f .outs s); bounds = λ r k. let e = f .bounds r in omega arith; marks = let e = f .nexts s in omega arith }) in
-    omega arith
 
 absorbed-frame : (s : ℕ) (M : State) → s < length M → Frame M (absorbed s M)
 unfolding absorbed

@@ -17,8 +17,8 @@ use Rattle.machine.specs.Step.{argA, argB, advance, absorb, later, dropBelow, l
 use Rattle.machine.proofs.Cells.{ne-eqb, eqb-ne}
 use Rattle.machine.proofs.Window.{or-none}
 use Rattle.machine.proofs.Rising.{drop-more}
-use Rattle.machine.proofs.Release.{waiting-grows}
-use Rattle.machine.proofs.Frame.{Frame, frame-waiting, raise-frame, raise-eqn, raise-out, raise-next, raise-bound}
+use Rattle.machine.proofs.Release.{Frame, frame-waiting, waiting-grows}
+use Rattle.machine.proofs.Frame.{raise-frame, raise-eqn, raise-out, raise-next, raise-bound}
 use Rattle.runs.proofs.Kept.{keptOf}
 use Rattle.runs.proofs.Tracks.{cut-yes, cut-no, known, Tracks, new-events, Rise}
 use Rattle.runs.proofs.Decide.{floor-read}

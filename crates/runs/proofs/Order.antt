@@ -25,8 +25,8 @@ use Rattle.machine.specs.Reach.{view, limit, point, stops, Next}
 use Rattle.machine.specs.Step.{argA, argB, leastWaiting, ahead, newBound, canMove, comesIn, move}
 use Rattle.machine.proofs.Window.{seen-has}
 use Rattle.machine.proofs.Rising.{events-flat, drop-fewer}
-use Rattle.machine.proofs.Release.{waiting-grows}
-use Rattle.machine.proofs.Frame.{Frame, frame-waiting, raise-next, raise-bound}
+use Rattle.machine.proofs.Release.{Frame, frame-waiting, waiting-grows}
+use Rattle.machine.proofs.Frame.{raise-next, raise-bound}
 use Rattle.machine.proofs.Moves.{reachOf, reach-gt, goal, can-equation, can-of, no-input, goal-ge}
 use Rattle.runs.specs.Claim.{planOf}
 use Rattle.runs.proofs.Kept.{keptOf, kept-cong}

@@ -10,8 +10,9 @@ use Rattle.meaning.specs.Events.{Streams}
 use Rattle.meaning.specs.Table.{latest}
 use Rattle.machine.specs.State.{Declared, State, fresh, noKept, cellAt, loaded}
 use Rattle.machine.specs.Reach.{pastLatest}
-use Rattle.machine.specs.Step.{dropBelow, leastWaiting}
+use Rattle.machine.specs.Step.{leastWaiting}
 use Rattle.machine.specs.Calls.{Call, reading, progress, moving, running, collecting, call}
+use Rattle.machine.proofs.Rising.{drop-nil}
 use Rattle.runs.specs.History.{Typed, AllTyped}
 use Rattle.runs.specs.Claim.{planOf}
 use Rattle.runs.proofs.Kept.{keptOf}
@@ -50,13 +51,9 @@ fresh-ahead (two g a b) M = tt
 fresh-ahead (last a b) M = tt
 fresh-ahead (delay a b) M = omega arith
 
-drop-none : (w : ℕ) → dropBelow w [] ≡ []
-unfolding dropBelow
-drop-none w = refl
-
 pub loaded-tracks : (ds : List Declared) (S : Streams) → Tracks S (loaded ds)
 loaded-tracks ds S = record {
-  held = λ s. let c = loaded-cell ds s .1 in rw c (sym (drop-none (leastWaiting s (loaded ds))));
+  held = λ s. let c = loaded-cell ds s .1 in rw c (sym (drop-nil (leastWaiting s (loaded ds))));
   kept = λ s. let c = loaded-cell ds s in rw (c .1) (fresh-kept (c .0 .eqn) (known S (loaded ds)) s);
   ahead = λ s. let c = loaded-cell ds s in rw (c .1) (fresh-ahead (c .0 .eqn) (loaded ds));
   top = λ s. let c = loaded-cell ds s .1 in rw c (omega arith);
