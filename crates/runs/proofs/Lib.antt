@@ -21,3 +21,4 @@ pub mod RunTidy
 pub mod Worked
 pub mod Order
 pub mod RunOrder
+pub mod RunReach
