@@ -79,7 +79,7 @@ module _ (S : Streams) (M : State) (inv : Tracks S M) (s y : ℕ) (new : List Ev
   pub C-new : (i : ℕ) → (es : List Event) × New (S i) (cellAt M i .bound) (C i .bound) es × (C i .held ≡ cellAt M i .held ++ es)
   C-new =
       C-cases (λ i c. (es : List Event) × New (S i) (cellAt M i .bound) (c .bound) es × (c .held ≡ cellAt M i .held ++ es))
-      (λ i n. ([], new-none (S i) (cellAt M i .bound), sym (append-nil (cellAt M i .held)))) (new, (rise .comes), refl)
+      (λ i n. ([], new-none (S i) (cellAt M i .bound), sym (append-nil (cellAt M i .held)))) (new, rise .comes, refl)
 
   pub shows : (i : ℕ) → Seen (known S M₁ i) (min (leastWaiting i M) (cellAt M i .bound)) (view (C i))
   shows i =
@@ -144,9 +144,6 @@ module _ (S : Streams) (M : State) (inv : Tracks S M) (s y : ℕ) (new : List Ev
     unfolding told
     told-cell K i other own edge = ap (λ k. withKept k (C i)) (go (look (ltb t (C i .bound))))
       where
-        k : Cell
-        k = withKept (keptOf (C i .eqn) K i (C i .bound)) (C i)
-
         go : Is (ltb t (C i .bound)) → cond (ltb t (C i .bound)) (keptTold (C i .eqn) s (C i .bound) t v (keptOf (C i .eqn) K i (C i .bound))) (keptOf (C i .eqn) K i (C i .bound)) ≡ keptOf (C i .eqn) (known S M₁) i (C i .bound)
         go (yes! j x) =
             let m = ltb→lt t (C i .bound) x in

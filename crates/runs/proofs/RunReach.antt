@@ -1,5 +1,5 @@
 -- In every state of a run the reach is the greatest bound that document 01's sentence allows, or the present bound.
-use mathlib.Core.Path.{_≡_, ap}
+use mathlib.Core.Path.{ap}
 use mathlib.Core.List.{List}
 use Prim.Native.Nat.{ℕ, _≤_, _<_}
 use native.Mathlib.Omega.{arith}

@@ -20,7 +20,7 @@ use Rattle.runs.specs.History.{AllTyped}
 use Rattle.runs.specs.Claim.{planOf, readings, final, Keeps}
 use Rattle.runs.proofs.World.{World, Agrees, Good}
 use Rattle.runs.proofs.Offers as offers
-use Rattle.runs.proofs.Changes as changes
+use Rattle.runs.proofs.Move.{rise}
 use Rattle.runs.proofs.Claimed.{W, good, state-is, tracks}
 use Rattle.runs.proofs.Tidy.{tidied, stale, tracks-tidy}
 use Rattle.runs.proofs.Local.{step-tidies}
@@ -35,7 +35,7 @@ module _ (ds : List Declared) (keeps : Keeps ds) where
       let S = meaning (planOf ds) rd in
       let sol = solution-exists (planOf ds) rd (keeps .acyclic) horizon in
       let r = g .right rd S sol (record { below = λ j h t k. refl }) in
-      step-tidies S (X .state) (r .tracks) s (goal s (X .state)) (comesIn s (X .state)) (changes.rise ds X g s l can rd S sol r) i
+      step-tidies S (X .state) (r .tracks) s (goal s (X .state)) (comesIn s (X .state)) (rise ds rd S sol (X .state) (g .shape) (r .tracks) s l can) i
 
   read-tidily : (X : World) → Good ds X → (s t : ℕ) (v : ℤ) → T (isInput (cellAt (X .state) s .eqn)) → cellAt (X .state) s .bound ≤ t → t < horizon → (i : ℕ)
       → cellAt (raise s (suc t) (ev t v ∷ []) (X .state)) i ≡ tidied (set (X .state) s (stale (advance (suc t) (ev t v ∷ []) (cellAt (X .state) s)))) i

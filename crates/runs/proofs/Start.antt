@@ -19,7 +19,8 @@ use Rattle.runs.proofs.Kept.{keptOf}
 use Rattle.runs.proofs.Tracks.{known, Ahead, Tracks}
 use Rattle.runs.proofs.World.{World, start, then, worlds, Good}
 use Rattle.runs.proofs.Offers.{offer-reading-good, offer-progress-good}
-use Rattle.runs.proofs.Changes.{move-one-good, run-good, collect-good}
+use Rattle.runs.proofs.Moving.{move-one-good, run-good}
+use Rattle.runs.proofs.Collecting.{collect-good}
 
 -- every cell of the loaded state is fresh
 pub loaded-cell : (ds : List Declared) (s : ℕ) → (d : Declared) × (cellAt (loaded ds) s ≡ fresh d) × (eqnAt (planOf ds) s ≡ d .eqn)
