@@ -1,27 +1,17 @@
 -- A step changes one bound; equations, outputs, marks of collection and the other bounds stay.
-use mathlib.Core.Path.{_≡_, refl, sym, _∙_, ap}
-use mathlib.Core.Bool.{Bool, true, false, cond}
-use mathlib.Core.List.{List, [], _∷_, map}
-use Prim.Native.Nat.{ℕ, _≤_, _<_}
+use mathlib.Core.Path.{_≡_, refl, _∙_, ap}
+use mathlib.Core.List.{List, [], _∷_}
+use Prim.Native.Nat.{ℕ, _<_}
 use native.Mathlib.Omega.{arith}
 use native.Mathlib.Decide.{decLt}
-use lib.Dec.{T, not-T}
+use lib.Dec.{T}
 use lib.ListN.{length, set, length-set, length-map}
-use lib.Seq.{getD-set-same}
-use Rattle.meaning.specs.Plan.{isInput, reads, nil}
+use Rattle.meaning.specs.Plan.{isInput, reads}
 use Rattle.meaning.specs.Events.{Event}
-use Rattle.machine.specs.State.{Cell, State, absent, cellAt, withKept}
-use Rattle.machine.specs.Step.{argA, argB, advance, absorb, absorbed, write, told, tell, raise, releases}
+use Rattle.machine.specs.State.{Cell, State, cellAt, withKept}
+use Rattle.machine.specs.Step.{argA, argB, advance, absorb, absorbed, write, told, tell, raise}
 use Rattle.machine.proofs.Cells.{set-cases, told-at, beyond}
-use Rattle.machine.proofs.Release.{releases-looser, releases-size, Looser}
-
--- N is M but for held events and kept data
-pub record Frame (M N : State) : Type 0 where
-  pub size : length N ≡ length M
-  pub eqns : (i : ℕ) → cellAt N i .eqn ≡ cellAt M i .eqn
-  pub outs : (i : ℕ) → cellAt N i .out ≡ cellAt M i .out
-  pub bounds : (i : ℕ) → cellAt N i .bound ≡ cellAt M i .bound
-  pub nexts : (i : ℕ) → cellAt N i .next ≡ cellAt M i .next
+use Rattle.machine.proofs.Release.{Frame, looser-frame, releases-looser}
 
 frame-then : (M N O : State) → Frame M N → Frame N O → Frame M O
 frame-then M N O f g = record {
@@ -30,15 +20,6 @@ frame-then M N O f g = record {
   outs = λ i. g .outs i ∙ f .outs i;
   bounds = λ i. g .bounds i ∙ f .bounds i;
   nexts = λ i. g .nexts i ∙ f .nexts i;
-}
-
-pub looser-frame : (M N : State) → Looser M N → Frame M N
-looser-frame M N h = record {
-  size = h .size;
-  eqns = λ i. ap (λ c. c .eqn) (h .cells i);
-  outs = λ i. ap (λ c. c .out) (h .cells i);
-  bounds = λ i. ap (λ c. c .bound) (h .cells i);
-  nexts = λ i. ap (λ c. c .next) (h .cells i);
 }
 
 absorbed-frame : (s : ℕ) (M : State) → s < length M → Frame M (absorbed s M)
@@ -66,11 +47,11 @@ tell-frame s (e ∷ es) M = record {
 }
 
 module _ (s y : ℕ) (new : List Event) (M : State) (there : s < length M) where
-  abbrev up : Cell
+  abbrev pub up : Cell
   up = advance y new (cellAt M s)
 
   -- the step, but for held events and kept data, is the write of the bound
-  raise-frame : Frame (set M s up) (raise s y new M)
+  pub raise-frame : Frame (set M s up) (raise s y new M)
   unfolding raise write
   raise-frame =
       frame-then (set M s up) (tell s new (write s y new M)) (raise s y new M)

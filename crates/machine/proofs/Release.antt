@@ -1,22 +1,22 @@
 -- Who waits for a stream's events, and what release does: only held events change.
 use mathlib.Core.Path.{_≡_, refl, sym, _∙_, ap}
 use mathlib.Core.Logic.{_⊎_, inl, inr}
-use mathlib.Core.Bool.{Bool, true, false, not, cond, _||_}
+use mathlib.Core.Bool.{Bool, true, false, cond, _||_}
 use mathlib.Core.List.{List, [], _∷_}
-use Prim.Native.Nat.{ℕ, zero, suc, _+_, _≤_, _<_, min}
+use Prim.Native.Nat.{ℕ, zero, suc, _≤_, _<_, min}
 use native.Mathlib.Omega.{arith}
 use native.Mathlib.Decide.{decLt}
-use lib.Dec.{T, eqb, eqb→eq, eqb-refl, T-not, not-T}
-use lib.ListN.{length, getD, set, length-set}
+use lib.Dec.{T, eqb, eqb→eq, eqb-refl}
+use lib.ListN.{length, set, length-set}
 use lib.Seq.{set-out, getD-set-same, getD-set-other}
 use Rattle.meaning.specs.Plan.{Eqn, input, nil, unit, one, two, last, delay, reads}
 use Rattle.meaning.specs.Events.{Event, horizon}
-use Rattle.meaning.proofs.Tests.{Is, yes!, no!, look, true-is, false-is, T-or, T-or-l, T-or-r, eqb-self}
-use Rattle.meaning.proofs.Each.{Each, each-map}
+use Rattle.meaning.proofs.Tests.{Is, yes!, no!, look, true-is, T-or, T-or-l, T-or-r}
+use Rattle.meaning.proofs.Each.{Each}
 use Rattle.machine.specs.State.{Cell, State, absent, cellAt, withHeld}
 use Rattle.machine.specs.Step.{readsIt, leastReader, leastWaiting, dropBelow, release, releases}
-use Rattle.machine.proofs.Cells.{set-cases, beyond, ne-eqb, eqb-ne}
-use Rattle.machine.proofs.Rising.{drop-again}
+use Rattle.machine.proofs.Cells.{beyond, eqb-ne}
+use Rattle.machine.proofs.Rising.{drop-nil, drop-again}
 
 -- ---- reading
 
@@ -176,6 +176,22 @@ waiting-grows s M N g =
     (λ r h. let k : T (readsIt s (cellAt M r .eqn)) = rw (g .eqns r) at h in let x = waiting-le-reader s M r k in let y = g .bounds r k in omega arith)
     (λ o. let x = waiting-le-next s M (rw (g .outs) at o) in let y = g .marks in omega arith)
 
+-- ---- two states that differ in held events and kept data alone
+
+pub record Frame (M N : State) : Type 0 where
+  pub size : length N ≡ length M
+  pub eqns : (i : ℕ) → cellAt N i .eqn ≡ cellAt M i .eqn
+  pub outs : (i : ℕ) → cellAt N i .out ≡ cellAt M i .out
+  pub bounds : (i : ℕ) → cellAt N i .bound ≡ cellAt M i .bound
+  pub nexts : (i : ℕ) → cellAt N i .next ≡ cellAt M i .next
+
+-- the same streams wait
+pub frame-waiting : (s : ℕ) (M N : State) → Frame M N → leastWaiting s N ≡ leastWaiting s M
+frame-waiting s M N f =
+    let x = waiting-grows s M N (record { eqns = f .eqns; outs = f .outs s; bounds = λ r k. let e = f .bounds r in omega arith; marks = let e = f .nexts s in omega arith }) in
+    let y = waiting-grows s N M (record { eqns = λ r. sym (f .eqns r); outs = sym (f .outs s); bounds = λ r k. let e = f .bounds r in omega arith; marks = let e = f .nexts s in omega arith }) in
+    omega arith
+
 -- ---- release
 
 -- N is M but for held events
@@ -183,28 +199,17 @@ pub record Looser (M N : State) : Type 0 where
   pub size : length N ≡ length M
   pub cells : (i : ℕ) → cellAt N i ≡ withHeld (cellAt N i .held) (cellAt M i)
 
-pub looser-same : (M : State) → Looser M M
-looser-same M = record { size = refl; cells = λ i. refl }
+pub looser-frame : (M N : State) → Looser M N → Frame M N
+looser-frame M N h = record {
+  size = h .size;
+  eqns = λ i. ap (λ c. c .eqn) (h .cells i);
+  outs = λ i. ap (λ c. c .out) (h .cells i);
+  bounds = λ i. ap (λ c. c .bound) (h .cells i);
+  nexts = λ i. ap (λ c. c .next) (h .cells i);
+}
 
 pub looser-waiting : (s : ℕ) (M N : State) → Looser M N → leastWaiting s N ≡ leastWaiting s M
-looser-waiting s M N h =
-    let x = waiting-grows s M N (record {
-      eqns = λ r. ap (λ c. c .eqn) (h .cells r);
-      outs = ap (λ c. c .out) (h .cells s);
-      bounds = λ r k. let e = ap (λ c. c .bound) (h .cells r) in omega arith;
-      marks = let e = ap (λ c. c .next) (h .cells s) in omega arith;
-    }) in
-    let y = waiting-grows s N M (record {
-      eqns = λ r. sym (ap (λ c. c .eqn) (h .cells r));
-      outs = sym (ap (λ c. c .out) (h .cells s));
-      bounds = λ r k. let e = ap (λ c. c .bound) (h .cells r) in omega arith;
-      marks = let e = ap (λ c. c .next) (h .cells s) in omega arith;
-    }) in
-    omega arith
-
-drop-nil : (w : ℕ) → dropBelow w [] ≡ []
-unfolding dropBelow
-drop-nil w = refl
+looser-waiting s M N h = frame-waiting s M N (looser-frame M N h)
 
 pub release-at : (s : ℕ) (M : State) (i : ℕ) → cellAt (release s M) i ≡ withHeld (cond (eqb i s) (dropBelow (leastWaiting i M) (cellAt M i .held)) (cellAt M i .held)) (cellAt M i)
 unfolding release

@@ -1,23 +1,22 @@
 -- No call makes a stream hold more than 16 events.
-use mathlib.Core.Path.{_≡_, refl, sym, _∙_, ap}
+use mathlib.Core.Path.{_≡_, refl, ap}
 use mathlib.Core.Bool.{Bool, true, false, not, cond}
 use mathlib.Core.Option.{Option, none, some}
-use mathlib.Core.List.{List, [], _∷_, _++_}
+use mathlib.Core.List.{List, [], _∷_}
 use Prim.Native.Nat.{ℕ, zero, suc, _+_, _≤_, _<_}
 use native.Mathlib.Omega.{arith}
 use lib.Dec.{T, leb, ltb, ltb→lt, nleb→lt}
 use lib.ListN.{length, set, length-append, length-set}
-use lib.IntN.{ℤ}
 use Rattle.meaning.specs.Plan.{reads, isInput}
 use Rattle.meaning.specs.Events.{Event, ev, horizon}
-use Rattle.meaning.proofs.Tests.{Is, yes!, no!, look, not-twice, false-is}
-use Rattle.machine.specs.State.{Cell, State, cellAt, room, withHeld, withKept, withBound, withNext}
+use Rattle.meaning.proofs.Tests.{Is, yes!, no!, look, not-twice}
+use Rattle.machine.specs.State.{Cell, State, cellAt, room, withKept, withBound, withNext}
 use Rattle.machine.specs.Reach.{Next, event, silent}
-use Rattle.machine.specs.Step.{argA, argB, advance, absorb, absorbed, write, told, tell, dropBelow, leastWaiting, release, releases, raise, ahead, newBound, added, canMove, comesIn, move}
-use Rattle.machine.specs.Calls.{Call, reading, progress, moving, running, collecting, Outcome, refused, done, unless, noInput, noEquation, offerReading, offerProgress, moveOne, lowest, oneMore, run, oldest, handOut, collect, call}
+use Rattle.machine.specs.Step.{argA, argB, advance, absorb, absorbed, write, told, tell, dropBelow, leastWaiting, releases, raise, ahead, newBound, added, canMove, comesIn, move}
+use Rattle.machine.specs.Calls.{Call, reading, progress, moving, running, collecting, noInput, noEquation, offerReading, offerProgress, moveOne, lowest, run, oldest, handOut, collect, call}
 use Rattle.machine.proofs.Cells.{set-cases, told-at}
 use Rattle.machine.proofs.Rising.{drop-shorter}
-use Rattle.machine.proofs.Release.{among, releases-at, release-at}
+use Rattle.machine.proofs.Release.{among, releases-at}
 use Rattle.machine.proofs.Outcomes.{unless-cases, equation-there}
 use Rattle.machine.proofs.Frame.{input-there, output-there}
 

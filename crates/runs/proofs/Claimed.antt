@@ -1,31 +1,28 @@
 -- Each part of the claim, of every solution for the accepted readings: what the caller saw is tied to the state.
-use mathlib.Core.Path.{_≡_, refl, sym, _∙_, ap, subst}
-use mathlib.Core.Bool.{Bool, true, false, not, cond}
-use mathlib.Core.Option.{Option, none, some}
-use mathlib.Core.List.{List, [], _∷_, _++_, append-nil, append-assoc, map}
-use Prim.Native.Nat.{ℕ, zero, suc, _≤_, _<_}
+use mathlib.Core.Path.{_≡_, sym, _∙_, ap}
+use mathlib.Core.Bool.{not}
+use mathlib.Core.Option.{Option, none}
+use mathlib.Core.List.{List, [], _∷_, _++_}
+use Prim.Native.Nat.{ℕ, suc, _≤_, _<_}
 use native.Mathlib.Omega.{arith}
-use native.Mathlib.Decide.{decLe}
-use lib.Dec.{T, leb, ltb, T-not}
-use lib.ListN.{length, length-map}
+use lib.Dec.{T}
+use lib.ListN.{length}
 use lib.IntN.{ℤ}
-use Rattle.meaning.specs.Plan.{Plan, eqnAt, isInput, reads}
-use Rattle.meaning.specs.Events.{Event, ev, Stream, Streams, found, events, horizon}
+use Rattle.meaning.specs.Plan.{eqnAt, isInput, reads}
+use Rattle.meaning.specs.Events.{Event, Streams, found, events, horizon}
 use Rattle.meaning.specs.Table.{Solves}
-use Rattle.meaning.proofs.Tests.{Is, yes!, no!, look, T-and-l}
 use Rattle.meaning.proofs.Each.{Each}
 use Rattle.meaning.proofs.Ways.{acyclic-clear}
-use Rattle.machine.specs.State.{Declared, State, cellAt, loaded, room}
-use Rattle.machine.specs.Step.{canMove, leastWaiting}
+use Rattle.machine.specs.State.{Declared, State, cellAt, loaded}
+use Rattle.machine.specs.Step.{canMove}
 use Rattle.machine.specs.Calls.{Call, oldest, offerReading}
 use Rattle.machine.proofs.Rising.{Oldest, nothing, this, oldest-is, events-flat, events-prefix}
-use Rattle.machine.proofs.Moves.{can-equation}
 use Rattle.machine.proofs.Frame.{output-there}
-use Rattle.runs.specs.History.{AllTyped, after, log, arrived, into, accepted, known, handed}
-use Rattle.runs.specs.Claim.{planOf, All, Keeps, final, readings, IsInput, IsEquation, IsOutput, handedOut, knownTo, FurthestBehind, AtRest, Beginning, Holds}
+use Rattle.runs.specs.History.{AllTyped, arrived, into, handed}
+use Rattle.runs.specs.Claim.{planOf, All, Keeps, final, readings, IsInput, IsOutput, handedOut, knownTo, FurthestBehind, AtRest, Beginning, Holds}
 use Rattle.runs.proofs.Tracks.{Tracks, held-rising, held-from-mark}
-use Rattle.runs.proofs.World.{World, start, worlds, worlds-state, worlds-accepted, worlds-known, worlds-handed, worlds-came, Shape, Agrees, Right, Good}
-use Rattle.runs.proofs.Numbers.{move-12, collect-14, offer-9}
+use Rattle.runs.proofs.World.{World, start, worlds, worlds-state, worlds-accepted, worlds-known, worlds-handed, worlds-came, Shape, Right, Good}
+use Rattle.runs.proofs.Numbers.{still-stuck, collect-14, offer-9}
 use Rattle.runs.proofs.Rest.{behind-holds-none, at-rest}
 use Rattle.runs.proofs.Start.{start-good, calls-good}
 
@@ -40,7 +37,7 @@ module _ (ds : List Declared) (keeps : Keeps ds) (cs : List Call) (typed : AllTy
   pub good : Good ds W
   good = calls-good ds cs (start ds) typed (start-good ds)
 
-  state-is : W .state ≡ final ds cs
+  pub state-is : W .state ≡ final ds cs
   state-is = worlds-state cs (start ds)
 
   module _ (S : Streams) (sol : Solves (planOf ds) (readings ds cs) S horizon) where
@@ -78,12 +75,7 @@ module _ (ds : List Declared) (keeps : Keeps ds) (cs : List Call) (typed : AllTy
     -- ---- at rest
     module _ (rest : AtRest ds cs) where
       stuck : (s : ℕ) → s < length M → T (not (canMove s M))
-      stuck s l = go (look (isInput (eqnAt (planOf ds) s))) (look (canMove s M))
-        where
-          go : Is (isInput (eqnAt (planOf ds) s)) → Is (canMove s M) → T (not (canMove s M))
-          go (no! e i) c = move-12 s M (rest .moved s (let k = shape .size in omega arith, i))
-          go (yes! e i) (no! c x) = x
-          go (yes! e i) (yes! c x) = absurd (T-not (isInput (cellAt M s .eqn)) (can-equation s M x) (rw (shape .eqns s) i))
+      stuck = still-stuck ds M shape (λ s l i. rest .moved s (l, i))
 
       none-waits : (s : ℕ) → T (cellAt M s .out) → (t : ℕ) → cellAt M s .next ≤ t → found (cellAt M s .held) t ≡ none
       none-waits s o =

@@ -3,29 +3,28 @@
 use mathlib.Core.Path.{_≡_, refl, sym, _∙_, ap}
 use mathlib.Core.Bool.{Bool, true, false, not, cond, _&&_}
 use mathlib.Core.Option.{Option, none, some}
-use mathlib.Core.List.{List, [], _∷_, _++_, append-nil}
-use Prim.Native.Nat.{ℕ, zero, suc, pred, _+_, _-_, _≤_, _<_, min, max}
+use mathlib.Core.List.{List, [], _∷_, append-nil}
+use Prim.Native.Nat.{ℕ, suc, pred, _-_, _≤_, _<_, min, max}
 use native.Mathlib.Omega.{arith}
-use native.Mathlib.Decide.{decLt, decLe}
-use lib.Dec.{T, leb, ltb, eqb, ltb→lt, nltb→le, lt→ltb, T-not, not-T}
+use lib.Dec.{T, leb, ltb, ltb→lt, nltb→le}
 use lib.ListN.{length}
 use lib.IntN.{ℤ}
 use Rattle.meaning.specs.Plan.{Eqn, input, nil, unit, one, two, last, delay, reads}
-use Rattle.meaning.specs.Events.{Event, ev, Stream, Streams, found, events, has, orElse, horizon}
-use Rattle.meaning.specs.Table.{one-at, two-at, unit-at, latest, last-at, is, fires, delay-at, at}
-use Rattle.meaning.proofs.Tests.{Is, yes!, no!, look, true-is, false-is}
+use Rattle.meaning.specs.Events.{Event, ev, Stream, Streams, has, orElse, horizon}
+use Rattle.meaning.specs.Table.{latest, last-at, is, fires, delay-at, at}
+use Rattle.meaning.proofs.Tests.{Is, yes!, no!, look}
 use Rattle.meaning.proofs.Each.{Each, each-map}
 use Rattle.meaning.proofs.Causal.{latest-cong}
 use Rattle.meaning.proofs.Induction.{strong}
 use Rattle.machine.specs.State.{Cell, State, cellAt, room}
-use Rattle.machine.specs.Reach.{view, pastLatest, least, limit, point, stops, reach, valueAt, due, gives, first, Next, event, silent, nextOf, decide}
+use Rattle.machine.specs.Reach.{view, pastLatest, limit, point, stops, reach, valueAt, due, gives, first, Next, event, silent, nextOf, decide}
 use Rattle.machine.specs.Step.{argA, argB, leastWaiting, newBound, added}
 use Rattle.machine.specs.Step as step
 use Rattle.machine.proofs.Search.{least-ge, least-le, least-before, least-hit}
 use Rattle.machine.proofs.Window.{Seen, has-none, latest-seam, past-cong, past-flat, past-seam}
 use Rattle.machine.proofs.Release.{each-read, waiting-le-reader}
 use Rattle.runs.proofs.Kept.{keptOf, below, pointOf, point-le, point-new, value-seam}
-use Rattle.runs.proofs.Tracks.{cut, cut-yes, known, Ahead, Tracks, New, quiet, new-none, held-shows}
+use Rattle.runs.proofs.Tracks.{cut-yes, known, Ahead, Tracks, New, quiet, new-none, held-shows}
 use Rattle.runs.proofs.Tracks as tracks
 use Rattle.runs.proofs.Fires.{fires-latest}
 
@@ -52,7 +51,7 @@ finds-le {f} {lo} {hi} (something {t} {v} l m q e) held = go (leb room (length h
     go false = m
 
 module _ (S : Streams) (M : State) (inv : Tracks S M) where
-  abbrev floor : ℕ → ℕ
+  abbrev pub floor : ℕ → ℕ
   floor i = min (leastWaiting i M) (cellAt M i .bound)
 
   -- each stream shows what is known of it, from its floor on
@@ -64,13 +63,13 @@ module _ (S : Streams) (M : State) (inv : Tracks S M) where
   floor-read s = each-map (λ a h. let x = waiting-le-reader a M s h in omega arith) (reads (cellAt M s .eqn)) (each-read (cellAt M s .eqn))
 
   module _ (rd : Streams) (s : ℕ) where
-    abbrev y : ℕ
+    abbrev pub y : ℕ
     y = cellAt M s .bound
 
-    abbrev C : ℕ → Cell
+    abbrev pub C : ℕ → Cell
     C i = cellAt M i
 
-    arg-at : (a t : ℕ) → floor a ≤ y → y ≤ t → t < C a .bound → view (C a) t ≡ S a t
+    pub arg-at : (a t : ℕ) → floor a ≤ y → y ≤ t → t < C a .bound → view (C a) t ≡ S a t
     arg-at a t l m n = shows-now a .from t (omega arith) ∙ cut-yes (S a) (C a .bound) t n
 
     known-past : (a t : ℕ) → t ≤ C a .bound → pastLatest (known S M a) t ≡ pastLatest (S a) t
@@ -99,7 +98,7 @@ module _ (S : Streams) (M : State) (inv : Tracks S M) where
       since-is : C s .kept .since ≡ pointOf (S b) (S s) y
       since-is = rw (k, known-past b y (omega arith), known-past s y (omega arith))
 
-      point-is : point (C s) (C b) t ≡ pointOf (S b) (S s) t
+      pub point-is : point (C s) (C b) t ≡ pointOf (S b) (S s) t
       unfolding point
       point-is =
           let e : C s .kept .since ≡ pointOf (known S M b) (known S M s) y = ap (λ c. c .since) k in
@@ -164,10 +163,10 @@ module _ (S : Streams) (M : State) (inv : Tracks S M) where
     ahead-limit (delay a b) x k l = omega arith
 
     module _ (row : (p : ℕ) → p < horizon → S s p ≡ at (cellAt M s .eqn) rd S s p) (equation : cellAt M s .eqn ≡ input → ⊥) where
-      abbrev e : Eqn
+      abbrev pub e : Eqn
       e = cellAt M s .eqn
 
-      abbrev far : ℕ
+      abbrev pub far : ℕ
       far = reach e (C s) (C (argA e)) (C (argB e))
 
       abbrev next : ℕ
@@ -190,7 +189,7 @@ module _ (S : Streams) (M : State) (inv : Tracks S M) where
       pub reach-ahead : (x : ℕ) → x ≤ far → Ahead e M x
       reach-ahead x l = let a = reach-le in ahead-limit e x (inv .ahead s) (omega arith)
 
-      in-reach : (t : ℕ) → y ≤ t → t < far → (t < limit e (C s) (C (argA e)) (C (argB e))) × T (not (stops e (C s) (C (argA e)) (C (argB e)) t))
+      pub in-reach : (t : ℕ) → y ≤ t → t < far → (t < limit e (C s) (C (argA e)) (C (argB e))) × T (not (stops e (C s) (C (argA e)) (C (argB e)) t))
       unfolding reach
       in-reach t l m =
           let k = least-le (stops e (C s) (C (argA e)) (C (argB e))) y (limit e (C s) (C (argA e)) (C (argB e)) - y) in

@@ -2,26 +2,25 @@
 -- K i is what is known of stream i: its events below its bound. Of an equation with bound y the kept data depends on K
 -- below y alone.
 use mathlib.Core.Path.{_≡_, refl, sym, _∙_, ap}
-use mathlib.Core.Bool.{Bool, true, false, not, cond, _&&_}
+use mathlib.Core.Bool.{Bool, true, false, cond, _&&_}
 use mathlib.Core.Option.{Option, none, some}
-use mathlib.Core.List.{List, [], _∷_}
 use Prim.Native.Nat.{ℕ, zero, suc, pred, _+_, _≤_, _<_, max}
 use native.Mathlib.Omega.{arith}
 use native.Mathlib.Numerals.{add-one}
-use native.Mathlib.Decide.{decLt, decLe}
-use lib.Dec.{T, ltb, eqb, eqb→eq, eqb-refl, T-not, not-T}
+use native.Mathlib.Decide.{decLt}
+use lib.Dec.{eqb, eqb→eq, eqb-refl}
 use lib.IntN.{ℤ}
 use Rattle.meaning.specs.Plan.{Eqn, input, nil, unit, one, two, last, delay, reads}
-use Rattle.meaning.specs.Events.{Stream, Streams, has, orElse}
+use Rattle.meaning.specs.Events.{Stream, Streams, orElse}
 use Rattle.meaning.specs.Table.{latest}
-use Rattle.meaning.proofs.Tests.{Is, yes!, no!, look, true-is, false-is, eqb-self}
+use Rattle.meaning.proofs.Tests.{Is, yes!, no!, look, true-is}
 use Rattle.meaning.proofs.Each.{Each}
 use Rattle.meaning.proofs.Causal.{latest-cong}
 use Rattle.machine.specs.State.{Kept, Cell, noKept}
 use Rattle.machine.specs.Reach.{view, pastLatest, valueAt}
 use Rattle.machine.specs.Step.{argA, argB, absorb, later, keptTold}
 use Rattle.machine.proofs.Cells.{ne-eqb, eqb-ne}
-use Rattle.machine.proofs.Window.{Seen, seen-or, or-none, latest-suc, latest-flat, latest-seam, past-le, past-cong, past-here, past-below, past-mono, past-seam}
+use Rattle.machine.proofs.Window.{Seen, seen-or, or-none, latest-suc, latest-flat, latest-seam, past-le, past-cong, past-here, past-below, past-seam}
 
 -- what a stream has one below z
 abbrev pub below : Stream → ℕ → Option ℤ

@@ -1,16 +1,32 @@
+-- the invariant, and the step that keeps it
 pub mod Kept
 pub mod Tracks
 pub mod Raise
+pub mod Marks
+-- what a move finds is what the solution has
 pub mod Fires
 pub mod Decide
+-- what a list of calls has done, and what holds after each
 pub mod World
-pub mod Marks
+pub mod Move
 pub mod Offers
-pub mod Changes
-pub mod Rest
+pub mod Moving
+pub mod Collecting
 pub mod Start
+-- rest
+pub mod Rest
 pub mod Numbers
 pub mod Claimed
-pub mod Room
 pub mod Reached
+-- the claim
 pub mod Whole
+-- of every state of a run: room, tidiness, the order of moves, the reach
+pub mod Room
+pub mod Tidy
+pub mod Local
+pub mod RunTidy
+pub mod Order
+pub mod RunOrder
+pub mod RunReach
+-- computed
+pub mod Worked

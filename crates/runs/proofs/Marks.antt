@@ -1,22 +1,21 @@
 -- Progress of an input and collection of an output keep the invariant.
 use mathlib.Core.Path.{_≡_, refl, sym, _∙_, ap}
-use mathlib.Core.Bool.{Bool, true, false, not, cond}
-use mathlib.Core.Option.{Option, none, some}
-use mathlib.Core.List.{List, [], _∷_, _++_, append-nil}
-use Prim.Native.Nat.{ℕ, zero, suc, _+_, _≤_, _<_}
+use mathlib.Core.Bool.{cond}
+use mathlib.Core.Option.{none}
+use mathlib.Core.List.{List}
+use Prim.Native.Nat.{ℕ, _≤_, _<_}
 use native.Mathlib.Omega.{arith}
-use native.Mathlib.Decide.{decLt, decLe}
-use lib.Dec.{T, eqb, eqb→eq}
-use lib.ListN.{length, set, length-set}
-use lib.Seq.{getD-set-same, getD-set-other}
+use lib.Dec.{T, eqb}
+use lib.ListN.{length, set}
+use lib.Seq.{getD-set-other}
 use Rattle.meaning.specs.Plan.{Eqn, input, nil, unit, one, two, last, delay, isInput}
-use Rattle.meaning.specs.Events.{Event, Stream, Streams, events, horizon}
+use Rattle.meaning.specs.Events.{Event, Streams, events, horizon}
 use Rattle.meaning.proofs.Tests.{Is, yes!, no!, look}
-use Rattle.machine.specs.State.{Cell, State, absent, cellAt, withBound, withNext, withHeld, noKept}
+use Rattle.machine.specs.State.{Cell, State, absent, cellAt, withBound, withNext, withHeld}
 use Rattle.machine.specs.Step.{readsIt, dropBelow, leastWaiting, release}
 use Rattle.machine.proofs.Cells.{set-cases, eqb-ne}
 use Rattle.machine.proofs.Rising.{events-flat, drop-again}
-use Rattle.machine.proofs.Release.{waiting-grows, Grown, Looser, looser-waiting, release-at, release-looser}
+use Rattle.machine.proofs.Release.{waiting-grows, looser-waiting, release-at, release-looser}
 use Rattle.runs.proofs.Kept.{keptOf, kept-cong}
 use Rattle.runs.proofs.Tracks.{cut, cut-quiet, known, Ahead, ahead-grows, Tracks}
 

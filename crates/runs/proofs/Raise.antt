@@ -2,31 +2,30 @@
 -- Write: the stream's own kept data follows from what its arguments and itself hold. Tell: of what is known only the new
 -- event's stamp changed, and each reader ahead of it takes just that. Release: a stream's least waiting reader changes
 -- only for the stream and its arguments, and dropping twice is dropping once.
-use mathlib.Core.Path.{_≡_, refl, sym, _∙_, ap, subst}
-use mathlib.Core.Bool.{Bool, true, false, not, cond, _||_}
-use mathlib.Core.Option.{Option, none, some}
+use mathlib.Core.Path.{_≡_, refl, sym, _∙_, ap}
+use mathlib.Core.Bool.{not, cond}
+use mathlib.Core.Option.{none, some}
 use mathlib.Core.List.{List, [], _∷_, _++_, append-nil, map}
-use Prim.Native.Nat.{ℕ, zero, suc, _+_, _≤_, _<_, min}
+use Prim.Native.Nat.{ℕ, suc, _≤_, _<_, min}
 use native.Mathlib.Nat.{lt-suc-self}
 use native.Mathlib.Omega.{arith}
-use native.Mathlib.Decide.{decLt, decLe}
-use lib.Dec.{T, ltb, eqb, eqb→eq, eqb-refl, lt→ltb, ltb→lt, nltb→le, T-not, not-T}
-use lib.ListN.{length, set, length-set}
+use lib.Dec.{T, ltb, eqb, eqb→eq, ltb→lt, nltb→le, T-not}
+use lib.ListN.{set, length-set}
 use lib.Seq.{getD-set-same, getD-set-other}
 use lib.IntN.{ℤ}
 use Rattle.meaning.specs.Plan.{Eqn, input, nil, unit, one, two, last, delay, reads}
-use Rattle.meaning.specs.Events.{Event, ev, Stream, Streams, found, events, horizon}
-use Rattle.meaning.proofs.Tests.{Is, yes!, no!, look, true-is, false-is, eqb-self, T-or-l, T-or-r, not-or-l, not-or-r}
-use Rattle.meaning.proofs.Each.{Each, each-map}
-use Rattle.machine.specs.State.{Cell, State, absent, cellAt, withHeld, withKept, withBound, withNext}
+use Rattle.meaning.specs.Events.{Event, ev, Streams, events, horizon}
+use Rattle.meaning.proofs.Tests.{Is, yes!, no!, look, not-or-l, not-or-r}
+use Rattle.meaning.proofs.Each.{each-map}
+use Rattle.machine.specs.State.{Cell, State, absent, cellAt, withHeld, withKept}
 use Rattle.machine.specs.Reach.{view}
-use Rattle.machine.specs.Step.{argA, argB, advance, absorb, absorbed, write, told, tell, readsIt, keptTold, dropBelow, leastWaiting, release, releases, raise}
-use Rattle.machine.proofs.Cells.{set-cases, told-at, ne-eqb, eqb-ne}
+use Rattle.machine.specs.Step.{argA, argB, advance, absorb, absorbed, write, told, tell, readsIt, keptTold, dropBelow, leastWaiting, releases, raise}
+use Rattle.machine.proofs.Cells.{set-cases, told-at, eqb-ne}
 use Rattle.machine.proofs.Window.{Seen}
 use Rattle.machine.proofs.Rising.{drop-more}
-use Rattle.machine.proofs.Release.{each-read, among, read-among, waiting-le-reader, waiting-grows, Grown, releases-at, releases-looser, looser-waiting}
+use Rattle.machine.proofs.Release.{each-read, among, read-among, waiting-le-reader, waiting-grows, releases-at, releases-looser, looser-waiting}
 use Rattle.runs.proofs.Kept.{keptOf, kept-cong, kept-told, kept-absorbed, Edge}
-use Rattle.runs.proofs.Tracks.{cut, cut-yes, cut-no, cut-quiet, cut-event, known, Ahead, ahead-grows, Tracks, New, quiet, event, new-grows, new-none, new-events, held-shows}
+use Rattle.runs.proofs.Tracks.{cut, cut-yes, cut-no, cut-quiet, cut-event, known, Ahead, ahead-grows, Tracks, New, quiet, event, Rise, new-none, new-events, held-shows}
 
 -- ---- a reader ahead of the new event, a delay of it, is just ahead
 
@@ -48,23 +47,22 @@ edge-self (two g c d) s t y q = tt
 edge-self (last c d) s t y q = tt
 edge-self (delay c d) s t y q = λ p. q
 
-module _ (S : Streams) (M : State) (inv : Tracks S M) (s y : ℕ) (new : List Event) (there : s < length M) (grows : cellAt M s .bound < y)
-    (top : y ≤ horizon) (near : Ahead (cellAt M s .eqn) M y) (comes : New (S s) (cellAt M s .bound) y new) where
+module _ (S : Streams) (M : State) (inv : Tracks S M) (s y : ℕ) (new : List Event) (rise : Rise S M s y new) where
   -- ---- the bound goes up
-  abbrev M₁ : State
+  abbrev pub M₁ : State
   M₁ = set M s (advance y new (cellAt M s))
 
-  abbrev C : ℕ → Cell
+  abbrev pub C : ℕ → Cell
   C i = cellAt M₁ i
 
-  C-self : C s ≡ advance y new (cellAt M s)
-  C-self = getD-set-same M s (advance y new (cellAt M s)) absent there
+  pub C-self : C s ≡ advance y new (cellAt M s)
+  C-self = getD-set-same M s (advance y new (cellAt M s)) absent (rise .there)
 
-  C-other : (i : ℕ) → (i ≡ s → ⊥) → C i ≡ cellAt M i
+  pub C-other : (i : ℕ) → (i ≡ s → ⊥) → C i ≡ cellAt M i
   C-other i n = getD-set-other M s i (advance y new (cellAt M s)) absent n
 
   C-cases : (P : ℕ → Cell → Type 0) → ((i : ℕ) → (i ≡ s → ⊥) → P i (cellAt M i)) → P s (advance y new (cellAt M s)) → (i : ℕ) → P i (C i)
-  C-cases P = set-cases P M s (advance y new (cellAt M s)) there
+  C-cases P = set-cases P M s (advance y new (cellAt M s)) (rise .there)
 
   C-eqn : (i : ℕ) → C i .eqn ≡ cellAt M i .eqn
   C-eqn = C-cases (λ i c. c .eqn ≡ cellAt M i .eqn) (λ i n. refl) refl
@@ -75,15 +73,15 @@ module _ (S : Streams) (M : State) (inv : Tracks S M) (s y : ℕ) (new : List Ev
   C-next : (i : ℕ) → C i .next ≡ cellAt M i .next
   C-next = C-cases (λ i c. c .next ≡ cellAt M i .next) (λ i n. refl) refl
 
-  C-up : (i : ℕ) → cellAt M i .bound ≤ C i .bound
+  pub C-up : (i : ℕ) → cellAt M i .bound ≤ C i .bound
   C-up = C-cases (λ i c. cellAt M i .bound ≤ c .bound) (λ i n. omega arith) (omega arith)
 
-  C-new : (i : ℕ) → (es : List Event) × New (S i) (cellAt M i .bound) (C i .bound) es × (C i .held ≡ cellAt M i .held ++ es)
+  pub C-new : (i : ℕ) → (es : List Event) × New (S i) (cellAt M i .bound) (C i .bound) es × (C i .held ≡ cellAt M i .held ++ es)
   C-new =
       C-cases (λ i c. (es : List Event) × New (S i) (cellAt M i .bound) (c .bound) es × (c .held ≡ cellAt M i .held ++ es))
-      (λ i n. ([], new-none (S i) (cellAt M i .bound), sym (append-nil (cellAt M i .held)))) (new, comes, refl)
+      (λ i n. ([], new-none (S i) (cellAt M i .bound), sym (append-nil (cellAt M i .held)))) (new, rise .comes, refl)
 
-  shows : (i : ℕ) → Seen (known S M₁ i) (min (leastWaiting i M) (cellAt M i .bound)) (view (C i))
+  pub shows : (i : ℕ) → Seen (known S M₁ i) (min (leastWaiting i M) (cellAt M i .bound)) (view (C i))
   shows i =
       let n = C-new i in
       rw (n .2, inv .held i) (held-shows (S i) (leastWaiting i M) (cellAt M i .bound) (C i .bound) (n .0) (n .1))
@@ -92,9 +90,9 @@ module _ (S : Streams) (M : State) (inv : Tracks S M) (s y : ℕ) (new : List Ev
   same-below : (i p : ℕ) → p < cellAt M s .bound → known S M i p ≡ known S M₁ i p
   same-below i p l = C-cases (λ i c. cut (S i) (cellAt M i .bound) p ≡ cut (S i) (c .bound) p) (λ i n. refl) (rw (cut-yes (S s) (cellAt M s .bound) p l, cut-yes (S s) y p (omega arith))) i
 
-  own-kept : absorb (C s .eqn) (C s) (C (argA (C s .eqn))) (C (argB (C s .eqn))) ≡ keptOf (C s .eqn) (known S M₁) s y
+  pub own-kept : absorb (C s .eqn) (C s) (C (argA (C s .eqn))) (C (argB (C s .eqn))) ≡ keptOf (C s .eqn) (known S M₁) s y
   own-kept =
-      kept-absorbed (known S M) (known S M₁) s (cellAt M s .bound) y grows same-below C (λ i. min (leastWaiting i M) (cellAt M i .bound)) shows (omega arith) (ap (λ c. c .bound) C-self) (C s .eqn)
+      kept-absorbed (known S M) (known S M₁) s (cellAt M s .bound) y (rise .grows) same-below C (λ i. min (leastWaiting i M) (cellAt M i .bound)) shows (omega arith) (ap (λ c. c .bound) C-self) (C s .eqn)
       (each-map (λ a h. let x = waiting-le-reader a M s (rw (C-eqn s) at h) in omega arith) (reads (C s .eqn)) (each-read (C s .eqn)))
       (ap (λ c. c .kept) C-self ∙ inv .kept s ∙ ap (λ e. keptOf e (known S M) s (cellAt M s .bound)) (sym (C-eqn s)))
 
@@ -104,7 +102,7 @@ module _ (S : Streams) (M : State) (inv : Tracks S M) (s y : ℕ) (new : List Ev
   self₂ : cellAt M₂ s ≡ withKept (keptOf (C s .eqn) (known S M₁) s (C s .bound)) (C s)
   unfolding write absorbed
   self₂ =
-      getD-set-same M₁ s (withKept (absorb (C s .eqn) (C s) (C (argA (C s .eqn))) (C (argB (C s .eqn)))) (C s)) absent (rw (length-set M s (advance y new (cellAt M s))) there)
+      getD-set-same M₁ s (withKept (absorb (C s .eqn) (C s) (C (argA (C s .eqn))) (C (argB (C s .eqn)))) (C s)) absent (rw (length-set M s (advance y new (cellAt M s))) (rise .there))
       ∙ ap (λ k. withKept k (C s)) (own-kept ∙ ap (λ x. keptOf (C s .eqn) (known S M₁) s x) (sym (ap (λ c. c .bound) C-self)))
 
   other₂ : (i : ℕ) → (i ≡ s → ⊥) → cellAt M₂ i ≡ withKept (keptOf (C i .eqn) (known S M) i (C i .bound)) (C i)
@@ -146,9 +144,6 @@ module _ (S : Streams) (M : State) (inv : Tracks S M) (s y : ℕ) (new : List Ev
     unfolding told
     told-cell K i other own edge = ap (λ k. withKept k (C i)) (go (look (ltb t (C i .bound))))
       where
-        k : Cell
-        k = withKept (keptOf (C i .eqn) K i (C i .bound)) (C i)
-
         go : Is (ltb t (C i .bound)) → cond (ltb t (C i .bound)) (keptTold (C i .eqn) s (C i .bound) t v (keptOf (C i .eqn) K i (C i .bound))) (keptOf (C i .eqn) K i (C i .bound)) ≡ keptOf (C i .eqn) (known S M₁) i (C i .bound)
         go (yes! j x) =
             let m = ltb→lt t (C i .bound) x in
@@ -192,7 +187,7 @@ module _ (S : Streams) (M : State) (inv : Tracks S M) (s y : ℕ) (new : List Ev
       ap (λ es. cellAt (tell s es M₂) i) b ∙ ap (λ N. cellAt N i) (tell-one t v M₂) ∙ told-event t v l n e a i
 
   cells₃ : (i : ℕ) → cellAt M₃ i ≡ withKept (keptOf (C i .eqn) (known S M₁) i (C i .bound)) (C i)
-  cells₃ = cells₃-of comes refl refl
+  cells₃ = cells₃-of (rise .comes) refl refl
 
   -- ---- release
   abbrev freed : List ℕ
@@ -264,7 +259,7 @@ module _ (S : Streams) (M : State) (inv : Tracks S M) (s y : ℕ) (new : List Ev
           rw (j, c, w) (inv .held i)
 
   ahead₄ : (i : ℕ) → Ahead (C i .eqn) M (C i .bound)
-  ahead₄ = C-cases (λ i c. Ahead (c .eqn) M (c .bound)) (λ i n. inv .ahead i) near
+  ahead₄ = C-cases (λ i c. Ahead (c .eqn) M (c .bound)) (λ i n. inv .ahead i) (rise .near)
 
   raise-is : raise s y new M ≡ M₄
   unfolding raise
@@ -275,7 +270,7 @@ module _ (S : Streams) (M : State) (inv : Tracks S M) (s y : ℕ) (new : List Ev
     held = λ i. ap (λ c. c .held) (cells₄ i) ∙ rw (waiting₄ i, bound₄ i) (held₄ i);
     kept = λ i. ap (λ c. c .kept) (cells₄ i) ∙ rw (eqn₄ i, bound₄ i) (kept-cong (C i .eqn) (known S M₁) (known S M₄) i (C i .bound) (λ j p l. ap (λ k. cut (S j) k p) (sym (bound₄ j))));
     ahead = λ i. rw (eqn₄ i, bound₄ i) (ahead-grows (C i .eqn) M M₄ (C i .bound) (λ j. let x = C-up j in let z = bound₄ j in omega arith) (ahead₄ i));
-    top = λ i. rw (bound₄ i) (C-cases (λ i c. c .bound ≤ horizon) (λ i n. inv .top i) top i);
+    top = λ i. rw (bound₄ i) (C-cases (λ i c. c .bound ≤ horizon) (λ i n. inv .top i) (rise .top) i);
     taken = λ i. let e = ap (λ c. c .next) (cells₄ i) in let f = bound₄ i in let x = C-next i in let z = C-up i in let u = inv .taken i in omega arith;
   }
 

@@ -3,40 +3,31 @@
 -- undelayed arguments are all above y has its reach above y, for no first argument of a last or delay lies below y. It
 -- cannot move, so it is full and an event waits; but what it holds lies below y, and some reader of a bound below y, or
 -- collection, waits for it, against the choice of y or of rest. So by the cycle rule all bounds are above y.
-use mathlib.Core.Path.{_≡_, refl, sym, _∙_, ap}
+use mathlib.Core.Path.{_≡_, refl, ap}
 use mathlib.Core.Logic.{_⊎_, inl, inr}
-use mathlib.Core.Bool.{Bool, true, false, not, cond, _&&_, _||_}
-use mathlib.Core.Option.{Option, none, some}
+use mathlib.Core.Bool.{not, _&&_}
+use mathlib.Core.Option.{none}
 use mathlib.Core.List.{List, [], _∷_}
-use Prim.Native.Nat.{ℕ, zero, suc, _+_, _≤_, _<_, min, max}
+use Prim.Native.Nat.{ℕ, zero, suc, _≤_, _<_}
 use native.Mathlib.Omega.{arith}
-use native.Mathlib.Decide.{decLt, decLe}
-use lib.Dec.{T, leb, ltb, eqb, ltb→lt, T-not, not-T}
+use native.Mathlib.Decide.{decLt}
+use lib.Dec.{T, ltb, ltb→lt, T-not, not-T}
 use lib.ListN.{length}
-use lib.IntN.{ℤ}
 use Rattle.meaning.specs.Plan.{Eqn, input, nil, unit, one, two, last, delay, Plan, eqnAt, isInput, reads, undelayed}
 use Rattle.meaning.specs.Events.{Event, Streams, found, events, has, horizon}
 use Rattle.meaning.proofs.Tests.{Is, yes!, no!, look, T-and-r, eqb-self}
-use Rattle.meaning.proofs.Each.{Each, each-map}
+use Rattle.meaning.proofs.Each.{Each}
 use Rattle.meaning.proofs.Clear.{clear, clear-args}
-use Rattle.machine.specs.State.{Cell, State, cellAt, room}
-use Rattle.machine.specs.Reach.{view, pastLatest, limit, point, stops, reach}
-use Rattle.machine.specs.Step.{argA, argB, readsIt, leastWaiting, dropBelow, canMove}
+use Rattle.meaning.proofs.Within.{undelayed-read}
+use Rattle.machine.specs.State.{Cell, State, cellAt}
+use Rattle.machine.specs.Reach.{view, limit, point, stops}
+use Rattle.machine.specs.Step.{argA, argB, readsIt, leastWaiting, canMove}
 use Rattle.machine.proofs.Window.{past-le}
 use Rattle.machine.proofs.Rising.{Rising, events-rising, rising-dropped}
 use Rattle.machine.proofs.Release.{waiting-who}
-use Rattle.machine.proofs.Moves.{reachOf, reach-gt, goal-gt, can-of, no-input}
+use Rattle.machine.proofs.Moves.{reach-gt, goal-gt, can-of, no-input}
 use Rattle.runs.proofs.Kept.{keptOf, pointOf, point-le}
 use Rattle.runs.proofs.Tracks.{known, Tracks}
-
-args-in : (P : ℕ → Type 0) (e : Eqn) → Each P (reads e) → Each P (undelayed e)
-args-in P input h = tt
-args-in P nil h = tt
-args-in P unit h = tt
-args-in P (one f a) h = h
-args-in P (two g a b) h = h
-args-in P (last a b) h = h .1
-args-in P (delay a b) h = h .1
 
 each-zip : (P Q R : ℕ → Type 0) → ((a : ℕ) → P a → Q a → R a) → (xs : List ℕ) → Each P xs → Each Q xs → Each R xs
 each-zip P Q R f [] h k = tt
@@ -109,7 +100,7 @@ module _ (S : Streams) (M : State) (inv : Tracks S M) (collected : (s : ℕ) →
       higher (suc d) s c k =
           go (decLt y (C s .bound)) (look (isInput (C s .eqn)))
           (each-zip (λ a. T (clear plan d a)) (λ a. a < length M) (λ a. y < C a .bound) (λ a c k. higher d a c k) (undelayed (C s .eqn))
-          (rw (planned s) (clear-args plan d s c)) (args-in (λ a. a < length M) (C s .eqn) (arguments s)))
+          (rw (planned s) (clear-args plan d s c)) (undelayed-read (λ a. a < length M) (C s .eqn) (arguments s)))
         where
           go : Dec (y < C s .bound) → Is (isInput (C s .eqn)) → Each (λ a. y < C a .bound) (undelayed (C s .eqn)) → y < C s .bound
           go (yes h) i w = h

@@ -1,26 +1,26 @@
 -- The loaded state, and from it every list of calls, keeps what holds.
 use mathlib.Core.Path.{_≡_, refl, sym, _∙_, ap}
-use mathlib.Core.Bool.{Bool, true, false}
-use mathlib.Core.Option.{Option, none, some}
-use mathlib.Core.List.{List, [], _∷_, _++_, map}
-use Prim.Native.Nat.{ℕ, zero, suc, _+_, _≤_, _<_, _^_}
+use mathlib.Core.Bool.{false}
+use mathlib.Core.List.{List, [], _∷_}
+use Prim.Native.Nat.{ℕ, zero, suc}
 use native.Mathlib.Omega.{arith}
-use lib.Dec.{T}
 use lib.ListN.{length, length-map}
 use Rattle.meaning.specs.Plan.{Eqn, input, nil, unit, one, two, last, delay, eqnAt}
-use Rattle.meaning.specs.Events.{Event, Streams, events, horizon}
-use Rattle.meaning.specs.Table.{Solves, latest}
-use Rattle.machine.specs.State.{Declared, Cell, State, fresh, absent, noKept, cellAt, loaded}
+use Rattle.meaning.specs.Events.{Streams}
+use Rattle.meaning.specs.Table.{latest}
+use Rattle.machine.specs.State.{Declared, State, fresh, noKept, cellAt, loaded}
 use Rattle.machine.specs.Reach.{pastLatest}
-use Rattle.machine.specs.Step.{dropBelow, leastWaiting}
+use Rattle.machine.specs.Step.{leastWaiting}
 use Rattle.machine.specs.Calls.{Call, reading, progress, moving, running, collecting, call}
+use Rattle.machine.proofs.Rising.{drop-nil}
 use Rattle.runs.specs.History.{Typed, AllTyped}
 use Rattle.runs.specs.Claim.{planOf}
 use Rattle.runs.proofs.Kept.{keptOf}
 use Rattle.runs.proofs.Tracks.{known, Ahead, Tracks}
-use Rattle.runs.proofs.World.{World, start, then, worlds, Shape, Agrees, Right, Good}
+use Rattle.runs.proofs.World.{World, start, then, worlds, Good}
 use Rattle.runs.proofs.Offers.{offer-reading-good, offer-progress-good}
-use Rattle.runs.proofs.Changes.{move-one-good, run-good, collect-good}
+use Rattle.runs.proofs.Moving.{move-one-good, run-good}
+use Rattle.runs.proofs.Collecting.{collect-good}
 
 -- every cell of the loaded state is fresh
 pub loaded-cell : (ds : List Declared) (s : ℕ) → (d : Declared) × (cellAt (loaded ds) s ≡ fresh d) × (eqnAt (planOf ds) s ≡ d .eqn)
@@ -52,13 +52,9 @@ fresh-ahead (two g a b) M = tt
 fresh-ahead (last a b) M = tt
 fresh-ahead (delay a b) M = omega arith
 
-drop-none : (w : ℕ) → dropBelow w [] ≡ []
-unfolding dropBelow
-drop-none w = refl
-
 pub loaded-tracks : (ds : List Declared) (S : Streams) → Tracks S (loaded ds)
 loaded-tracks ds S = record {
-  held = λ s. let c = loaded-cell ds s .1 in rw c (sym (drop-none (leastWaiting s (loaded ds))));
+  held = λ s. let c = loaded-cell ds s .1 in rw c (sym (drop-nil (leastWaiting s (loaded ds))));
   kept = λ s. let c = loaded-cell ds s in rw (c .1) (fresh-kept (c .0 .eqn) (known S (loaded ds)) s);
   ahead = λ s. let c = loaded-cell ds s in rw (c .1) (fresh-ahead (c .0 .eqn) (loaded ds));
   top = λ s. let c = loaded-cell ds s .1 in rw c (omega arith);

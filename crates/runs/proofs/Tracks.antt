@@ -2,24 +2,24 @@
 -- Each stream holds its events from the least waiting reader on and below its bound; what is kept is what is known below
 -- the bound; a delay is at most one ahead of its second argument.
 use mathlib.Core.Path.{_≡_, refl, sym, _∙_, ap}
-use mathlib.Core.Bool.{Bool, true, false, not, cond}
-use mathlib.Core.Option.{Option, none, some}
+use mathlib.Core.Bool.{cond}
+use mathlib.Core.Option.{none, some}
 use mathlib.Core.List.{List, [], _∷_, _++_, append-nil}
-use Prim.Native.Nat.{ℕ, zero, suc, _+_, _≤_, _<_, min}
+use Prim.Native.Nat.{ℕ, suc, _≤_, _<_, min}
 use native.Mathlib.Nat.{lt-suc-self}
 use native.Mathlib.Omega.{arith}
-use native.Mathlib.Decide.{decLt, decLe}
-use lib.Dec.{T, ltb, eqb, eqb→eq, lt→ltb, ltb→lt, T-not, not-T}
+use native.Mathlib.Decide.{decLt}
+use lib.Dec.{T, ltb, lt→ltb, ltb→lt, not-T}
 use lib.ListN.{length}
 use lib.IntN.{ℤ}
 use Rattle.meaning.specs.Plan.{Eqn, input, nil, unit, one, two, last, delay}
 use Rattle.meaning.specs.Events.{Event, ev, Stream, Streams, found, events, orElse, horizon}
-use Rattle.meaning.proofs.Tests.{Is, yes!, no!, look, true-is, false-is, eqb-self}
-use Rattle.machine.specs.State.{Cell, State, cellAt}
+use Rattle.meaning.proofs.Tests.{true-is, false-is, eqb-self}
+use Rattle.machine.specs.State.{State, cellAt}
 use Rattle.machine.specs.Step.{dropBelow, leastWaiting}
 use Rattle.machine.proofs.Cells.{ne-eqb}
 use Rattle.machine.proofs.Window.{Seen, or-none}
-use Rattle.machine.proofs.Rising.{Rising, events-rising, events-some, events-none, events-flat, found-append, found-events, found-low, found-high, found-drop, rising-drop, rising-dropped}
+use Rattle.machine.proofs.Rising.{Rising, events-rising, events-some, events-flat, found-append, found-events, found-low, found-high, found-drop, rising-drop, rising-dropped}
 use Rattle.machine.proofs.Release.{waiting-le-next}
 use Rattle.runs.proofs.Kept.{keptOf}
 
@@ -147,3 +147,12 @@ cut-event f lo t p l n d = cut-quiet f lo t p l n ∙ go (decLt p t)
     go : Dec (p < t) → cut f t p ≡ cut f (suc t) p
     go (yes c) = rw (cut-yes f t p c, cut-yes f (suc t) p (omega arith))
     go (no c) = rw (cut-no f t p (omega arith), cut-no f (suc t) p (omega arith))
+
+-- ---- a step that may be made: stream s goes on to y, with these new events
+
+pub record Rise (S : Streams) (M : State) (s y : ℕ) (new : List Event) : Type 0 where
+  pub there : s < length M
+  pub grows : cellAt M s .bound < y
+  pub top : y ≤ horizon
+  pub near : Ahead (cellAt M s .eqn) M y
+  pub comes : New (S s) (cellAt M s .bound) y new
