@@ -1,0 +1,1 @@
+// Every call keeps a sound state sound: laws alone, in proofs/.
