@@ -237,7 +237,7 @@ absorb-kept (delay _ _) o a b z ok ha =
 absent-holds : Holds absent
 absent-holds t = tt
 
-cell-holds : (M : State) → Sound M → (i : ℕ) → Holds (cellAt M i)
+pub cell-holds : (M : State) → Sound M → (i : ℕ) → Holds (cellAt M i)
 cell-holds M ok i = go (decLt i (length M))
   where
     go : Dec (i < length M) → Holds (cellAt M i)
