@@ -1,0 +1,299 @@
+-- One step keeps the invariant: a stream's bound goes up, with at most one new event.
+-- Write: the stream's own kept data follows from what its arguments and itself hold. Tell: of what is known only the new
+-- event's stamp changed, and each reader ahead of it takes just that. Release: a stream's least waiting reader changes
+-- only for the stream and its arguments, and dropping twice is dropping once.
+use mathlib.Core.Path.{_≡_, refl, sym, _∙_, ap, subst}
+use mathlib.Core.Bool.{Bool, true, false, not, cond, _||_}
+use mathlib.Core.Option.{Option, none, some}
+use mathlib.Core.List.{List, [], _∷_, _++_, append-nil, map}
+use Prim.Native.Nat.{ℕ, zero, suc, _+_, _≤_, _<_, min}
+use native.Mathlib.Nat.{lt-suc-self}
+use native.Mathlib.Omega.{arith}
+use native.Mathlib.Decide.{decLt, decLe}
+use lib.Dec.{T, ltb, eqb, eqb→eq, eqb-refl, lt→ltb, ltb→lt, nltb→le, T-not, not-T}
+use lib.ListN.{length, set, length-set, length-map}
+use lib.Seq.{getD-set-same, getD-set-other}
+use lib.IntN.{ℤ}
+use Rattle.meaning.specs.Plan.{Eqn, input, nil, unit, one, two, last, delay, reads}
+use Rattle.meaning.specs.Events.{Event, ev, Stream, Streams, found, events, horizon}
+use Rattle.meaning.proofs.Tests.{Is, yes!, no!, look, true-is, false-is, eqb-self, T-or-l, T-or-r, not-or-l, not-or-r}
+use Rattle.meaning.proofs.Each.{Each, each-map}
+use Rattle.machine.specs.State.{Cell, State, absent, cellAt, withHeld, withKept, withBound, withNext}
+use Rattle.machine.specs.Reach.{view}
+use Rattle.machine.specs.Step.{argA, argB, advance, absorb, absorbed, write, told, tell, readsIt, keptTold, dropBelow, leastWaiting, release, releases, raise}
+use Rattle.machine.proofs.Cells.{set-cases, told-at, ne-eqb, eqb-ne}
+use Rattle.machine.proofs.Window.{Seen}
+use Rattle.machine.proofs.Rising.{drop-more}
+use Rattle.machine.proofs.Release.{each-read, among, read-among, waiting-le-reader, waiting-grows, Grown, releases-at, releases-looser, releases-size, looser-waiting}
+use Rattle.runs.proofs.Kept.{keptOf, kept-cong, kept-told, kept-absorbed, Edge}
+use Rattle.runs.proofs.Tracks.{cut, cut-yes, cut-no, cut-quiet, cut-event, known, Ahead, ahead-grows, Tracks, New, quiet, event, new-grows, new-none, new-events, held-shows}
+
+-- ---- a reader ahead of the new event, a delay of it, is just ahead
+
+edge-other : (e : Eqn) (M : State) (s t y : ℕ) → Ahead e M y → cellAt M s .bound ≤ t → t < y → Edge e s t y
+edge-other input M s t y a l m = tt
+edge-other nil M s t y a l m = tt
+edge-other unit M s t y a l m = tt
+edge-other (one f c) M s t y a l m = tt
+edge-other (two g c d) M s t y a l m = tt
+edge-other (last c d) M s t y a l m = tt
+edge-other (delay c d) M s t y a l m = λ q. let k : y ≤ suc (cellAt M s .bound) = rw q at a in omega arith
+
+edge-self : (e : Eqn) (s t y : ℕ) → y ≡ suc t → Edge e s t y
+edge-self input s t y q = tt
+edge-self nil s t y q = tt
+edge-self unit s t y q = tt
+edge-self (one f c) s t y q = tt
+edge-self (two g c d) s t y q = tt
+edge-self (last c d) s t y q = tt
+edge-self (delay c d) s t y q = λ p. q
+
+module _ (S : Streams) (M : State) (inv : Tracks S M) (s y : ℕ) (new : List Event) (there : s < length M) (grows : cellAt M s .bound < y)
+    (top : y ≤ horizon) (near : Ahead (cellAt M s .eqn) M y) (comes : New (S s) (cellAt M s .bound) y new) where
+  -- ---- the bound goes up
+  abbrev M₁ : State
+  M₁ = set M s (advance y new (cellAt M s))
+
+  abbrev C : ℕ → Cell
+  C i = cellAt M₁ i
+
+  C-self : C s ≡ advance y new (cellAt M s)
+  C-self = getD-set-same M s (advance y new (cellAt M s)) absent there
+
+  C-other : (i : ℕ) → (i ≡ s → ⊥) → C i ≡ cellAt M i
+  C-other i n = getD-set-other M s i (advance y new (cellAt M s)) absent n
+
+  C-cases : (P : ℕ → Cell → Type 0) → ((i : ℕ) → (i ≡ s → ⊥) → P i (cellAt M i)) → P s (advance y new (cellAt M s)) → (i : ℕ) → P i (C i)
+  C-cases P = set-cases P M s (advance y new (cellAt M s)) there
+
+  C-eqn : (i : ℕ) → C i .eqn ≡ cellAt M i .eqn
+  C-eqn = C-cases (λ i c. c .eqn ≡ cellAt M i .eqn) (λ i n. refl) refl
+
+  C-out : (i : ℕ) → C i .out ≡ cellAt M i .out
+  C-out = C-cases (λ i c. c .out ≡ cellAt M i .out) (λ i n. refl) refl
+
+  C-next : (i : ℕ) → C i .next ≡ cellAt M i .next
+  C-next = C-cases (λ i c. c .next ≡ cellAt M i .next) (λ i n. refl) refl
+
+  C-up : (i : ℕ) → cellAt M i .bound ≤ C i .bound
+  C-up = C-cases (λ i c. cellAt M i .bound ≤ c .bound) (λ i n. omega arith) (omega arith)
+
+  C-new : (i : ℕ) → (es : List Event) × New (S i) (cellAt M i .bound) (C i .bound) es × (C i .held ≡ cellAt M i .held ++ es)
+  C-new =
+      C-cases (λ i c. (es : List Event) × New (S i) (cellAt M i .bound) (c .bound) es × (c .held ≡ cellAt M i .held ++ es))
+      (λ i n. ([], new-none (S i) (cellAt M i .bound), sym (append-nil (cellAt M i .held)))) (new, comes, refl)
+
+  shows : (i : ℕ) → Seen (known S M₁ i) (min (leastWaiting i M) (cellAt M i .bound)) (view (C i))
+  shows i =
+      let n = C-new i in
+      rw (n .2, inv .held i) (held-shows (S i) (leastWaiting i M) (cellAt M i .bound) (C i .bound) (n .0) (n .1))
+
+  -- ---- write
+  same-below : (i p : ℕ) → p < cellAt M s .bound → known S M i p ≡ known S M₁ i p
+  same-below i p l = C-cases (λ i c. cut (S i) (cellAt M i .bound) p ≡ cut (S i) (c .bound) p) (λ i n. refl) (rw (cut-yes (S s) (cellAt M s .bound) p l, cut-yes (S s) y p (omega arith))) i
+
+  own-kept : absorb (C s .eqn) (C s) (C (argA (C s .eqn))) (C (argB (C s .eqn))) ≡ keptOf (C s .eqn) (known S M₁) s y
+  own-kept =
+      kept-absorbed (known S M) (known S M₁) s (cellAt M s .bound) y grows same-below C (λ i. min (leastWaiting i M) (cellAt M i .bound)) shows (omega arith) (ap (λ c. c .bound) C-self) (C s .eqn)
+      (each-map (λ a h. let x = waiting-le-reader a M s (rw (C-eqn s) at h) in omega arith) (reads (C s .eqn)) (each-read (C s .eqn)))
+      (ap (λ c. c .kept) C-self ∙ inv .kept s ∙ ap (λ e. keptOf e (known S M) s (cellAt M s .bound)) (sym (C-eqn s)))
+
+  abbrev M₂ : State
+  M₂ = write s y new M
+
+  size₂ : length M₂ ≡ length M
+  unfolding write absorbed
+  size₂ = length-set M₁ s (withKept (absorb (C s .eqn) (C s) (C (argA (C s .eqn))) (C (argB (C s .eqn)))) (C s)) ∙ length-set M s (advance y new (cellAt M s))
+
+  self₂ : cellAt M₂ s ≡ withKept (keptOf (C s .eqn) (known S M₁) s (C s .bound)) (C s)
+  unfolding write absorbed
+  self₂ =
+      getD-set-same M₁ s (withKept (absorb (C s .eqn) (C s) (C (argA (C s .eqn))) (C (argB (C s .eqn)))) (C s)) absent (rw (length-set M s (advance y new (cellAt M s))) there)
+      ∙ ap (λ k. withKept k (C s)) (own-kept ∙ ap (λ x. keptOf (C s .eqn) (known S M₁) s x) (sym (ap (λ c. c .bound) C-self)))
+
+  other₂ : (i : ℕ) → (i ≡ s → ⊥) → cellAt M₂ i ≡ withKept (keptOf (C i .eqn) (known S M) i (C i .bound)) (C i)
+  unfolding write absorbed
+  other₂ i n =
+      getD-set-other M₁ s i (withKept (absorb (C s .eqn) (C s) (C (argA (C s .eqn))) (C (argB (C s .eqn)))) (C s)) absent n
+      ∙ rw (C-other i n) (ap (λ k. withKept k (cellAt M i)) (inv .kept i))
+
+  -- ---- tell
+  told-quiet : ((p : ℕ) → cellAt M s .bound ≤ p → p < y → S s p ≡ none) → (i : ℕ) → cellAt M₂ i ≡ withKept (keptOf (C i .eqn) (known S M₁) i (C i .bound)) (C i)
+  told-quiet q i = go (look (eqb i s))
+    where
+      same : (i p : ℕ) → known S M i p ≡ known S M₁ i p
+      same i p = C-cases (λ i c. cut (S i) (cellAt M i .bound) p ≡ cut (S i) (c .bound) p) (λ i n. refl) (cut-quiet (S s) (cellAt M s .bound) y p (omega arith) q) i
+
+      go : Is (eqb i s) → cellAt M₂ i ≡ withKept (keptOf (C i .eqn) (known S M₁) i (C i .bound)) (C i)
+      go (yes! e x) = let d = eqb→eq i s x in rw d self₂
+      go (no! e x) =
+          other₂ i (eqb-ne i s x) ∙ ap (λ k. withKept k (C i)) (kept-cong (C i .eqn) (known S M) (known S M₁) i (C i .bound) (λ j p l. same j p))
+
+  module _ (t : ℕ) (v : ℤ) (l : cellAt M s .bound ≤ t) (q : (p : ℕ) → cellAt M s .bound ≤ p → p < t → S s p ≡ none) (e : S s t ≡ some v) (at : y ≡ suc t) where
+    self-bound : C s .bound ≡ suc t
+    self-bound = ap (λ c. c .bound) C-self ∙ at
+
+    changed : (i p : ℕ) → (i ≡ s → p ≡ t → ⊥) → known S M i p ≡ known S M₁ i p
+    changed i p =
+        C-cases (λ i c. (i ≡ s → p ≡ t → ⊥) → cut (S i) (cellAt M i .bound) p ≡ cut (S i) (c .bound) p) (λ i n d. refl)
+        (λ d. rw at (cut-event (S s) (cellAt M s .bound) t p l q (d refl))) i
+
+    here : known S M₁ s t ≡ some v
+    here = rw self-bound (cut-yes (S s) (suc t) t (lt-suc-self t) ∙ e)
+
+    above : (p : ℕ) → t < p → known S M₁ s p ≡ none
+    above p k = rw self-bound (cut-no (S s) (suc t) p k)
+
+    told-cell : (K : Streams) (i : ℕ) → ((i p : ℕ) → (i ≡ s → p ≡ t → ⊥) → K i p ≡ known S M₁ i p) → ((p : ℕ) → K i p ≡ known S M₁ i p)
+        → (t < C i .bound → Edge (C i .eqn) s t (C i .bound))
+        → told s t v (withKept (keptOf (C i .eqn) K i (C i .bound)) (C i)) ≡ withKept (keptOf (C i .eqn) (known S M₁) i (C i .bound)) (C i)
+    unfolding told
+    told-cell K i other own edge = ap (λ k. withKept k (C i)) (go (look (ltb t (C i .bound))))
+      where
+        k : Cell
+        k = withKept (keptOf (C i .eqn) K i (C i .bound)) (C i)
+
+        go : Is (ltb t (C i .bound)) → cond (ltb t (C i .bound)) (keptTold (C i .eqn) s (C i .bound) t v (keptOf (C i .eqn) K i (C i .bound))) (keptOf (C i .eqn) K i (C i .bound)) ≡ keptOf (C i .eqn) (known S M₁) i (C i .bound)
+        go (yes! j x) =
+            let m = ltb→lt t (C i .bound) x in
+            rw j (kept-told K (known S M₁) s t v other here above (C i .eqn) i (C i .bound) m own (edge m))
+        go (no! j x) =
+            let m = nltb→le t (C i .bound) x in
+            rw j (kept-cong (C i .eqn) K (known S M₁) i (C i .bound) (λ a p n. other a p (λ f g. omega arith)))
+
+    told-event : (i : ℕ) → cellAt (map (told s t v) M₂) i ≡ withKept (keptOf (C i .eqn) (known S M₁) i (C i .bound)) (C i)
+    told-event i = told-at s t v M₂ i ∙ go (look (eqb i s))
+      where
+        go : Is (eqb i s) → told s t v (cellAt M₂ i) ≡ withKept (keptOf (C i .eqn) (known S M₁) i (C i .bound)) (C i)
+        go (yes! j x) =
+            let d = eqb→eq i s x in
+            rw (d, self₂) (told-cell (known S M₁) s (λ a p n. refl) (λ p. refl) (λ m. edge-self (C s .eqn) s t (C s .bound) self-bound))
+        go (no! j x) =
+            let n = eqb-ne i s x in
+            rw (other₂ i n) (told-cell (known S M) i changed (λ p. changed i p (λ f g. n f)) (λ m. edge i n m))
+          where
+            edge : (i : ℕ) → (i ≡ s → ⊥) → t < C i .bound → Edge (C i .eqn) s t (C i .bound)
+            edge i n m =
+                let c = C-other i n in
+                let near : Ahead (C i .eqn) M (C i .bound) = rw c (inv .ahead i) in
+                edge-other (C i .eqn) M s t (C i .bound) near l m
+
+  abbrev M₃ : State
+  M₃ = tell s new M₂
+
+  tell-none : (N : State) → tell s [] N ≡ N
+  unfolding tell
+  tell-none N = refl
+
+  tell-one : (t : ℕ) (v : ℤ) (N : State) → tell s (ev t v ∷ []) N ≡ map (told s t v) N
+  unfolding tell
+  tell-one t v N = refl
+
+  cells₃-of : {x : ℕ} {es : List Event} → New (S s) (cellAt M s .bound) x es → y ≡ x → new ≡ es → (i : ℕ) → cellAt M₃ i ≡ withKept (keptOf (C i .eqn) (known S M₁) i (C i .bound)) (C i)
+  cells₃-of (quiet l n) a b i =
+      ap (λ es. cellAt (tell s es M₂) i) b ∙ ap (λ N. cellAt N i) (tell-none M₂) ∙ told-quiet (λ p j k. n p j (omega arith)) i
+  cells₃-of (event {t} {v} l n e) a b i =
+      ap (λ es. cellAt (tell s es M₂) i) b ∙ ap (λ N. cellAt N i) (tell-one t v M₂) ∙ told-event t v l n e a i
+
+  size₃-of : (es : List Event) → length (tell s es M₂) ≡ length M
+  unfolding tell
+  size₃-of [] = size₂
+  size₃-of (e ∷ es) = length-map M₂ (told s (e .stamp) (e .value)) ∙ size₂
+
+  cells₃ : (i : ℕ) → cellAt M₃ i ≡ withKept (keptOf (C i .eqn) (known S M₁) i (C i .bound)) (C i)
+  cells₃ = cells₃-of comes refl refl
+
+  -- ---- release
+  abbrev freed : List ℕ
+  freed = s ∷ reads (cellAt M s .eqn)
+
+  abbrev M₄ : State
+  M₄ = releases freed M₃
+
+  abbrev left : ℕ → List Event
+  left i = cond (among i freed) (dropBelow (leastWaiting i M₃) (C i .held)) (C i .held)
+
+  cells₄ : (i : ℕ) → cellAt M₄ i ≡ withHeld (left i) (withKept (keptOf (C i .eqn) (known S M₁) i (C i .bound)) (C i))
+  cells₄ i = releases-at freed M₃ i ∙ rw (cells₃ i)
+
+  bound₄ : (i : ℕ) → cellAt M₄ i .bound ≡ C i .bound
+  bound₄ i = ap (λ c. c .bound) (cells₄ i)
+
+  eqn₄ : (i : ℕ) → cellAt M₄ i .eqn ≡ C i .eqn
+  eqn₄ i = ap (λ c. c .eqn) (cells₄ i)
+
+  bound₃ : (i : ℕ) → cellAt M₃ i .bound ≡ C i .bound
+  bound₃ i = ap (λ c. c .bound) (cells₃ i)
+
+  eqn₃ : (i : ℕ) → cellAt M₃ i .eqn ≡ cellAt M i .eqn
+  eqn₃ i = ap (λ c. c .eqn) (cells₃ i) ∙ C-eqn i
+
+  out₃ : (i : ℕ) → cellAt M₃ i .out ≡ cellAt M i .out
+  out₃ i = ap (λ c. c .out) (cells₃ i) ∙ C-out i
+
+  next₃ : (i : ℕ) → cellAt M₃ i .next ≡ cellAt M i .next
+  next₃ i = ap (λ c. c .next) (cells₃ i) ∙ C-next i
+
+  waiting₄ : (i : ℕ) → leastWaiting i M₄ ≡ leastWaiting i M₃
+  waiting₄ i = looser-waiting i M₃ M₄ (releases-looser freed M₃)
+
+  waiting-up : (i : ℕ) → leastWaiting i M ≤ leastWaiting i M₃
+  waiting-up i =
+      waiting-grows i M M₃ (record { eqns = eqn₃; outs = out₃ i; bounds = λ r h. let x = C-up r in let z = bound₃ r in omega arith; marks = let x = next₃ i in omega arith })
+
+  -- a stream that s does not read waits as before
+  waiting-down : (i : ℕ) → T (not (among i freed)) → leastWaiting i M₃ ≤ leastWaiting i M
+  waiting-down i n =
+      waiting-grows i M₃ M (record {
+        eqns = λ r. sym (eqn₃ r);
+        outs = sym (out₃ i);
+        bounds = λ r h. let x = bound₃ r in let z = C-other r (λ q. other r q h) in let u = ap (λ c. c .bound) z in omega arith;
+        marks = let x = next₃ i in omega arith;
+      })
+    where
+      other : (r : ℕ) → r ≡ s → T (readsIt i (cellAt M₃ r .eqn)) → ⊥
+      other r q h =
+          let k : T (readsIt i (cellAt M s .eqn)) = rw (eqn₃ r, q) at h in
+          T-not (among i (reads (cellAt M s .eqn))) (not-or-r (eqb i s) (among i (reads (cellAt M s .eqn))) n) (read-among i (cellAt M s .eqn) k)
+
+  held₄ : (i : ℕ) → left i ≡ dropBelow (leastWaiting i M₃) (events (S i) (C i .bound))
+  held₄ i = go (look (among i freed))
+    where
+      all : dropBelow (leastWaiting i M₃) (C i .held) ≡ dropBelow (leastWaiting i M₃) (events (S i) (C i .bound))
+      all =
+          let n = C-new i in
+          rw (n .2, inv .held i, new-events (n .1)) (drop-more (leastWaiting i M) (leastWaiting i M₃) (events (S i) (cellAt M i .bound)) (n .0) (waiting-up i))
+
+      go : Is (among i freed) → cond (among i freed) (dropBelow (leastWaiting i M₃) (C i .held)) (C i .held) ≡ dropBelow (leastWaiting i M₃) (events (S i) (C i .bound))
+      go (yes! j x) = rw j all
+      go (no! j x) =
+          let c = C-other i (eqb-ne i s (not-or-l (eqb i s) (among i (reads (cellAt M s .eqn))) x)) in
+          let a = waiting-up i in let b = waiting-down i x in
+          let w : leastWaiting i M₃ ≡ leastWaiting i M = omega arith in
+          rw (j, c, w) (inv .held i)
+
+  ahead₄ : (i : ℕ) → Ahead (C i .eqn) M (C i .bound)
+  ahead₄ = C-cases (λ i c. Ahead (c .eqn) M (c .bound)) (λ i n. inv .ahead i) near
+
+  raise-is : raise s y new M ≡ M₄
+  unfolding raise
+  raise-is = refl
+
+  tracks₄ : Tracks S M₄
+  tracks₄ = record {
+    held = λ i. ap (λ c. c .held) (cells₄ i) ∙ rw (waiting₄ i, bound₄ i) (held₄ i);
+    kept = λ i. ap (λ c. c .kept) (cells₄ i) ∙ rw (eqn₄ i, bound₄ i) (kept-cong (C i .eqn) (known S M₁) (known S M₄) i (C i .bound) (λ j p l. ap (λ k. cut (S j) k p) (sym (bound₄ j))));
+    ahead = λ i. rw (eqn₄ i, bound₄ i) (ahead-grows (C i .eqn) M M₄ (C i .bound) (λ j. let x = C-up j in let z = bound₄ j in omega arith) (ahead₄ i));
+    top = λ i. rw (bound₄ i) (C-cases (λ i c. c .bound ≤ horizon) (λ i n. inv .top i) top i);
+    taken = λ i. let e = ap (λ c. c .next) (cells₄ i) in let f = bound₄ i in let x = C-next i in let z = C-up i in let u = inv .taken i in omega arith;
+  }
+
+  pub raise-tracks : Tracks S (raise s y new M)
+  raise-tracks = rw raise-is tracks₄
+
+  -- ---- what the step leaves alone
+  pub raise-size : length (raise s y new M) ≡ length M
+  raise-size = ap length raise-is ∙ releases-size freed M₃ ∙ size₃-of new
+
+  pub raise-cell : (i : ℕ) → cellAt (raise s y new M) i ≡ withHeld (dropBelow (leastWaiting i (raise s y new M)) (events (S i) (C i .bound))) (withKept (keptOf (C i .eqn) (known S M₁) i (C i .bound)) (C i))
+  raise-cell i = rw raise-is (cells₄ i ∙ ap (λ h. withHeld h (withKept (keptOf (C i .eqn) (known S M₁) i (C i .bound)) (C i))) (held₄ i ∙ ap (λ w. dropBelow w (events (S i) (C i .bound))) (sym (waiting₄ i))))
