@@ -14,7 +14,8 @@ use look::Kept;
 use look::Look;
 use look::Op;
 
-fn before(z: u64) -> u64
+// One less, and 0 of 0.
+pub fn before(z: u64) -> u64
     ensures { λ r. ⌜ r ≡ pred z ⌝ }
 {
     if z == 0 { 0 } else { z - 1 }

@@ -1,0 +1,4 @@
+pub mod Groups
+pub mod Sparse
+pub mod Steps
+pub mod Searches
