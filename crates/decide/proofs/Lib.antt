@@ -1,4 +1,3 @@
-pub mod Groups
 pub mod Sparse
 pub mod Steps
 pub mod Searches

@@ -16,7 +16,7 @@ use Rattle.machine.proofs.Search.{least-ge}
 use Rattle.operators.specs.Operators.{numberOf}
 use Rattle.look.specs.Look.{ownCell, argCell}
 use Rattle.decide.specs.Search.{pick, stamps, dueAt, wanted, halts, test, candidateOf, search}
-use Rattle.decide.proofs.Groups.{is-input, is-unit, is-plain, is-one, is-two, is-last, is-delay, is-other}
+use Rattle.look.proofs.Groups.{is-input, is-unit, is-plain, is-one, is-two, is-last, is-delay, is-other}
 use Rattle.decide.proofs.Sparse.{first-pick, reach-pick}
 
 -- ---- lists of candidates
