@@ -1,22 +1,21 @@
 -- The kept data of each operator, and the record that holds them.
 use Prim.Native.Nat.{ℕ, _<_, _^_}
-use mathlib.Core.Path.{_≡_, refl, sym, ap, ap₂, _∙_}
-use mathlib.Core.Bool.{Bool, true, false, cond}
-use mathlib.Core.Option.{Option, none, some}
+use mathlib.Core.Path.{_≡_, refl, sym, ap, _∙_}
+use mathlib.Core.Bool.{Bool, cond}
+use mathlib.Core.Option.{Option, none}
 use mathlib.Core.List.{List}
 use native.Mathlib.Omega.{arith}
-use lib.Dec.{lit<, eqb}
 use lib.IntN.{ℤ}
 use borrow.Author.Tests.{eq-eqb, ne-eqb}
-use Rattle.meaning.specs.Plan.{Unary, time, neg, set, plus, Calc, add, sub, mul, div, rem, lt, le, eq, Binary, calc, keep, merge, Eqn, input, nil, unit, one, two, last, delay}
+use Rattle.meaning.specs.Plan.{time, neg, set, plus, add, sub, mul, div, rem, lt, le, eq, calc, keep, merge, Eqn, input, nil, unit, one, two, last, delay}
 use Rattle.meaning.specs.Events.{Event}
 use Rattle.machine.specs.State.{Kept, Cell, withKept}
 use Rattle.machine.specs.Reach.{valueAt}
 use Rattle.machine.specs.Step.{later, absorb}
-use Rattle.operators.specs.Operators.{numberOf, firstOf, secondOf, valueOf}
+use Rattle.operators.specs.Operators.{numberOf}
 use Rattle.layout.specs.Record.{Raw, encRaw, decRaw, num, withNum, opF, flagF, priorFlagF, keptF, valueF, priorF}
 use Rattle.layout.proofs.Laws.{RawOk, raw-enc, num-ok}
-use Rattle.cells.specs.View.{flagOf, bitsOf, KeptNums, keptNums, rawOf, ofCell}
+use Rattle.cells.specs.View.{flagOf, bitsOf, keptNums, rawOf, ofCell}
 use Rattle.look.specs.Look.{argCell}
 use Rattle.look.proofs.Groups.{is-last, is-delay, is-other}
 use Rattle.absorb.specs.Keep.{movedCell, lastKept, valueKept, priorKept, delayKept, keptRow}
