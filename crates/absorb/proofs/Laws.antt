@@ -1,22 +1,21 @@
 -- The kept data of each operator, and the record that holds them.
 use Prim.Native.Nat.{ℕ, _<_, _^_}
-use mathlib.Core.Path.{_≡_, refl, sym, ap, ap₂, _∙_}
-use mathlib.Core.Bool.{Bool, true, false, cond}
-use mathlib.Core.Option.{Option, none, some}
+use mathlib.Core.Path.{_≡_, refl, sym, ap, _∙_}
+use mathlib.Core.Bool.{Bool, cond}
+use mathlib.Core.Option.{Option, none}
 use mathlib.Core.List.{List}
 use native.Mathlib.Omega.{arith}
-use lib.Dec.{lit<, eqb}
 use lib.IntN.{ℤ}
 use borrow.Author.Tests.{eq-eqb, ne-eqb}
-use Rattle.meaning.specs.Plan.{Unary, time, neg, set, plus, Calc, add, sub, mul, div, rem, lt, le, eq, Binary, calc, keep, merge, Eqn, input, nil, unit, one, two, last, delay}
+use Rattle.meaning.specs.Plan.{time, neg, set, plus, add, sub, mul, div, rem, lt, le, eq, calc, keep, merge, Eqn, input, nil, unit, one, two, last, delay}
 use Rattle.meaning.specs.Events.{Event}
 use Rattle.machine.specs.State.{Kept, Cell, withKept}
 use Rattle.machine.specs.Reach.{valueAt}
 use Rattle.machine.specs.Step.{later, absorb}
-use Rattle.operators.specs.Operators.{numberOf, firstOf, secondOf, valueOf}
-use Rattle.layout.specs.Record.{Raw, num, withNum, opF, flagF, priorFlagF, keptF, valueF, priorF}
-use Rattle.layout.proofs.Laws.{RawOk, num-ok}
-use Rattle.cells.specs.View.{flagOf, bitsOf, KeptNums, keptNums, rawOf, ofCell}
+use Rattle.operators.specs.Operators.{numberOf}
+use Rattle.layout.specs.Record.{Raw, encRaw, decRaw, num, withNum, opF, flagF, priorFlagF, keptF, valueF, priorF}
+use Rattle.layout.proofs.Laws.{RawOk, raw-enc, num-ok}
+use Rattle.cells.specs.View.{flagOf, bitsOf, keptNums, rawOf, ofCell}
 use Rattle.look.specs.Look.{argCell}
 use Rattle.look.proofs.Groups.{is-last, is-delay, is-other}
 use Rattle.absorb.specs.Keep.{movedCell, lastKept, valueKept, priorKept, delayKept, keptRow}
@@ -103,6 +102,15 @@ pub delay-is : (k : Kept) (r : Raw) (h v p w : ℕ) → h ≡ flagOf (k .value) 
     → delayKept k r ≡ priorKept p w (valueKept h v (withNum keptF (k .since) r))
 unfolding delayKept
 delay-is k r h v p w eh ev ep ew = rw (eh, ev, ep, ew)
+
+pub delay-ok : (k : Kept) (r : Raw) (h v p w : ℕ) → delayKept k r ≡ priorKept p w (valueKept h v (withNum keptF (k .since) r))
+    → k .since < 2 ^ 64 → h < 256 → v < 2 ^ 64 → p < 256 → w < 2 ^ 64 → RawOk r → RawOk (delayKept k r)
+delay-ok k r h v p w e hs hh hv hp hw ok =
+    rw e (prior-ok p w (valueKept h v (withNum keptF (k .since) r)) hp hw (value-ok h v (withNum keptF (k .since) r) hh hv (num-ok r keptF (k .since) ok (omega arith))))
+
+-- what was stored is read back
+pub back : (p : List ℕ) (r : Raw) → p ≡ encRaw r → RawOk r → decRaw p ≡ r
+back p r e ok = ap decRaw e ∙ raw-enc r ok
 
 -- ---- a cell's record with other kept data is the record of the cell with them
 

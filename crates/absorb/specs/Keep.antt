@@ -1,6 +1,6 @@
 -- What a last or a delay keeps, in the numbers of its record.
 use Prim.Native.Nat.{ℕ}
-use mathlib.Core.Bool.{Bool, false, cond}
+use mathlib.Core.Bool.{false, cond}
 use mathlib.Core.List.{List}
 use lib.Dec.{eqb}
 use Rattle.meaning.specs.Plan.{Eqn}

@@ -142,7 +142,8 @@ fn keep_prior(r: &mut [u8], has: u64, bits: u64)
 // Stores what a delay keeps.
 fn keep_delay(r: &mut [u8], k: Kept)
     requires { ⌜ length (now r) ≡ 256 ⌝ }
-    ensures { λ _. ⌜ now (r .exit) ≡ encRaw (delayKept (keptIn k) (decRaw (now (r .entry)))) ⌝ }
+    ensures stored { λ _. ⌜ now (r .exit) ≡ encRaw (delayKept (keptIn k) (decRaw (now (r .entry)))) ⌝ }
+    ensures back { λ _. ⌜ decRaw (now (r .exit)) ≡ delayKept (keptIn k) (decRaw (now (r .entry))) ⌝ }
 {
     let value = k.value;
     let prior = k.prior;
@@ -158,7 +159,8 @@ fn keep_delay(r: &mut [u8], k: Kept)
 // Stores what a last or a delay keeps in its record; other records stay as they are.
 pub fn keep(r: &mut [u8], k: Kept)
     requires { ⌜ length (now r) ≡ 256 ⌝ }
-    ensures { λ _. ⌜ now (r .exit) ≡ encRaw (keptRow (keptIn k) (decRaw (now (r .entry)))) ⌝ }
+    ensures stored { λ _. ⌜ now (r .exit) ≡ encRaw (keptRow (keptIn k) (decRaw (now (r .entry)))) ⌝ }
+    ensures back { λ _. ⌜ decRaw (now (r .exit)) ≡ keptRow (keptIn k) (decRaw (now (r .entry))) ⌝ }
 {
     let op = layout::byte_at(r, 0);
     if op == 18 {

@@ -1,5 +1,5 @@
 -- The searches of the code are those of the machine, group by group of operators.
-use Prim.Native.Nat.{ℕ, zero, suc, pred, _+_, _-_, _<_, _≤_, max, min}
+use Prim.Native.Nat.{ℕ, suc, _+_, _-_, _<_, _≤_, max, min}
 use mathlib.Core.Path.{_≡_, refl, sym, ap, ap₂, _∙_}
 use mathlib.Core.Bool.{Bool, true, false, cond, _&&_}
 use mathlib.Core.Option.{Option, none, some}
@@ -8,10 +8,10 @@ use native.Mathlib.Omega.{arith}
 use lib.Dec.{leb, ltb}
 use lib.IntN.{ℤ}
 use borrow.Author.Tests.{lt-ltb, le-ltb}
-use Rattle.meaning.specs.Plan.{Unary, Binary, Eqn, input, nil, unit, one, two, last, delay}
-use Rattle.meaning.specs.Events.{Event, has, horizon}
+use Rattle.meaning.specs.Plan.{Eqn, input, nil, unit, one, two, last, delay}
+use Rattle.meaning.specs.Events.{has, horizon}
 use Rattle.machine.specs.State.{Cell}
-use Rattle.machine.specs.Reach.{limit, stops, gives, reach, first, Next, event, silent, nextOf, decide}
+use Rattle.machine.specs.Reach.{limit, stops, gives, reach, first, event, silent, nextOf, decide}
 use Rattle.machine.proofs.Search.{least-ge}
 use Rattle.operators.specs.Operators.{numberOf}
 use Rattle.look.specs.Look.{ownCell, argCell}

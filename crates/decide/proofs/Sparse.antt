@@ -1,10 +1,10 @@
 -- The searches of a move as code does them: over the held events, and not over all stamps.
-use mathlib.Core.Path.{_≡_, refl, sym, _∙_, ap}
+use mathlib.Core.Path.{_≡_, refl}
 use mathlib.Core.Logic.{_⊎_, inl, inr}
 use mathlib.Core.Bool.{Bool, true, false, not, cond, _&&_, _||_}
 use mathlib.Core.Option.{Option, none, some}
 use mathlib.Core.List.{List, [], _∷_, _++_, map}
-use Prim.Native.Nat.{ℕ, zero, suc, pred, _+_, _-_, _≤_, _<_, min, max}
+use Prim.Native.Nat.{ℕ, zero, suc, pred, _+_, _-_, _≤_, _<_, max}
 use native.Mathlib.Omega.{arith}
 use native.Mathlib.Decide.{decLt, decLe}
 use lib.Dec.{T, leb, ltb, eqb, leb→le, ltb→lt, eqb→eq, le→leb, lt→ltb, eqb-refl, not-T, T-not}
@@ -14,7 +14,7 @@ use Rattle.meaning.specs.Events.{Event, found, has, orElse}
 use Rattle.meaning.specs.Table.{one-at, two-at, unit-at, last-at, is, delay-at}
 use Rattle.meaning.proofs.Tests.{Is, yes!, no!, look, T-and, T-and-l, T-and-r, T-or, T-or-l, T-or-r}
 use Rattle.machine.specs.State.{Cell}
-use Rattle.machine.specs.Reach.{view, pastLatest, least, limit, point, stops, reach, valueAt, due, gives, first}
+use Rattle.machine.specs.Reach.{view, pastLatest, least, limit, point, stops, reach, due, gives, first}
 use Rattle.machine.proofs.Search.{least-ge, least-is}
 use Rattle.machine.proofs.Window.{past-le, past-max, past-hit}
 use Rattle.gives.specs.Near.{size}

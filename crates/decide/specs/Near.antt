@@ -2,7 +2,6 @@
 use Prim.Native.Nat.{ℕ, suc}
 use mathlib.Core.Bool.{Bool}
 use mathlib.Core.List.{List}
-use lib.IntN.{ℤ}
 use Rattle.meaning.specs.Events.{Event}
 use Rattle.machine.specs.Reach as machine
 use Rattle.look.specs.declared.Look.{Look}

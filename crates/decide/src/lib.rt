@@ -1,7 +1,7 @@
 // The decision of a move: how far the equation sees, and the first event that it has there.
 ghost use mathlib.Core.Path.{_≡_};
 ghost use mathlib.Core.List.{List};
-ghost use Prim.Native.Nat.{ℕ, _≤_, _<_, min, max};
+ghost use Prim.Native.Nat.{_≤_, _<_, min, max};
 ghost use lib.ListN.{length};
 ghost use Rattle.meaning.specs.Events.{Event, horizon};
 ghost use Rattle.machine.specs.Reach as machine;

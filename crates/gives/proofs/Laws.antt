@@ -1,5 +1,5 @@
 -- The laws that the functions of this crate cite: one for each way out.
-use Prim.Native.Nat.{ℕ, zero, suc, pred, _+_, _-_, _<_, _≤_, _^_, max}
+use Prim.Native.Nat.{ℕ, zero, suc, pred, _-_, _<_, _≤_, _^_}
 use mathlib.Core.Path.{_≡_, refl, sym, ap, ap₂, _∙_}
 use mathlib.Core.Bool.{Bool, true, false, cond, _&&_}
 use mathlib.Core.Option.{Option, none, some}
@@ -13,13 +13,12 @@ use mir.Val.{Fits}
 use borrow.Author.Tests.{lt-ltb, le-ltb, eq-eqb, ne-eqb, ltb-true}
 use Rattle.meaning.specs.Events.{Stream, orElse}
 use Rattle.meaning.specs.Table.{is, unit-at}
-use Rattle.machine.specs.State.{Cell}
 use Rattle.machine.specs.Reach as machine
 use Rattle.machine.proofs.Window.{or-none}
 use Rattle.look.specs.declared.Op.{Op}
 use Rattle.look.specs.declared.Look.{Look}
 use Rattle.look.specs.Look.{equation, ownOf, argOf}
-use Rattle.gives.specs.Near.{size, givesIn}
+use Rattle.gives.specs.Near.{size}
 
 -- ---- a value as a number of stamps
 

@@ -1,14 +1,14 @@
 -- A list of events as a stream: the latest event below a stamp, read off the list.
 use mathlib.Core.Path.{_≡_, refl, sym, _∙_, ap}
-use mathlib.Core.Bool.{Bool, true, false, not, cond}
+use mathlib.Core.Bool.{cond}
 use mathlib.Core.Option.{Option, none, some}
 use mathlib.Core.List.{List, [], _∷_}
-use Prim.Native.Nat.{ℕ, zero, suc, pred, _+_, _-_, _≤_, _<_, max}
+use Prim.Native.Nat.{ℕ, zero, suc, pred, _-_, _≤_, _<_, max}
 use native.Mathlib.Omega.{arith}
-use native.Mathlib.Decide.{decLt, decLe}
+use native.Mathlib.Decide.{decLe}
 use lib.Dec.{T, ltb, eqb, ltb→lt, eqb→eq, nltb→le, eqb-refl, T-not}
 use lib.IntN.{ℤ}
-use Rattle.meaning.specs.Events.{Stream, Event, ev, found, has}
+use Rattle.meaning.specs.Events.{Stream, Event, found, has}
 use Rattle.meaning.specs.Table.{latest}
 use Rattle.meaning.proofs.Tests.{Is, yes!, no!, look}
 use Rattle.machine.specs.Reach.{pastLatest}

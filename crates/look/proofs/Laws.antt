@@ -1,22 +1,21 @@
 -- The operators by their stored numbers, and the fields of a record as a move looks at it.
-use Prim.Native.Nat.{ℕ, zero, suc, _+_, _≤_, _<_, min}
-use mathlib.Core.Path.{_≡_, refl, sym, ap, ap₂, _∙_}
-use mathlib.Core.Bool.{Bool, true, false, not, cond}
-use mathlib.Core.Option.{Option, none, some}
+use Prim.Native.Nat.{ℕ, zero, suc, _≤_, _<_, min}
+use mathlib.Core.Path.{_≡_, refl, sym, ap, _∙_}
+use mathlib.Core.Bool.{cond}
+use mathlib.Core.Option.{none, some}
 use native.Mathlib.Omega.{arith}
-use native.Mathlib.Nat.{min-eq-left}
-use lib.Dec.{eqb}
 use lib.IntN.{ℤ}
 use lib.ListN.{List·getD-eq-default}
 use mir.Syntax.{w64}
 use mir.Val.{toZ}
 use borrow.Author.Tests.{eq-eqb, ne-eqb}
-use Rattle.meaning.specs.Plan.{Eqn, nil}
+use Rattle.meaning.specs.Plan.{nil}
 use Rattle.meaning.specs.Events.{horizon}
-use Rattle.machine.specs.State.{Kept, Cell, noKept}
+use Rattle.machine.specs.State.{Cell, noKept}
 use Rattle.operators.specs.Operators.{Operator, operators, noOperator, eqnOf, numberOf}
 use Rattle.operators.proofs.Laws.{number-back}
 use Rattle.layout.specs.Record.{Raw, num, opF, aF, bF, kF, flagF, priorFlagF, boundF, keptF, valueF, priorF}
+use Rattle.cells.specs.View.{ofCell}
 use Rattle.cells.specs.Back.{toCell, keptOf, optional}
 use Rattle.look.specs.Look.{lookOf, cut, cutKept}
 
@@ -90,6 +89,11 @@ module _ (r : Raw) where
   pub look-valid : num boundF r ≤ horizon → toCell r .kept .since ≤ num boundF r → lookOf r ≡ toCell r
   unfolding lookOf toCell
   look-valid h k = cut-same (toCell r) h k
+
+-- the record of such a cell is looked at as the cell, where it is read back as it
+pub look-cell : (c : Cell) → toCell (ofCell c) ≡ c → c .bound ≤ horizon → c .kept .since ≤ c .bound → lookOf (ofCell c) ≡ c
+unfolding lookOf
+look-cell c e h k = ap cut e ∙ cut-same c h k
 
 pub optional-none : (has x : ℕ) → has ≡ 0 → none ≡ optional has x
 optional-none has x e = sym (ap (λ b. cond b none (some (toZ w64 x))) (eq-eqb has 0 e))

@@ -1,5 +1,4 @@
 -- The operators of the code as those of a plan.
-use lib.IntN.{ℤ}
 use Rattle.meaning.specs.Plan as plan
 use Rattle.table.specs.declared.Unary.{Unary}
 use Rattle.table.specs.declared.Unary.the-variants.{Time, Set, Plus, Neg}

@@ -1,19 +1,4 @@
-use Prim.Native.Nat.{ℕ, _+_, _-_, _<_, _≤_}
-use mathlib.Core.Path.{_≡_, refl, sym, ap, ap₂, _∙_}
-use mathlib.Core.Option.{some}
-use denote.Ref.{now}
-use mir.Syntax.{w64}
-use mir.Val.{toZ}
-use mir.Facts.{toZ-ofZ}
-use Rattle.layout.specs.Record.{decRaw}
-use Rattle.layout.proofs.Slots.{slots-many}
-use Rattle.meaning.specs.Events.{Event, found}
-use mathlib.Core.List.{List}
-use Rattle.machine.specs.Reach.{pastLatest}
-use Rattle.cells.specs.Back.{heldOf}
-use Rattle.held.specs.Found.{passed}
 use Rattle.held.proofs.Turns as turn
-use Rattle.held.proofs.Latest.{latest-none, latest-some}
 use borrow.Author.Needs.{needs}
 use native.Mathlib.Omega.{arith}
 use Rattle.held.proofs.later.Statement.{statement}

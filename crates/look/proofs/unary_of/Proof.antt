@@ -1,20 +1,9 @@
-use Prim.Native.Nat.{ℕ, _<_, _≤_, min}
-use mathlib.Core.Path.{_≡_, refl, sym, ap, ap₂, _∙_}
-use mathlib.Core.Option.{none, some}
+use Prim.Native.Nat.{ℕ}
+use mathlib.Core.Path.{_≡_, sym, ap, _∙_}
 use lib.IntN.{ℤ}
-use mir.Syntax.{w64}
-use mir.Val.{toZ}
 use mir.Facts.{toZ-ofZ}
-use denote.Ref.{now}
-use Rattle.meaning.specs.Plan.{calc, set, plus, one, two}
-use Rattle.meaning.specs.Events.{horizon}
-use Rattle.machine.specs.State as machine
-use Rattle.operators.specs.Operators.{eqnOf, numberOf}
-use Rattle.layout.specs.Record.{decRaw, num, aF, bF, kF}
-use Rattle.cells.specs.Back as cells
-use Rattle.look.specs.Look.{lookOf}
-use Rattle.look.proofs.Laws as law
-use borrow.Author.Needs.{needs}
+use Rattle.meaning.specs.Plan.{set, plus, one}
+use Rattle.operators.specs.Operators.{eqnOf}
 use native.Mathlib.Omega.{arith}
 use Rattle.look.proofs.unary_of.Statement.{statement}
 use Rattle.look.proofs.unary_of.Tie as tie
