@@ -100,6 +100,10 @@ module _ (M : State) (ok : Sound M) (s : ℕ) (l : s < length M) where
       go true q = with-some (ltb-true t (reach e o a b) q) (gives e o a b t) refl
       go false q = (top, silence)
 
+  pub ahead-fine : (newBound (ahead s M) (cellAt M s .held) ≤ horizon) × Comes (newBound (ahead s M) (cellAt M s .held)) (cellAt M s) (added (ahead s M) (cellAt M s .held))
+  unfolding ahead
+  ahead-fine = decide-fine
+
   pub move-sound : T (canMove s M) → Sound (move s M)
   unfolding move comesIn ahead
   move-sound can = raise-sound s (newBound (decide e o a b) (o .held)) (added (decide e o a b) (o .held)) M ok l up (decide-fine .0) (decide-fine .1)
