@@ -1,0 +1,68 @@
+use mathlib.Core.Path.{_≡_, refl, sym, ap, _∙_}
+use Prim.Native.Nat.{ℕ, _≤_, _<_, _+_, _*_, _-_, _^_}
+use lib.ListN.{length, getD, drop}
+use lib.Dec.{lit<}
+use native.Mathlib.Nat.{sub-zero}
+use denote.Ref.{now}
+use borrow.Author.Tests.{le-leb, lt-leb, lt-ltb, le-ltb, eq-eqb, ne-eqb}
+use Rattle.text.specs.Grammar.{skip, scan, whole, ended, field, signed, valueLine, outLine}
+use borrow.Author.Needs.{needs}
+use native.Mathlib.Omega.{arith}
+use Rattle.text.proofs.ended.Statement.{statement}
+use Rattle.text.proofs.ended.Tie as tie
+use Rattle.text.proofs.ended.Reads as reads
+use Rattle.text.proofs.ended.Lts as lts
+use Rattle.text.proofs.skip.Reads as skip-reads
+
+-- src/lib.rt:132:23
+enum-known-number : tie.Need-enum-known-number
+enum-known-number c = search needs
+
+-- src/lib.rt:133:9
+enum-told : tie.Need-enum-told
+enum-told c = search needs
+
+-- src/lib.rt:133:9
+returns : tie.Need-returns
+unfolding ended
+returns c = rw (c .enum-told .given .1)
+
+-- src/lib.rt:135:39
+slice-aggregate-skip : tie.Need-slice-aggregate-skip
+slice-aggregate-skip c = search needs
+
+-- src/lib.rt:135:25
+skip-requires : tie.Need-skip-requires
+skip-requires c κs = search needs
+
+-- src/lib.rt:135:20
+enum-known-q : tie.Need-enum-known-q
+enum-known-q c = search needs
+
+-- src/lib.rt:136:9
+enum-told-2 : tie.Need-enum-told-2
+enum-told-2 c = search needs
+
+-- src/lib.rt:136:9
+returns-2 : tie.Need-returns-2
+unfolding ended
+returns-2 c = rw (c .before .before .before .before .before .number .given .1, sym (c .before .before .skip .ensures) ∙ c .enum-told2 .given .1)
+
+-- src/lib.rt:129:1
+returns-3 : tie.Need-returns-3
+unfolding ended
+returns-3 c = rw (c .before .before .before .before .before .before .number .given .1, sym (c .before .before .before .skip .ensures) ∙ c .before .q .given .1)
+
+pub ended-spec : {M : Type 1} → statement M
+ended-spec =
+    tie.close
+    (tie.spec
+    enum-known-number
+    enum-told
+    returns
+    slice-aggregate-skip
+    skip-requires
+    enum-known-q
+    enum-told-2
+    returns-2
+    returns-3)

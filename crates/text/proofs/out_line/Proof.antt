@@ -1,0 +1,58 @@
+use mathlib.Core.Path.{_≡_, refl, sym, ap, _∙_}
+use Prim.Native.Nat.{ℕ, _≤_, _<_, _+_, _*_, _-_, _^_}
+use lib.ListN.{length, getD, drop}
+use lib.Dec.{lit<}
+use native.Mathlib.Nat.{sub-zero}
+use denote.Ref.{now}
+use borrow.Author.Tests.{le-leb, lt-leb, lt-ltb, le-ltb, eq-eqb, ne-eqb}
+use Rattle.text.specs.Grammar.{skip, scan, whole, ended, field, signed, valueLine, outLine}
+use borrow.Author.Needs.{needs}
+use native.Mathlib.Omega.{arith}
+use Rattle.text.proofs.out_line.Statement.{statement}
+use Rattle.text.proofs.out_line.Tie as tie
+use Rattle.text.proofs.out_line.Reads as reads
+use Rattle.text.proofs.out_line.Lts as lts
+use Rattle.text.proofs.field.Reads as field-reads
+
+-- src/lib.rt:191:47
+slice-aggregate-field : tie.Need-slice-aggregate-field
+slice-aggregate-field c = search needs
+
+-- src/lib.rt:191:31
+field-requires : tie.Need-field-requires
+field-requires c κs = search needs
+
+-- src/lib.rt:191:23
+enum-known-v : tie.Need-enum-known-v
+enum-known-v c = search needs
+
+-- src/lib.rt:192:9
+enum-told : tie.Need-enum-told
+enum-told c = search needs
+
+-- src/lib.rt:192:9
+returns : tie.Need-returns
+unfolding outLine
+returns c = rw (sym (c .before .before .field .ensures) ∙ c .enum-told .given .1)
+
+-- src/lib.rt:195:9
+returns-2 : tie.Need-returns-2
+unfolding outLine
+returns-2 c = rw (sym (c .before .before .before .before .field .ensures) ∙ c .before .before .v .given .1, le-leb (c .before .before .v .given .0 .0) 1 (c .if1 .taken))
+
+-- src/lib.rt:188:1
+returns-3 : tie.Need-returns-3
+unfolding outLine
+returns-3 c = rw (sym (c .before .before .before .before .field .ensures) ∙ c .before .before .v .given .1, lt-leb (c .before .before .v .given .0 .0) 1 (c .if1 .left))
+
+pub out-line-spec : {M : Type 1} → statement M
+out-line-spec =
+    tie.close
+    (tie.spec
+    slice-aggregate-field
+    field-requires
+    enum-known-v
+    enum-told
+    returns
+    returns-2
+    returns-3)

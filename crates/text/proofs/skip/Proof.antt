@@ -1,0 +1,78 @@
+use mathlib.Core.Path.{_≡_, refl, sym, ap, _∙_}
+use Prim.Native.Nat.{ℕ, _≤_, _<_, _+_, _*_, _-_, _^_}
+use lib.ListN.{length, getD, drop}
+use lib.Dec.{lit<}
+use native.Mathlib.Nat.{sub-zero}
+use denote.Ref.{now}
+use borrow.Author.Tests.{le-leb, lt-leb, lt-ltb, le-ltb, eq-eqb, ne-eqb}
+use Rattle.text.specs.Grammar.{skip}
+use Rattle.text.proofs.Turns.{skip-past, skip-other, skip-go, skip-end}
+use borrow.Author.Needs.{needs}
+use native.Mathlib.Omega.{arith}
+use Rattle.text.proofs.skip.Statement.{statement}
+use Rattle.text.proofs.skip.Tie as tie
+use Rattle.text.proofs.skip.Reads as reads
+use Rattle.text.proofs.skip.Lts as lts
+
+abbrev Inv-loop : tie.InvT-loop
+Inv-loop text at word p₀ i₀ p i = (i ≤ length word) × (skip text p (drop i word) ≡ skip text at word)
+
+abbrev μ-loop : tie.MeasureT-loop
+μ-loop text at word p₀ i₀ p i = length word - i
+
+-- src/lib.rt:74:5
+loop-holds : tie.Need-loop-holds Inv-loop μ-loop
+loop-holds c = (omega arith, refl)
+
+-- src/lib.rt:76:13
+returns : tie.Need-returns Inv-loop μ-loop
+returns c = skip-past (now (c .before .before .before .args .text)) (c .before .before .loop .p) (now (c .before .before .before .args .word)) (c .before .before .loop .i) (omega arith) (omega arith) ∙ c .before .before .loop .inv .1
+
+-- src/lib.rt:78:12
+shared-slice-read-if2 : tie.Need-shared-slice-read-if2 Inv-loop μ-loop
+shared-slice-read-if2 c = omega arith
+
+-- src/lib.rt:78:23
+shared-slice-read-if2-2 : tie.Need-shared-slice-read-if2-2 Inv-loop μ-loop
+shared-slice-read-if2-2 c = omega arith
+
+-- src/lib.rt:79:13
+returns-2 : tie.Need-returns-2 Inv-loop μ-loop
+returns-2 c = skip-other (now (c .before .before .before .before .before .before .args .text)) (c .before .before .before .before .before .loop .p) (now (c .before .before .before .before .before .before .args .word)) (c .before .before .before .before .before .loop .i) (omega arith) (omega arith) (c .if2 .taken) ∙ c .before .before .before .before .before .loop .inv .1
+
+-- src/lib.rt:81:9
+add-p : tie.Need-add-p Inv-loop μ-loop
+add-p c = omega arith
+
+-- src/lib.rt:82:9
+add-i : tie.Need-add-i Inv-loop μ-loop
+add-i c = omega arith
+
+-- src/lib.rt:74:5
+loop-less : tie.Need-loop-less Inv-loop μ-loop
+loop-less c = omega arith
+
+-- src/lib.rt:74:5
+loop-again : tie.Need-loop-again Inv-loop μ-loop
+loop-again c = (omega arith, skip-go (now (c .before .before .before .before .before .before .args .text)) (c .before .before .before .before .before .loop .p) (now (c .before .before .before .before .before .before .args .word)) (c .before .before .before .before .before .loop .i) (omega arith) (omega arith) (c .if2 .left) ∙ c .before .before .before .before .before .loop .inv .1)
+
+-- src/lib.rt:69:1
+returns-3 : tie.Need-returns-3 Inv-loop μ-loop
+returns-3 c = skip-end (now (c .before .before .args .text)) (c .before .loop .p) (now (c .before .before .args .word)) (c .before .loop .i) (omega arith) ∙ c .before .loop .inv .1
+
+pub skip-spec : {M : Type 1} → statement M
+skip-spec =
+    tie.close
+    (tie.spec
+    Inv-loop
+    μ-loop
+    loop-holds
+    returns
+    shared-slice-read-if2
+    shared-slice-read-if2-2
+    returns-2
+    add-p
+    add-i
+    loop-less
+    loop-again
+    returns-3)

@@ -1,0 +1,64 @@
+use mathlib.Core.Path.{_≡_, refl, sym, ap, _∙_}
+use Prim.Native.Nat.{ℕ, _≤_, _<_, _+_, _*_, _-_, _^_}
+use lib.ListN.{length, getD, drop}
+use lib.Dec.{lit<}
+use native.Mathlib.Nat.{sub-zero}
+use denote.Ref.{now}
+use borrow.Author.Tests.{le-leb, lt-leb, lt-ltb, le-ltb, eq-eqb, ne-eqb}
+use Rattle.text.specs.Grammar.{skip, scan, whole, ended, field, signed, valueLine, outLine}
+use borrow.Author.Needs.{needs}
+use native.Mathlib.Omega.{arith}
+use Rattle.text.proofs.value_line.Statement.{statement}
+use Rattle.text.proofs.value_line.Tie as tie
+use Rattle.text.proofs.value_line.Reads as reads
+use Rattle.text.proofs.value_line.Lts as lts
+use Rattle.text.proofs.ended.Reads as ended-reads
+use Rattle.text.proofs.signed.Reads as signed-reads
+use Rattle.text.proofs.skip.Reads as skip-reads
+
+-- src/lib.rt:181:40
+slice-aggregate-skip : tie.Need-slice-aggregate-skip
+slice-aggregate-skip c = search needs
+
+-- src/lib.rt:181:25
+skip-requires : tie.Need-skip-requires
+skip-requires c κs = search needs
+
+-- src/lib.rt:181:20
+enum-known-p : tie.Need-enum-known-p
+enum-known-p c = search needs
+
+-- src/lib.rt:182:9
+enum-told : tie.Need-enum-told
+enum-told c = search needs
+
+-- src/lib.rt:182:9
+returns : tie.Need-returns
+unfolding valueLine
+returns c = rw (sym (c .before .before .skip .ensures) ∙ c .enum-told .given .1)
+
+-- src/lib.rt:184:17
+signed-requires : tie.Need-signed-requires
+signed-requires c κs = search needs
+
+-- src/lib.rt:184:5
+ended-requires : tie.Need-ended-requires
+ended-requires c κs = search needs
+
+-- src/lib.rt:178:1
+returns-2 : tie.Need-returns-2
+unfolding valueLine
+returns-2 c = c .ended .ensures ∙ rw (c .before .signed .ensures, sym (c .before .before .before .before .before .skip .ensures) ∙ c .before .before .before .p .given .1)
+
+pub value-line-spec : {M : Type 1} → statement M
+value-line-spec =
+    tie.close
+    (tie.spec
+    slice-aggregate-skip
+    skip-requires
+    enum-known-p
+    enum-told
+    returns
+    signed-requires
+    ended-requires
+    returns-2)

@@ -1,0 +1,63 @@
+use mathlib.Core.Path.{_≡_, refl, sym, ap, _∙_}
+use Prim.Native.Nat.{ℕ, _≤_, _<_, _+_, _*_, _-_, _^_}
+use lib.ListN.{length, getD, drop}
+use lib.Dec.{lit<}
+use native.Mathlib.Nat.{sub-zero}
+use denote.Ref.{now}
+use borrow.Author.Tests.{le-leb, lt-leb, lt-ltb, le-ltb, eq-eqb, ne-eqb}
+use Rattle.text.specs.Grammar.{skip, scan, whole, ended, field, signed, valueLine, outLine}
+use borrow.Author.Needs.{needs}
+use native.Mathlib.Omega.{arith}
+use Rattle.text.proofs.whole.Statement.{statement}
+use Rattle.text.proofs.whole.Tie as tie
+use Rattle.text.proofs.whole.Reads as reads
+use Rattle.text.proofs.whole.Lts as lts
+use Rattle.text.proofs.digits.Reads as digits-reads
+use Rattle.text.proofs.skip.Reads as skip-reads
+
+-- src/lib.rt:118:43
+slice-aggregate-skip : tie.Need-slice-aggregate-skip
+slice-aggregate-skip c = search needs
+
+-- src/lib.rt:118:28
+skip-requires : tie.Need-skip-requires
+skip-requires c κs = search needs
+
+-- src/lib.rt:118:23
+enum-known-p : tie.Need-enum-known-p
+enum-known-p c = search needs
+
+-- src/lib.rt:119:9
+returns : tie.Need-returns
+unfolding whole
+returns c = rw (sym (c .before .before .before .skip .ensures) ∙ c .before .p .given .1)
+
+enum-told : tie.Need-enum-told
+enum-told c = search needs
+
+-- src/lib.rt:121:9
+digits-requires : tie.Need-digits-requires
+digits-requires c κs = search needs
+
+-- src/lib.rt:123:9
+returns-2 : tie.Need-returns-2
+unfolding whole
+returns-2 c = rw (sym (c .before .before .before .before .before .skip .ensures) ∙ c .before .before .before .enum-told .given .1, sym (c .before .before .digits .ensures), eq-eqb (c .before .before .digits .result .next) (c .before .before .before .before .before .before .before .before .args .at) (c .if1 .taken))
+
+-- src/lib.rt:114:1
+returns-3 : tie.Need-returns-3
+unfolding whole
+returns-3 c = rw (sym (c .before .before .before .before .before .skip .ensures) ∙ c .before .before .before .enum-told .given .1, sym (c .before .before .digits .ensures), ne-eqb (c .before .before .digits .result .next) (c .before .before .before .before .before .before .before .before .args .at) (c .if1 .left))
+
+pub whole-spec : {M : Type 1} → statement M
+whole-spec =
+    tie.close
+    (tie.spec
+    slice-aggregate-skip
+    skip-requires
+    enum-known-p
+    returns
+    enum-told
+    digits-requires
+    returns-2
+    returns-3)
