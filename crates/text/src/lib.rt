@@ -196,3 +196,134 @@ fn out_line(text: &[u8], at: usize) -> Found
     }
     Found::Fault
 }
+
+// The small letters that stand at a position, five at most.
+fn letters(text: &[u8], at: usize) -> Packed
+    ensures { λ r. ⌜ r ≡ packedAt (now (text .entry)) at ⌝ }
+{
+    let mut code: u64 = 0;
+    let mut weight: u64 = 1;
+    let mut p = at;
+    let mut i: usize = 0;
+    while i < 5 {
+        if text.len() <= p {
+            return Packed { code, next: p };
+        }
+        let c = wide(text[p]);
+        if c < 97 {
+            return Packed { code, next: p };
+        }
+        if 122 < c {
+            return Packed { code, next: p };
+        }
+        code = code + weight * c;
+        weight = weight * 256;
+        p += 1;
+        i += 1;
+    }
+    Packed { code, next: p }
+}
+
+// The stored number of the operator whose name has these letters, the first the lowest; 0 if there is none.
+fn operator(code: u64) -> u8
+    ensures { λ r. ⌜ r ≡ numberPacked code ⌝ }
+{
+    match code {
+        0x6E69 => 1, // in
+        0x6C_696E => 2, // nil
+        0x7469_6E75 => 3, // unit
+        0x656D_6974 => 4, // time
+        0x74_6573 => 5, // set
+        0x7375_6C70 => 6, // plus
+        0x67_656E => 7, // neg
+        0x64_6461 => 8, // add
+        0x62_7573 => 9, // sub
+        0x6C_756D => 10, // mul
+        0x76_6964 => 11, // div
+        0x6D_6572 => 12, // rem
+        0x746C => 13, // lt
+        0x656C => 14, // le
+        0x7165 => 15, // eq
+        0x7065_656B => 16, // keep
+        0x65_6772_656D => 17, // merge
+        0x7473_616C => 18, // last
+        0x79_616C_6564 => 19, // delay
+        _ => 0,
+    }
+}
+
+// The op line.
+fn op_line(text: &[u8], at: usize) -> Name
+    ensures { λ r. ⌜ r ≡ opLine (now (text .entry)) at ⌝ }
+{
+    let Word::Past(p) = skip(text, at, b"op=") else {
+        return Name::Fault;
+    };
+    let name = letters(text, p);
+    let end = name.next;
+    if end == p {
+        return Name::Fault;
+    }
+    let Word::Past(q) = skip(text, end, b"\n") else {
+        return Name::Fault;
+    };
+    let op = operator(name.code);
+    if op == 0 {
+        return Name::Unknown;
+    }
+    Name::Operator(op, q)
+}
+
+// The lines a, b, k and out, after the op line.
+fn field_lines(text: &[u8], op: u8, at: usize) -> Lines
+    ensures { λ r. ⌜ r ≡ fieldsAfter (now (text .entry)) op at ⌝ }
+{
+    let Found::Number(a, p) = field(text, at, b"a=", 3) else {
+        return Lines::Refused(2);
+    };
+    let Found::Number(b, q) = field(text, p, b"b=", 3) else {
+        return Lines::Refused(2);
+    };
+    let Found::Number(k, t) = value_line(text, q) else {
+        return Lines::Refused(2);
+    };
+    let Found::Number(out, next) = out_line(text, t) else {
+        return Lines::Refused(2);
+    };
+    Lines::Stream(Fields {
+        op,
+        a,
+        b,
+        k,
+        out,
+        next,
+    })
+}
+
+// A stream's five lines.
+pub fn read_stream(text: &[u8], at: usize) -> Lines
+    ensures { λ r. ⌜ r ≡ stream (now (text .entry)) at ⌝ }
+{
+    match op_line(text, at) {
+        Name::Operator(op, p) => field_lines(text, op, p),
+        Name::Unknown => Lines::Refused(4),
+        Name::Fault => Lines::Refused(2),
+    }
+}
+
+// The first two lines.
+pub fn read_head(text: &[u8]) -> Head
+    ensures { λ r. ⌜ r ≡ head (now (text .entry)) ⌝ }
+{
+    let Word::Past(p) = skip(text, 0, b"plan=1\n") else {
+        return Head::Refused(2);
+    };
+    let Found::Number(n, q) = field(text, p, b"streams=", 3) else {
+        return Head::Refused(2);
+    };
+    let count = n as usize;
+    if !Plan::new(count).fits() {
+        return Head::Refused(3);
+    }
+    Head::Streams(count, q)
+}

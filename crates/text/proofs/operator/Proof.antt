@@ -1,0 +1,142 @@
+use mathlib.Core.Path.{_≡_, refl, sym, ap, _∙_}
+use Prim.Native.Nat.{ℕ, _≤_, _<_, _+_, _*_, _-_, _^_}
+use lib.ListN.{length, getD, drop}
+use lib.Dec.{lit<}
+use native.Mathlib.Nat.{sub-zero}
+use denote.Ref.{now}
+use borrow.Author.Tests.{le-leb, lt-leb, lt-ltb, le-ltb, eq-eqb, ne-eqb}
+use Rattle.text.specs.Grammar.{skip, whole, ended, field, signed, valueLine, outLine, nameAt, packedAt, numberPacked, placePacked, pack, opLine, fieldsAfter, stream, head}
+use Rattle.text.specs.Grammar.{names}
+use mathlib.Core.List.{map}
+use Rattle.text.proofs.Names.{no-operator}
+use borrow.Author.Needs.{needs}
+use native.Mathlib.Omega.{arith}
+use Rattle.text.proofs.operator.Statement.{statement}
+use Rattle.text.proofs.operator.Tie as tie
+use Rattle.text.proofs.operator.Reads as reads
+use Rattle.text.proofs.operator.Lts as lts
+
+-- src/lib.rt:228:1
+returns : tie.Need-returns
+unfolding numberPacked placePacked pack
+returns c = sym (ap numberPacked (c .match .keys1))
+
+-- src/lib.rt:228:1
+returns-2 : tie.Need-returns-2
+unfolding numberPacked placePacked pack
+returns-2 c = sym (ap numberPacked (c .match .keys2))
+
+-- src/lib.rt:228:1
+returns-3 : tie.Need-returns-3
+unfolding numberPacked placePacked pack
+returns-3 c = sym (ap numberPacked (c .match .keys3))
+
+-- src/lib.rt:228:1
+returns-4 : tie.Need-returns-4
+unfolding numberPacked placePacked pack
+returns-4 c = sym (ap numberPacked (c .match .keys4))
+
+-- src/lib.rt:228:1
+returns-5 : tie.Need-returns-5
+unfolding numberPacked placePacked pack
+returns-5 c = sym (ap numberPacked (c .match .keys5))
+
+-- src/lib.rt:228:1
+returns-6 : tie.Need-returns-6
+unfolding numberPacked placePacked pack
+returns-6 c = sym (ap numberPacked (c .match .keys6))
+
+-- src/lib.rt:228:1
+returns-7 : tie.Need-returns-7
+unfolding numberPacked placePacked pack
+returns-7 c = sym (ap numberPacked (c .match .keys7))
+
+-- src/lib.rt:228:1
+returns-8 : tie.Need-returns-8
+unfolding numberPacked placePacked pack
+returns-8 c = sym (ap numberPacked (c .match .keys8))
+
+-- src/lib.rt:228:1
+returns-9 : tie.Need-returns-9
+unfolding numberPacked placePacked pack
+returns-9 c = sym (ap numberPacked (c .match .keys9))
+
+-- src/lib.rt:228:1
+returns-10 : tie.Need-returns-10
+unfolding numberPacked placePacked pack
+returns-10 c = sym (ap numberPacked (c .match .keys10))
+
+-- src/lib.rt:228:1
+returns-11 : tie.Need-returns-11
+unfolding numberPacked placePacked pack
+returns-11 c = sym (ap numberPacked (c .match .keys11))
+
+-- src/lib.rt:228:1
+returns-12 : tie.Need-returns-12
+unfolding numberPacked placePacked pack
+returns-12 c = sym (ap numberPacked (c .match .keys12))
+
+-- src/lib.rt:228:1
+returns-13 : tie.Need-returns-13
+unfolding numberPacked placePacked pack
+returns-13 c = sym (ap numberPacked (c .match .keys13))
+
+-- src/lib.rt:228:1
+returns-14 : tie.Need-returns-14
+unfolding numberPacked placePacked pack
+returns-14 c = sym (ap numberPacked (c .match .keys14))
+
+-- src/lib.rt:228:1
+returns-15 : tie.Need-returns-15
+unfolding numberPacked placePacked pack
+returns-15 c = sym (ap numberPacked (c .match .keys15))
+
+-- src/lib.rt:228:1
+returns-16 : tie.Need-returns-16
+unfolding numberPacked placePacked pack
+returns-16 c = sym (ap numberPacked (c .match .keys16))
+
+-- src/lib.rt:228:1
+returns-17 : tie.Need-returns-17
+unfolding numberPacked placePacked pack
+returns-17 c = sym (ap numberPacked (c .match .keys17))
+
+-- src/lib.rt:228:1
+returns-18 : tie.Need-returns-18
+unfolding numberPacked placePacked pack
+returns-18 c = sym (ap numberPacked (c .match .keys18))
+
+-- src/lib.rt:228:1
+returns-19 : tie.Need-returns-19
+unfolding numberPacked placePacked pack
+returns-19 c = sym (ap numberPacked (c .match .keys19))
+
+-- src/lib.rt:228:1
+returns-20 : tie.Need-returns-20
+unfolding pack
+returns-20 c = no-operator (c .before .args .code) (c .match .rest)
+
+pub operator-spec : {M : Type 1} → statement M
+operator-spec =
+    tie.close
+    (tie.spec
+    returns
+    returns-2
+    returns-3
+    returns-4
+    returns-5
+    returns-6
+    returns-7
+    returns-8
+    returns-9
+    returns-10
+    returns-11
+    returns-12
+    returns-13
+    returns-14
+    returns-15
+    returns-16
+    returns-17
+    returns-18
+    returns-19
+    returns-20)

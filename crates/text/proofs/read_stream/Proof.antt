@@ -1,0 +1,64 @@
+use mathlib.Core.Path.{_≡_, refl, sym, ap, _∙_}
+use Prim.Native.Nat.{ℕ, _≤_, _<_, _+_, _*_, _-_, _^_}
+use lib.ListN.{length, getD, drop}
+use lib.Dec.{lit<}
+use native.Mathlib.Nat.{sub-zero}
+use denote.Ref.{now}
+use borrow.Author.Tests.{le-leb, lt-leb, lt-ltb, le-ltb, eq-eqb, ne-eqb}
+use Rattle.text.specs.Grammar.{skip, whole, ended, field, signed, valueLine, outLine, nameAt, packedAt, numberPacked, placePacked, pack, opLine, fieldsAfter, stream, head}
+use borrow.Author.Needs.{needs}
+use native.Mathlib.Omega.{arith}
+use Rattle.text.proofs.read_stream.Statement.{statement}
+use Rattle.text.proofs.read_stream.Tie as tie
+use Rattle.text.proofs.read_stream.Reads as reads
+use Rattle.text.proofs.read_stream.Lts as lts
+use Rattle.text.proofs.field_lines.Reads as field-lines-reads
+use Rattle.text.proofs.op_line.Reads as op-line-reads
+
+-- src/lib.rt:307:11
+op-line-requires : tie.Need-op-line-requires
+op-line-requires c κs = search needs
+
+-- src/lib.rt:308:24
+enum-known-op : tie.Need-enum-known-op
+enum-known-op c = search needs
+
+-- src/lib.rt:308:34
+field-lines-requires : tie.Need-field-lines-requires
+field-lines-requires c κs = search needs
+
+-- src/lib.rt:309:26
+enum-told : tie.Need-enum-told
+enum-told c = search needs
+
+-- src/lib.rt:310:24
+enum-told-2 : tie.Need-enum-told-2
+enum-told-2 c = search needs
+
+-- src/lib.rt:304:1
+returns : tie.Need-returns
+unfolding stream
+returns c = c .field-lines .ensures ∙ rw (sym (c .before .before .before .before .op-line .ensures) ∙ c .before .before .op .given .1)
+
+-- src/lib.rt:304:1
+returns-2 : tie.Need-returns-2
+unfolding stream
+returns-2 c = rw (sym (c .before .before .op-line .ensures) ∙ c .enum-told .given .1)
+
+-- src/lib.rt:304:1
+returns-3 : tie.Need-returns-3
+unfolding stream
+returns-3 c = rw (sym (c .before .before .op-line .ensures) ∙ c .enum-told2 .given .1)
+
+pub read-stream-spec : {M : Type 1} → statement M
+read-stream-spec =
+    tie.close
+    (tie.spec
+    op-line-requires
+    enum-known-op
+    field-lines-requires
+    enum-told
+    enum-told-2
+    returns
+    returns-2
+    returns-3)
