@@ -1,0 +1,53 @@
+use mathlib.Core.Path.{_≡_, refl, sym, ap, _∙_}
+use Prim.Native.Nat.{ℕ, _≤_, _<_, _+_, _*_, _-_, _^_}
+use lib.ListN.{length, getD, drop}
+use denote.Ref.{now}
+use borrow.Author.Tests.{le-leb, lt-leb, lt-ltb, le-ltb, eq-eqb, ne-eqb, not-true, not-false}
+use Rattle.plan.specs.Rules.{keeps}
+use borrow.Author.Needs.{needs}
+use native.Mathlib.Omega.{arith}
+use Rattle.plan.proofs.keeps.Statement.{statement}
+use Rattle.plan.proofs.keeps.Tie as tie
+use Rattle.plan.proofs.keeps.Reads as reads
+use Rattle.plan.proofs.keeps.Lts as lts
+use Rattle.plan.proofs.arguments_fit.Reads as arguments-fit-reads
+use Rattle.plan.proofs.out_fits.Reads as out-fits-reads
+use Rattle.plan.proofs.value_fits.Reads as value-fits-reads
+
+-- src/lib.rt:71:9
+out-fits-requires : tie.Need-out-fits-requires
+out-fits-requires c κs = search needs
+
+-- src/lib.rt:72:9
+returns : tie.Need-returns
+unfolding keeps
+returns c = rw (sym (c .before .out-fits .ensures) ∙ not-true (c .before .out-fits .result) (c .if1 .taken))
+
+-- src/lib.rt:74:9
+value-fits-requires : tie.Need-value-fits-requires
+value-fits-requires c κs = search needs
+
+-- src/lib.rt:75:9
+returns-2 : tie.Need-returns-2
+unfolding keeps
+returns-2 c = rw (sym (c .before .before .before .out-fits .ensures) ∙ not-false (c .before .before .before .out-fits .result) (c .before .before .if1 .left), sym (c .before .value-fits .ensures) ∙ not-true (c .before .value-fits .result) (c .if2 .taken))
+
+-- src/lib.rt:77:5
+arguments-fit-requires : tie.Need-arguments-fit-requires
+arguments-fit-requires c κs = search needs
+
+-- src/lib.rt:68:1
+returns-3 : tie.Need-returns-3
+unfolding keeps
+returns-3 c = c .arguments-fit .ensures ∙ rw (sym (c .before .before .before .before .out-fits .ensures) ∙ not-false (c .before .before .before .before .out-fits .result) (c .before .before .before .if1 .left), sym (c .before .before .value-fits .ensures) ∙ not-false (c .before .before .value-fits .result) (c .before .if2 .left))
+
+pub keeps-spec : {M : Type 1} → statement M
+keeps-spec =
+    tie.close
+    (tie.spec
+    out-fits-requires
+    returns
+    value-fits-requires
+    returns-2
+    arguments-fit-requires
+    returns-3)

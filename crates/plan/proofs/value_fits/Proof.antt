@@ -1,0 +1,26 @@
+use mathlib.Core.Path.{_≡_, refl, sym, ap, _∙_}
+use Prim.Native.Nat.{ℕ, _≤_, _<_, _+_, _*_, _-_, _^_}
+use lib.ListN.{length, getD, drop}
+use denote.Ref.{now}
+use borrow.Author.Tests.{le-leb, lt-leb, lt-ltb, le-ltb, eq-eqb, ne-eqb, not-true, not-false}
+use borrow.Author.Needs.{needs}
+use native.Mathlib.Omega.{arith}
+use Rattle.plan.proofs.value_fits.Statement.{statement}
+use Rattle.plan.proofs.value_fits.Tie as tie
+use Rattle.plan.proofs.value_fits.Reads as reads
+use Rattle.plan.proofs.value_fits.Lts as lts
+
+-- src/lib.rt:47:1
+returns : tie.Need-returns
+returns c = simp (lt-leb 5 (c .before .args .op) (omega arith))
+
+-- src/lib.rt:47:1
+returns-2 : tie.Need-returns-2
+returns-2 c = simp (le-leb 5 (c .before .before .args .op) (omega arith), le-leb (c .before .before .args .op) 6 (omega arith))
+
+-- src/lib.rt:47:1
+returns-3 : tie.Need-returns-3
+returns-3 c = simp (le-leb 5 (c .before .before .args .op) (omega arith), lt-leb (c .before .before .args .op) 6 (omega arith))
+
+pub value-fits-spec : {M : Type 1} → statement M
+value-fits-spec = tie.close (tie.spec returns returns-2 returns-3)
