@@ -45,7 +45,6 @@ unfoldable pub keeps : ℕ → Fields → Bool
 keeps n f = outFits (f .op) (f .out) && (valueFits (f .op) (f .k) && argumentsFit n (f .op) (f .a) (f .b))
 
 unfoldable pub allKeep : ℕ → List Fields → Bool
-unfolding keeps
 allKeep n [] = true
 allKeep n (f ∷ fs) = keeps n f && allKeep n fs
 
@@ -65,82 +64,67 @@ others (Lines.Stream f) rest = put f (rest f)
 others (Lines.Refused r) rest = refused r
 
 unfoldable pub streams : List ℕ → ℕ → ℕ → Form
-unfolding stream
 streams s at zero = formed [] at
 streams s at (suc n) = others (stream s at) (λ f. streams s (f .next) n)
 
 -- a stream's fields as the stream that they declare
 abbrev pub eqnFrom : Fields → Eqn
-unfolding eqnOf
 eqnFrom f = eqnOf (f .op) (f .a) (f .b) (toZ w64 (f .k))
 
 abbrev pub declaredFrom : Fields → Declared
-unfolding eqnOf
 declaredFrom f = record { eqn = eqnFrom f; out = eqb (f .out) 1 }
 
 unfoldable pub planFrom : List Fields → Plan
-unfolding eqnOf
 planFrom fs = map eqnFrom fs
 
 -- ## The number of a text
 
 -- "bytes left over" are 2, then 5, "Then 6, a cycle without a delayed argument."
 unfoldable pub numberAfter : List ℕ → ℕ → Form → ℕ
-unfolding allKeep planFrom acyclic
 numberAfter s n (refused r) = r
 numberAfter s n (formed fs end) =
     cond (eqb end (length s)) (cond (allKeep n fs) (cond (acyclic streamLimit (planFrom fs)) 0 6) 5) 2
 
 abbrev pub numberOfHead : List ℕ → Head → ℕ
-unfolding streams numberAfter
 numberOfHead s (Head.Streams n at) = numberAfter s n (streams s at n)
 numberOfHead s (Head.Refused r) = r
 
 -- "1 text longer than 2,048 bytes; then the first faulty line decides"
 unfoldable pub number : List ℕ → ℕ
-unfolding head streams numberAfter
 number s = cond (ltb textLimit (length s)) 1 (numberOfHead s (head s))
 
 -- the streams that a text declares; none if its form is wrong
 abbrev pub declaredOf : Form → List Declared
-unfolding eqnOf
 declaredOf (refused r) = []
 declaredOf (formed fs end) = map declaredFrom fs
 
 abbrev pub declaredHead : List ℕ → Head → List Declared
-unfolding streams eqnOf
 declaredHead s (Head.Streams n at) = declaredOf (streams s at n)
 declaredHead s (Head.Refused r) = []
 
 unfoldable pub declared : List ℕ → List Declared
-unfolding head streams eqnOf
 declared s = declaredHead s (head s)
 
 -- ## How the code goes: one pass reads the lines, tests rule 5 and notes the arguments for rule 6
 
 -- the arguments of stream i; one that breaks rule 5 is noted without any, since the text is refused anyway
 abbrev pub entryIf : Bool → Fields → List ℕ
-unfolding entryOf
 entryIf true f = entryOf (f .op) (f .a) (f .b)
 entryIf false f = entryOf 0 0 0
 
 unfoldable pub notedStream : ℕ → ℕ → Fields → List ℕ → List ℕ
-unfolding keeps entryOf
 notedStream n i f g = sets g (3 * i) (entryIf (keeps n f) f)
 
 unfoldable pub notedAll : ℕ → ℕ → List Fields → List ℕ → List ℕ
-unfolding notedStream
 notedAll n i [] g = g
 notedAll n i (f ∷ fs) g = notedAll n (i + 1) fs (notedStream n i f g)
 
 -- one stream
 unfoldable pub turn : ℕ → Lines → Turn
-unfolding keeps
 turn n (Lines.Stream f) = Turn.Next (keeps n f) (f .next)
 turn n (Lines.Refused r) = Turn.Refused r
 
 abbrev pub notedLines : ℕ → ℕ → Lines → List ℕ → List ℕ
-unfolding notedStream
 notedLines n i (Lines.Stream f) g = notedStream n i f g
 notedLines n i (Lines.Refused r) g = g
 
@@ -150,7 +134,6 @@ pub data Pass : Type 0 where
   through : Bool → List ℕ → ℕ → Pass
 
 unfoldable pub passOf : ℕ → Bool → ℕ → List ℕ → Form → Pass
-unfolding allKeep notedAll
 passOf n ok i g (refused r) = halted r
 passOf n ok i g (formed fs end) = through (ok && allKeep n fs) (notedAll n i fs g) end
 
