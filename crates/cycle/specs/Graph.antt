@@ -14,7 +14,6 @@ entryOf n a b =
     cond (leb n 3) (2 ∷ 0 ∷ 0 ∷ []) (cond (leb n 7) (0 ∷ a ∷ a ∷ []) (cond (leb n 17) (0 ∷ a ∷ b ∷ []) (0 ∷ b ∷ b ∷ [])))
 
 unfoldable pub graphOf : Plan → List ℕ
-unfolding entryOf numberOf firstOf secondOf
 graphOf [] = []
 graphOf (e ∷ plan) = entryOf (numberOf e) (firstOf e) (secondOf e) ++ graphOf plan
 
@@ -56,6 +55,5 @@ rest w others = cond (w .isClear) (others (w .graph)) w
 
 -- the streams below n, from the last on
 unfoldable pub cleared : ℕ → ℕ → List ℕ → Walk
-unfolding followed
 cleared depth zero g = walked true g
 cleared depth (suc n) g = rest (followed depth n g) (cleared depth n)

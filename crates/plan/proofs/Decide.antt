@@ -17,7 +17,7 @@ use Rattle.text.specs.declared.Word.the-variants.{Past, Absent}
 use Rattle.text.specs.declared.Fields.{Fields}
 use Rattle.text.specs.declared.Head.{Head}
 use Rattle.text.specs.declared.Head.the-variants as Head
-use Rattle.text.specs.Grammar.{skip, field, counts, headAfter, head}
+use Rattle.text.specs.Grammar.{planLine, streamsKey, skip, field, counts, headAfter, head}
 use Rattle.plan.specs.declared.Checked.{Checked}
 use Rattle.plan.specs.declared.Checked.the-variants as Checked
 use Rattle.plan.specs.Rules.{allKeep, Form, refused, formed, streams, planFrom, notedAll, Pass, passOf, checkedOf, Noted, numberAfter}
@@ -95,7 +95,7 @@ head-clash e = absurd (true≢false (sym (ap isStreams e)))
 -- a head that is taken has as many streams as a plan may
 pub head-fits : (s : List ℕ) (n at : ℕ) → head s ≡ Head.Streams n at → (1 ≤ n) × (n ≤ streamLimit)
 unfolding head
-head-fits s n at e = by-word (skip s 0 (112 ∷ 108 ∷ 97 ∷ 110 ∷ 61 ∷ 49 ∷ 10 ∷ [])) e
+head-fits s n at e = by-word (skip s 0 planLine) e
   where
     by-count : (m p : ℕ) (b : Bool) → countFits m ≡ b → cond b (Head.Streams m p) (Head.Refused 3) ≡ Head.Streams n at → (1 ≤ n) × (n ≤ streamLimit)
     by-count m p false q e = head-clash e
@@ -108,5 +108,5 @@ head-fits s n at e = by-word (skip s 0 (112 ∷ 108 ∷ 97 ∷ 110 ∷ 61 ∷ 49
     by-found Fault e = head-clash e
 
     by-word : (x : Word) → headAfter s x ≡ Head.Streams n at → (1 ≤ n) × (n ≤ streamLimit)
-    by-word (Past p) e = by-found (field s p (115 ∷ 116 ∷ 114 ∷ 101 ∷ 97 ∷ 109 ∷ 115 ∷ 61 ∷ []) 3) e
+    by-word (Past p) e = by-found (field s p streamsKey 3) e
     by-word Absent e = head-clash e

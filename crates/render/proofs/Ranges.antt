@@ -16,7 +16,7 @@ use Rattle.text.specs.declared.Name.the-variants as Name
 use Rattle.text.specs.declared.Fields.{Fields}
 use Rattle.text.specs.declared.Lines.{Lines}
 use Rattle.text.specs.declared.Lines.the-variants as Lines
-use Rattle.text.specs.Grammar.{skip, sameName, place, names, numberNamed, known, named, nameAt, nameAfter, opLine, next, field, valueLine, outLine, fieldsAfter, streamAfter, stream}
+use Rattle.text.specs.Grammar.{ending, opKey, firstKey, secondKey, skip, sameName, place, names, numberNamed, known, named, nameAt, nameAfter, opLine, next, field, valueLine, outLine, fieldsAfter, streamAfter, stream}
 
 -- ## Case by case: what was found, if something was
 
@@ -40,11 +40,11 @@ next-case Fault g f e k = not-refused e
 
 -- the lines after the op line, each found
 pub fields-case : {A : Type 0} (s : List ℕ) (op at : ℕ) (f : Fields) → fieldsAfter s op at ≡ Lines.Stream f
-    → ((a p b q k t out end : ℕ) → field s at (97 ∷ 61 ∷ []) 3 ≡ Number a p → field s p (98 ∷ 61 ∷ []) 3 ≡ Number b q → valueLine s q ≡ Number k t → outLine s t ≡ Number out end → record { op = op; a = a; b = b; k = k; out = out; next = end } ≡ f → A) → A
+    → ((a p b q k t out end : ℕ) → field s at firstKey 3 ≡ Number a p → field s p secondKey 3 ≡ Number b q → valueLine s q ≡ Number k t → outLine s t ≡ Number out end → record { op = op; a = a; b = b; k = k; out = out; next = end } ≡ f → A) → A
 unfolding fieldsAfter
 fields-case s op at f e c =
-    next-case (field s at (97 ∷ 61 ∷ []) 3) (λ a p. next (field s p (98 ∷ 61 ∷ []) 3) (λ b q. next (valueLine s q) (λ k t. next (outLine s t) (λ out end. Lines.Stream (record { op = op; a = a; b = b; k = k; out = out; next = end }))))) f e
-    (λ a p e₁ r₁. next-case (field s p (98 ∷ 61 ∷ []) 3) (λ b q. next (valueLine s q) (λ k t. next (outLine s t) (λ out end. Lines.Stream (record { op = op; a = a; b = b; k = k; out = out; next = end })))) f r₁
+    next-case (field s at firstKey 3) (λ a p. next (field s p secondKey 3) (λ b q. next (valueLine s q) (λ k t. next (outLine s t) (λ out end. Lines.Stream (record { op = op; a = a; b = b; k = k; out = out; next = end }))))) f e
+    (λ a p e₁ r₁. next-case (field s p secondKey 3) (λ b q. next (valueLine s q) (λ k t. next (outLine s t) (λ out end. Lines.Stream (record { op = op; a = a; b = b; k = k; out = out; next = end })))) f r₁
     (λ b q e₂ r₂. next-case (valueLine s q) (λ k t. next (outLine s t) (λ out end. Lines.Stream (record { op = op; a = a; b = b; k = k; out = out; next = end }))) f r₂
     (λ k t e₃ r₃. next-case (outLine s t) (λ out end. Lines.Stream (record { op = op; a = a; b = b; k = k; out = out; next = end })) f r₃
     (λ out end e₄ r₄. c a p b q k t out end e₁ e₂ e₃ e₄ (same-stream r₄)))))
@@ -105,16 +105,16 @@ known-case (suc n) (Past p) op q e c =
     let z : suc n ≡ op = ap operatorIn e in
     c z (omega arith) (ap Past (ap positionIn e))
 
-named-case : {A : Type 0} (s : List ℕ) (p : ℕ) (w : List ℕ) (op q : ℕ) → named s p w ≡ Name.Operator op q → (numberNamed w ≡ op → 0 < op → skip s (p + length w) (10 ∷ []) ≡ Past q → A) → A
+named-case : {A : Type 0} (s : List ℕ) (p : ℕ) (w : List ℕ) (op q : ℕ) → named s p w ≡ Name.Operator op q → (numberNamed w ≡ op → 0 < op → skip s (p + length w) ending ≡ Past q → A) → A
 unfolding named
 named-case s p [] op q e c = no-fault e
-named-case s p (x ∷ w) op q e c = known-case (numberNamed (x ∷ w)) (skip s (p + length (x ∷ w)) (10 ∷ [])) op q e c
+named-case s p (x ∷ w) op q e c = known-case (numberNamed (x ∷ w)) (skip s (p + length (x ∷ w)) ending) op q e c
 
-pub op-case : {A : Type 0} (s : List ℕ) (at op q : ℕ) → opLine s at ≡ Name.Operator op q → ((p : ℕ) → skip s at (111 ∷ 112 ∷ 61 ∷ []) ≡ Past p → numberNamed (nameAt s p 5) ≡ op → 0 < op → skip s (p + length (nameAt s p 5)) (10 ∷ []) ≡ Past q → A) → A
+pub op-case : {A : Type 0} (s : List ℕ) (at op q : ℕ) → opLine s at ≡ Name.Operator op q → ((p : ℕ) → skip s at opKey ≡ Past p → numberNamed (nameAt s p 5) ≡ op → 0 < op → skip s (p + length (nameAt s p 5)) ending ≡ Past q → A) → A
 unfolding opLine
-op-case {A = A} s at op q e c = by-word (skip s at (111 ∷ 112 ∷ 61 ∷ [])) refl e
+op-case {A = A} s at op q e c = by-word (skip s at opKey) refl e
   where
-    by-word : (x : Word) → skip s at (111 ∷ 112 ∷ 61 ∷ []) ≡ x → nameAfter s x ≡ Name.Operator op q → A
+    by-word : (x : Word) → skip s at opKey ≡ x → nameAfter s x ≡ Name.Operator op q → A
     by-word (Past p) r t = named-case s p (nameAt s p 5) op q t (c p r)
     by-word Absent r t = no-fault t
 

@@ -20,6 +20,40 @@ use Rattle.text.specs.declared.Head.the-variants as Head
 use Rattle.text.specs.declared.Scanned.{Scanned}
 use Rattle.text.specs.declared.Packed.{Packed}
 
+-- ## The keys, each with its `=`
+
+-- plan=1, with the ending byte
+abbrev pub planLine : List ℕ
+planLine = 112 ∷ 108 ∷ 97 ∷ 110 ∷ 61 ∷ 49 ∷ 10 ∷ []
+
+-- streams=
+abbrev pub streamsKey : List ℕ
+streamsKey = 115 ∷ 116 ∷ 114 ∷ 101 ∷ 97 ∷ 109 ∷ 115 ∷ 61 ∷ []
+
+-- op=
+abbrev pub opKey : List ℕ
+opKey = 111 ∷ 112 ∷ 61 ∷ []
+
+-- a=
+abbrev pub firstKey : List ℕ
+firstKey = 97 ∷ 61 ∷ []
+
+-- b=
+abbrev pub secondKey : List ℕ
+secondKey = 98 ∷ 61 ∷ []
+
+-- k=
+abbrev pub valueKey : List ℕ
+valueKey = 107 ∷ 61 ∷ []
+
+-- out=
+abbrev pub outKey : List ℕ
+outKey = 111 ∷ 117 ∷ 116 ∷ 61 ∷ []
+
+-- "each ended by byte 10"
+abbrev pub ending : List ℕ
+ending = 10 ∷ []
+
 -- ## Words
 
 -- the byte c stands at this position
@@ -35,10 +69,6 @@ skip s at (c ∷ word) = cond (stands s at c) (skip s (at + 1) word) Absent
 abbrev pub after : Word → (ℕ → Found) → Found
 after (Past p) f = f p
 after Absent f = Fault
-
--- "each ended by byte 10"
-abbrev pub ending : List ℕ
-ending = 10 ∷ []
 
 -- ## Numbers
 
@@ -64,7 +94,6 @@ orZero Absent f = f
 
 -- "Numbers are decimal without leading zeros": a number that begins with 0 is 0 and ends there
 unfoldable pub whole : List ℕ → ℕ → ℕ → Found
-unfolding skip scan
 whole s at max = orZero (skip s at (48 ∷ [])) (counted at (scan s at 0 max))
 
 -- ## Lines: "Lines of key=value, each ended by byte 10"
@@ -74,12 +103,10 @@ endedAt v (Past p) = Number v p
 endedAt v Absent = Fault
 
 unfoldable pub ended : List ℕ → Found → Found
-unfolding skip
 ended s (Number v p) = endedAt v (skip s p ending)
 ended s Fault = Fault
 
 unfoldable pub field : List ℕ → ℕ → List ℕ → ℕ → Found
-unfolding skip ended whole
 field s at key max = after (skip s at key) (λ p. ended s (whole s p max))
 
 -- "`k` is a value": a signed 64-bit whole number, read in two's complement
@@ -93,28 +120,22 @@ negative (Number v p) = cond (eqb v 0) Fault (cond (leb v (2 ^ 63)) (Number (2 ^
 negative Fault = Fault
 
 abbrev pub signedAfter : List ℕ → ℕ → Word → Found
-unfolding whole
 signedAfter s at (Past p) = negative (whole s p 19)
 signedAfter s at Absent = positive (whole s at 19)
 
 unfoldable pub signed : List ℕ → ℕ → Found
-unfolding skip whole
 signed s at = signedAfter s at (skip s at (45 ∷ []))
 
--- k=
 unfoldable pub valueLine : List ℕ → ℕ → Found
-unfolding skip ended signed
-valueLine s at = after (skip s at (107 ∷ 61 ∷ [])) (λ p. ended s (signed s p))
+valueLine s at = after (skip s at valueKey) (λ p. ended s (signed s p))
 
 -- "`out` is 0 or 1"
 abbrev pub bit : Found → Found
 bit (Number v p) = cond (leb v 1) (Number v p) Fault
 bit Fault = Fault
 
--- out=
 unfoldable pub outLine : List ℕ → ℕ → Found
-unfolding field
-outLine s at = bit (field s at (111 ∷ 117 ∷ 116 ∷ 61 ∷ []) 1)
+outLine s at = bit (field s at outKey 1)
 
 -- ## The op line
 
@@ -143,7 +164,6 @@ names = map (λ o. o .name) operators
 
 -- the stored number of the operator with this name; 0 if it is no operator
 unfoldable pub numberNamed : List ℕ → ℕ
-unfolding place
 numberNamed w = place w names 0
 
 abbrev pub known : ℕ → Word → Name
@@ -153,19 +173,15 @@ known (suc n) (Past p) = Name.Operator (suc n) p
 
 -- "a name of one to five small letters that is no operator (any other fault of an op line is 2)"
 unfoldable pub named : List ℕ → ℕ → List ℕ → Name
-unfolding skip numberNamed
 named s p [] = Name.Fault
 named s p (c ∷ w) = known (numberNamed (c ∷ w)) (skip s (p + length (c ∷ w)) ending)
 
 abbrev pub nameAfter : List ℕ → Word → Name
-unfolding named nameAt
 nameAfter s (Past p) = named s p (nameAt s p 5)
 nameAfter s Absent = Name.Fault
 
--- op=
 unfoldable pub opLine : List ℕ → ℕ → Name
-unfolding skip named nameAt
-opLine s at = nameAfter s (skip s at (111 ∷ 112 ∷ 61 ∷ []))
+opLine s at = nameAfter s (skip s at opKey)
 
 -- how the code looks a name up: its bytes as one number, the first the lowest
 unfoldable pub pack : List ℕ → ℕ
@@ -173,11 +189,9 @@ pack [] = 0
 pack (c ∷ w) = c + 256 * pack w
 
 abbrev pub packed : ℕ → List ℕ → Packed
-unfolding pack
 packed at w = record { code = pack w; next = at + length w }
 
 unfoldable pub packedAt : List ℕ → ℕ → Packed
-unfolding pack nameAt
 packedAt s at = packed at (nameAt s at 5)
 
 unfoldable pub placePacked : ℕ → List ℕ → ℕ → ℕ
@@ -185,7 +199,6 @@ placePacked x [] n = 0
 placePacked x (y ∷ l) n = cond (eqb x y) n (placePacked x l (n + 1))
 
 unfoldable pub numberPacked : ℕ → ℕ
-unfolding placePacked pack
 numberPacked x = placePacked x (map pack names) 0
 
 -- ## A stream's five lines: op, a, b, k, out
@@ -196,22 +209,19 @@ next (Number v p) f = f v p
 next Fault f = Lines.Refused 2
 
 unfoldable pub fieldsAfter : List ℕ → ℕ → ℕ → Lines
-unfolding field valueLine outLine
 fieldsAfter s op at =
-    next (field s at (97 ∷ 61 ∷ []) 3) (λ a p.
-    next (field s p (98 ∷ 61 ∷ []) 3) (λ b q.
+    next (field s at firstKey 3) (λ a p.
+    next (field s p secondKey 3) (λ b q.
     next (valueLine s q) (λ k t.
     next (outLine s t) (λ out end.
     Lines.Stream (record { op = op; a = a; b = b; k = k; out = out; next = end })))))
 
 abbrev pub streamAfter : List ℕ → Name → Lines
-unfolding fieldsAfter
 streamAfter s (Name.Operator op p) = fieldsAfter s op p
 streamAfter s Name.Unknown = Lines.Refused 4
 streamAfter s Name.Fault = Lines.Refused 2
 
 unfoldable pub stream : List ℕ → ℕ → Lines
-unfolding opLine fieldsAfter
 stream s at = streamAfter s (opLine s at)
 
 -- ## The first two lines: `plan=1`, `streams=N`
@@ -222,10 +232,8 @@ counts (Number n p) = cond (countFits n) (Head.Streams n p) (Head.Refused 3)
 counts Fault = Head.Refused 2
 
 abbrev pub headAfter : List ℕ → Word → Head
-unfolding field
-headAfter s (Past p) = counts (field s p (115 ∷ 116 ∷ 114 ∷ 101 ∷ 97 ∷ 109 ∷ 115 ∷ 61 ∷ []) 3)
+headAfter s (Past p) = counts (field s p streamsKey 3)
 headAfter s Absent = Head.Refused 2
 
 unfoldable pub head : List ℕ → Head
-unfolding skip field
-head s = headAfter s (skip s 0 (112 ∷ 108 ∷ 97 ∷ 110 ∷ 61 ∷ 49 ∷ 10 ∷ []))
+head s = headAfter s (skip s 0 planLine)
