@@ -26,7 +26,7 @@ small-or {A = A} n s l = by (ltb n 10) refl
     by true e = s (ltb-true n 10 e)
     by false e = l (ltb-false n 10 e)
 
-tenth : (f n : ℕ) → n < 10 ^ suc f → n / 10 < 10 ^ f
+pub tenth : (f n : ℕ) → n < 10 ^ suc f → n / 10 < 10 ^ f
 tenth f n h = omega (arith, pow-suc 10 f)
 
 -- room for more digits changes nothing
