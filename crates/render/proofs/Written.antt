@@ -98,10 +98,11 @@ found-digits s at v max r (c ∷ d) q h b l e =
     let n : length (decimal v) ≡ suc (length d) = ap length (sym q) in
     let p = at + length (decimal v) in
     let o : drop p s ≡ 10 ∷ r = on s at (decimal v) (10 ∷ r) (e ∙ ap (λ (x : List ℕ). x ++ (10 ∷ r)) q) in
-    let t = here s p 10 r o in
-    (p,
-    rw (skip-absent s at 48 c [] (d ++ (10 ∷ r)) e (λ z. omega arith), scan-digits s 19 v at (10 ∷ r) (lit< tt) b (e ∙ ap (λ (x : List ℕ). x ++ (10 ∷ r)) q) max (omega arith), stopped s p v (max - length (decimal v)) (t .1), ne-eqb p at (λ z. omega arith)),
-    o)
+    let t = here s p 10 r o in (
+      p,
+      rw (skip-absent s at 48 c [] (d ++ (10 ∷ r)) e (λ z. omega arith), scan-digits s 19 v at (10 ∷ r) (lit< tt) b (e ∙ ap (λ (x : List ℕ). x ++ (10 ∷ r)) q) max (omega arith), stopped s p v (max - length (decimal v)) (t .1), ne-eqb p at (λ z. omega arith)),
+      o,
+    )
 
 whole-zero : (s : List ℕ) (at max p : ℕ) → skip s at (48 ∷ []) ≡ Past p → whole s at max ≡ Number 0 p
 unfolding whole
