@@ -4,6 +4,7 @@ use mathlib.Core.Path.{_≡_, refl, sym, ap, _∙_, subst}
 use mathlib.Core.Bool.{Bool, true, false, not, cond, _&&_, true≢false}
 use mathlib.Core.List.{List, [], _∷_}
 use native.Mathlib.Omega.{arith}
+use Rattle.operators.proofs.Tests.{left, right}
 use lib.Dec.{eqb, leb}
 use lib.ListN.{length, replicate}
 use borrow.Author.Tests.{not-true, not-false, leb-true}
@@ -21,7 +22,6 @@ use Rattle.text.specs.Grammar.{planLine, streamsKey, skip, field, counts, headA
 use Rattle.plan.specs.declared.Checked.{Checked}
 use Rattle.plan.specs.declared.Checked.the-variants as Checked
 use Rattle.plan.specs.Rules.{allKeep, Form, refused, formed, streams, planFrom, notedAll, Pass, passOf, checkedOf, Noted, numberAfter}
-use Rattle.plan.proofs.Pass.{left, right}
 use Rattle.plan.proofs.Noted.{cleared-plan}
 
 abbrev refusalIn : Checked → ℕ

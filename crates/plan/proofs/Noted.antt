@@ -4,6 +4,7 @@ use mathlib.Core.Path.{_≡_, refl, sym, ap, _∙_, subst}
 use mathlib.Core.Bool.{Bool, true, false, cond, _&&_, true≢false}
 use mathlib.Core.List.{List, [], _∷_, _++_, append-assoc, map}
 use native.Mathlib.Omega.{arith}
+use Rattle.operators.proofs.Tests.{left, right}
 use lib.Dec.{eqb, leb, ltb}
 use lib.ListN.{length, take, drop, getD, replicate, length-append, length-map, length-drop, length-replicate}
 use lib.Seq.{sets, sets-eq, take-at, drop-append-add, drop-drop}
@@ -24,7 +25,7 @@ use Rattle.text.specs.declared.Lines.the-variants as Lines
 use Rattle.text.specs.Grammar.{stream}
 use Rattle.render.proofs.Ranges.{op-range}
 use Rattle.plan.specs.Rules.{argumentFits, keeps, allKeep, Form, refused, formed, put, others, streams, eqnFrom, planFrom, entryIf, notedStream, notedAll}
-use Rattle.plan.proofs.Pass.{left, right, first-kept, second-kept}
+use Rattle.plan.proofs.Pass.{first-kept, second-kept}
 
 -- ## The streams that were read
 

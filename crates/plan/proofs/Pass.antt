@@ -4,6 +4,7 @@ use mathlib.Core.Path.{_≡_, refl, sym, ap, _∙_, subst}
 use mathlib.Core.Bool.{Bool, true, false, cond, _&&_, and-assoc, and-true, true≢false}
 use mathlib.Core.List.{List, [], _∷_}
 use native.Mathlib.Omega.{arith}
+use Rattle.operators.proofs.Tests.{left, right}
 use lib.Dec.{eqb, ltb}
 use lib.ListN.{length}
 use lib.Seq.{sets}
@@ -21,14 +22,6 @@ use Rattle.plan.specs.declared.Turn.the-variants as Turn
 use Rattle.plan.specs.Rules.{argumentFits, argumentsFit, valueFits, outFits, keeps, allKeep, notedAll, Form, refused, formed, put, others, streams, entryIf, notedStream, notedLines, turn, Pass, halted, through, passOf, checkedOf, Noted}
 
 -- ## What rule 5 says of each field
-
-pub left : (x y : Bool) → (x && y) ≡ true → x ≡ true
-left true y e = refl
-left false y e = e
-
-pub right : (x y : Bool) → (x && y) ≡ true → y ≡ true
-right true y e = e
-right false y e = absurd (true≢false (sym e))
 
 module _ (n : ℕ) (f : Fields) (e : keeps n f ≡ true) where
   pub out-kept : outFits (f .op) (f .out) ≡ true

@@ -4,6 +4,7 @@ use mathlib.Core.Path.{_≡_, refl, sym, ap, _∙_, subst}
 use mathlib.Core.Bool.{Bool, true, false, cond, _&&_, true≢false}
 use mathlib.Core.List.{List, [], _∷_, _++_, append-assoc, map}
 use native.Mathlib.Omega.{arith}
+use Rattle.operators.proofs.Tests.{left, right}
 use native.Mathlib.Nat.{pow-le-pow-right}
 use lib.Dec.{ltb, leb, eqb, lit<, lit≤}
 use lib.IntN.{ℤ, pos, negsuc}
@@ -30,14 +31,6 @@ use Rattle.render.specs.Render.{digits, decimal, valueText, bitText, lin
 use Rattle.render.proofs.Digits.{digit-one, digits-snoc}
 use Rattle.render.proofs.Written.{line-split}
 use Rattle.render.proofs.Ranges.{stream-case, fields-case, op-case}
-
-left : (x y : Bool) → (x && y) ≡ true → x ≡ true
-left true y e = refl
-left false y e = e
-
-right : (x y : Bool) → (x && y) ≡ true → y ≡ true
-right true y e = e
-right false y e = absurd (true≢false (sym e))
 
 -- ## Words
 

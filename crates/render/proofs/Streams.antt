@@ -5,6 +5,7 @@ use mathlib.Core.Bool.{Bool, true, false, cond, _&&_, true≢false}
 use mathlib.Core.List.{List, [], _∷_, _++_, append-assoc}
 use native.Mathlib.Nat.{pow-le-pow-right}
 use native.Mathlib.Omega.{arith}
+use Rattle.operators.proofs.Tests.{left, right}
 use lib.Dec.{ltb, leb, eqb, lit<, lit≤}
 use lib.IntN.{ℤ, pos, negsuc}
 use lib.Signed.{mag}
@@ -34,10 +35,10 @@ bitsOf (pos n) = n
 bitsOf (negsuc n) = 2 ^ 64 - suc n
 
 positive-found : (s : List ℕ) (x : Found) (v : ℕ) (r : List ℕ) → v < 2 ^ 63 → Finds s x v r → Finds s (positive x) v r
-positive-found s x v r h f = (f .0, rw (f .1, lt-ltb v (2 ^ 63) h), f .2)
+positive-found s x v r h f = (f .0, rw (f .1, lt-ltb v (2 ^ 63) h), f .2, f .3)
 
 negative-found : (s : List ℕ) (x : Found) (v : ℕ) (r : List ℕ) → v < 2 ^ 63 → Finds s x (suc v) r → Finds s (negative x) (2 ^ 64 - suc v) r
-negative-found s x v r h f = (f .0, rw (f .1, ne-eqb (suc v) 0 (λ e. omega arith), le-leb (suc v) (2 ^ 63) h), f .2)
+negative-found s x v r h f = (f .0, rw (f .1, ne-eqb (suc v) 0 (λ e. omega arith), le-leb (suc v) (2 ^ 63) h), f .2, f .3)
 
 no-minus : (s : List ℕ) (at v : ℕ) (r d : List ℕ) → d ≡ decimal v → v < 10 ^ 19 → drop at s ≡ d ++ r → skip s at (45 ∷ []) ≡ Absent
 no-minus s at v r [] q h e = absurd (omega (arith, digits-some 19 v (lit< tt), ap length q))
@@ -76,7 +77,7 @@ pub out-written : (s : List ℕ) (at : ℕ) (b : Bool) (r : List ℕ) → drop a
 unfolding outLine
 out-written s at b r e =
     let f = field-written s at outKey (outOf b) 1 r (lit< tt) (lit≤ tt) (small b) (e ∙ ap (λ (x : List ℕ). line outKey x ++ r) (bit-decimal b)) in
-    (f .0, rw (f .1) (bit-of b (f .0)), f .2)
+    (f .0, rw (f .1) (bit-of b (f .0)), f .2, f .3)
   where
     small : (b : Bool) → outOf b < 10 ^ 1
     small true = lit< tt
@@ -91,14 +92,6 @@ out-written s at b r e =
 abbrev lettersIn : List ℕ → Bool
 lettersIn [] = true
 lettersIn (c ∷ w) = letter c && lettersIn w
-
-left : (x y : Bool) → (x && y) ≡ true → x ≡ true
-left true y e = refl
-left false y e = e
-
-right : (x y : Bool) → (x && y) ≡ true → y ≡ true
-right true y e = e
-right false y e = absurd (true≢false (sym e))
 
 name-written : (s : List ℕ) (w : List ℕ) (p n : ℕ) (r : List ℕ) → lettersIn w ≡ true → length w ≤ n → drop p s ≡ w ++ (10 ∷ r) → nameAt s p n ≡ w
 unfolding nameAt
@@ -163,7 +156,7 @@ op-written s at n r l h e =
 -- ## The five lines
 
 pub stream-written : (s : List ℕ) (at op a b : ℕ) (k : ℤ) (out : Bool) (r : List ℕ) → 1 ≤ op → op ≤ operatorCount → a < 10 ^ 3 → b < 10 ^ 3 → mag k < 2 ^ 63 → drop at s ≡ streamText op a b k out ++ r
-    → (p : ℕ) × (stream s at ≡ Lines.Stream (record { op = op; a = a; b = b; k = bitsOf k; out = outOf out; next = p })) × (drop p s ≡ r)
+    → (p : ℕ) × (stream s at ≡ Lines.Stream (record { op = op; a = a; b = b; k = bitsOf k; out = outOf out; next = p })) × (drop p s ≡ r) × (p ≤ length s)
 unfolding stream streamText fieldsAfter
 stream-written s at op a b k out r l h ha hb hk e =
     let o = line outKey (bitText out) in
@@ -175,4 +168,4 @@ stream-written s at op a b k out r l h ha hb hk e =
     let f₃ = field-written s (f₂ .0) secondKey b 3 ((v ++ o) ++ r) (lit< tt) (lit≤ tt) hb (f₂ .2 ∙ append-assoc y (v ++ o) r) in
     let f₄ = value-written s (f₃ .0) k (o ++ r) hk (f₃ .2 ∙ append-assoc v o r) in
     let f₅ = out-written s (f₄ .0) out r (f₄ .2) in
-    (f₅ .0, rw (f₁ .1, f₂ .1, f₃ .1, f₄ .1, f₅ .1), f₅ .2)
+    (f₅ .0, rw (f₁ .1, f₂ .1, f₃ .1, f₄ .1, f₅ .1), f₅ .2, f₅ .3)

@@ -85,9 +85,9 @@ stopped : (s : List ℕ) (p v n : ℕ) → getD s p 0 ≡ 10 → scan s p v n �
 stopped s p v zero e = sym (scan-end s p v 0 refl)
 stopped s p v (suc n) e = sym (scan-low s p v (suc n) (omega arith) 10 (sym e) (lit< tt))
 
--- the number v with the rest r behind it
+-- the number v with the rest r behind it, within the text
 abbrev pub Finds : List ℕ → Found → ℕ → List ℕ → Type 0
-Finds s x v r = (p : ℕ) × (x ≡ Number v p) × (drop p s ≡ r)
+Finds s x v r = (p : ℕ) × (x ≡ Number v p) × (drop p s ≡ r) × (p ≤ length s)
 
 found-digits : (s : List ℕ) (at v max : ℕ) (r d : List ℕ) → d ≡ decimal v → 0 < v → v < 10 ^ 19 → length d ≤ max → drop at s ≡ d ++ (10 ∷ r) → Finds s (whole s at max) v (10 ∷ r)
 unfolding whole
@@ -102,6 +102,7 @@ found-digits s at v max r (c ∷ d) q h b l e =
       p,
       rw (skip-absent s at 48 c [] (d ++ (10 ∷ r)) e (λ z. omega arith), scan-digits s 19 v at (10 ∷ r) (lit< tt) b (e ∙ ap (λ (x : List ℕ). x ++ (10 ∷ r)) q) max (omega arith), stopped s p v (max - length (decimal v)) (t .1), ne-eqb p at (λ z. omega arith)),
       o,
+      omega (arith, t .0),
     )
 
 whole-zero : (s : List ℕ) (at max p : ℕ) → skip s at (48 ∷ []) ≡ Past p → whole s at max ≡ Number 0 p
@@ -112,7 +113,7 @@ pub whole-written : (s : List ℕ) (at v max : ℕ) (r : List ℕ) → 0 < max �
 whole-written s at zero max r h m l e =
     let q : decimal 0 ≡ 48 ∷ [] = digit-one 18 0 (lit< tt) in
     let e₁ : drop at s ≡ (48 ∷ []) ++ (10 ∷ r) = e ∙ rw q in
-    (at + 1, whole-zero s at max (at + 1) (skip-written s (48 ∷ []) at (10 ∷ r) e₁), on s at (48 ∷ []) (10 ∷ r) e₁)
+    (at + 1, whole-zero s at max (at + 1) (skip-written s (48 ∷ []) at (10 ∷ r) e₁), on s at (48 ∷ []) (10 ∷ r) e₁, omega (arith, here s at 48 (10 ∷ r) e₁ .0))
 whole-written s at (suc v) max r h m l e =
     let b : 10 ^ max ≤ 10 ^ 19 = pow-le-pow-right {n = 10} (lit< tt) {i = max} {j = 19} m in
     found-digits s at (suc v) max r (decimal (suc v)) refl (omega arith) (omega arith) (digits-few 19 (suc v) max h l) e
@@ -123,7 +124,7 @@ pub ended-written : (s : List ℕ) (x : Found) (v : ℕ) (r : List ℕ) → Find
 unfolding ended
 ended-written s x v r f =
     let p = f .0 in
-    (p + 1, rw (f .1, skip-written s ending p r (f .2)), on s p ending r (f .2))
+    (p + 1, rw (f .1, skip-written s ending p r (f .2)), on s p ending r (f .2), omega (arith, here s p 10 r (f .2) .0))
 
 pub line-split : (key value r : List ℕ) → line key value ++ r ≡ key ++ (value ++ (10 ∷ r))
 line-split key value r = append-assoc key (value ++ ending) r ∙ ap (λ (l : List ℕ). key ++ l) (append-assoc value ending r)

@@ -5,6 +5,7 @@ use mathlib.Core.List.{List, [], _∷_, map}
 use mathlib.Core.Bool.{Bool, true, false, cond, _&&_, and-false, true≢false}
 use native.Mathlib.Nat.{mul-add, mul-assoc, mul-zero, pow-suc, pow-le-pow-right, mul-le-mul-left, mul-comm}
 use native.Mathlib.Omega.{arith}
+use Rattle.operators.proofs.Tests.{left, right}
 use lib.Dec.{eqb, leb, ltb, lit<, lit≤}
 use lib.ListN.{length, getD, drop, List·getD-eq-default}
 use borrow.Author.Tests.{le-leb, lt-leb, eq-eqb, ne-eqb, eqb-true, eqb-false, leb-true, ltb-true}
@@ -14,14 +15,6 @@ use Rattle.text.specs.declared.Name.{Name}
 use Rattle.text.specs.declared.Name.the-variants as Name
 use Rattle.text.specs.declared.Packed.{Packed}
 use Rattle.text.specs.Grammar.{skip, ending, letter, nameAt, sameName, place, names, numberNamed, known, named, pack, packed, packedAt, placePacked, numberPacked}
-
-left : (a b : Bool) → (a && b) ≡ true → a ≡ true
-left true b e = refl
-left false b e = e
-
-right : (a b : Bool) → (a && b) ≡ true → b ≡ true
-right true b e = e
-right false b e = absurd (true≢false (sym e))
 
 -- ## The loop over the letters
 
