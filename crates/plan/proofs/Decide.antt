@@ -4,21 +4,13 @@ use mathlib.Core.Path.{_≡_, refl, sym, ap, _∙_, subst}
 use mathlib.Core.Bool.{Bool, true, false, not, cond, _&&_, true≢false}
 use mathlib.Core.List.{List, [], _∷_}
 use native.Mathlib.Omega.{arith}
-use Rattle.operators.proofs.Tests.{left, right}
-use lib.Dec.{eqb, leb}
+use lib.Dec.{eqb}
 use lib.ListN.{length, replicate}
-use borrow.Author.Tests.{not-true, not-false, leb-true}
+use borrow.Author.Tests.{not-true, not-false}
 use Rattle.meaning.specs.Cycle.{acyclic}
-use Rattle.operators.specs.Limits.{streamLimit, countFits}
+use Rattle.operators.specs.Limits.{streamLimit}
 use Rattle.cycle.specs.Graph.{Walk, walked, cleared}
-use Rattle.text.specs.declared.Found.{Found}
-use Rattle.text.specs.declared.Found.the-variants.{Number, Fault}
-use Rattle.text.specs.declared.Word.{Word}
-use Rattle.text.specs.declared.Word.the-variants.{Past, Absent}
 use Rattle.text.specs.declared.Fields.{Fields}
-use Rattle.text.specs.declared.Head.{Head}
-use Rattle.text.specs.declared.Head.the-variants as Head
-use Rattle.text.specs.Grammar.{planLine, streamsKey, skip, field, counts, headAfter, head}
 use Rattle.plan.specs.declared.Checked.{Checked}
 use Rattle.plan.specs.declared.Checked.the-variants as Checked
 use Rattle.plan.specs.Rules.{allKeep, Form, refused, formed, streams, planFrom, notedAll, Pass, passOf, checkedOf, Noted, numberAfter}
@@ -78,35 +70,3 @@ pub cycle-number : (s : List ℕ) (n at : ℕ) → n ≤ streamLimit → (ok : B
 cycle-number s n at l ok g e t f b h w =
     kept-number s n (replicate (3 * streamLimit) 0) (streams s at n) ok g e t f b
     (λ fs end q k z. ap (λ (x : Walk). x .isClear) w ∙ ap (λ (x : List ℕ). cleared streamLimit n x .isClear) z ∙ cleared-plan s n at fs end q k l streamLimit)
-
--- ## The head
-
-abbrev isStreams : Head → Bool
-isStreams (Head.Streams n at) = true
-isStreams (Head.Refused r) = false
-
-abbrev countIn : Head → ℕ
-countIn (Head.Streams n at) = n
-countIn (Head.Refused r) = 0
-
-head-clash : {A : Type 0} {n at r : ℕ} → Head.Refused r ≡ Head.Streams n at → A
-head-clash e = absurd (true≢false (sym (ap isStreams e)))
-
--- a head that is taken has as many streams as a plan may
-pub head-fits : (s : List ℕ) (n at : ℕ) → head s ≡ Head.Streams n at → (1 ≤ n) × (n ≤ streamLimit)
-unfolding head
-head-fits s n at e = by-word (skip s 0 planLine) e
-  where
-    by-count : (m p : ℕ) (b : Bool) → countFits m ≡ b → cond b (Head.Streams m p) (Head.Refused 3) ≡ Head.Streams n at → (1 ≤ n) × (n ≤ streamLimit)
-    by-count m p false q e = head-clash e
-    by-count m p true q e =
-        let k : m ≡ n = ap countIn e in
-        (omega (arith, leb-true 1 m (left (leb 1 m) (leb m streamLimit) q)), omega (arith, leb-true m streamLimit (right (leb 1 m) (leb m streamLimit) q)))
-
-    by-found : (x : Found) → counts x ≡ Head.Streams n at → (1 ≤ n) × (n ≤ streamLimit)
-    by-found (Number m p) e = by-count m p (countFits m) refl e
-    by-found Fault e = head-clash e
-
-    by-word : (x : Word) → headAfter s x ≡ Head.Streams n at → (1 ≤ n) × (n ≤ streamLimit)
-    by-word (Past p) e = by-found (field s p streamsKey 3) e
-    by-word Absent e = head-clash e

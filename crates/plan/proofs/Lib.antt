@@ -1,3 +1,4 @@
 pub mod Pass
 pub mod Noted
 pub mod Decide
+pub mod Rendered

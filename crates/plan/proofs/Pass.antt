@@ -136,3 +136,8 @@ module _ (size : ℕ) (g : List ℕ) (x : Pass) (ok : Bool) (p : ℕ) (e : x ≡
 
   pub answer-left-over : (p ≡ size → ⊥) → (Checked.Refused 2 ≡ checkedOf size x) × Noted g x
   answer-left-over h = rw (e, ne-eqb p size h) (refl, refl)
+
+-- one stream more before those that were read
+pub put-streams : (s : List ℕ) (at n : ℕ) (f : Fields) → stream s at ≡ Lines.Stream f → (fs : List Fields) (end : ℕ) → streams s (f .next) n ≡ formed fs end → streams s at (suc n) ≡ formed (f ∷ fs) end
+unfolding streams
+put-streams s at n f e fs end g = rw (e, g)

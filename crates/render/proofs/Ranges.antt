@@ -127,3 +127,38 @@ op-range s at f e =
     (λ p₂ w n h z.
     let m : op ≡ f .op = ap (λ (x : Fields). x .op) same in
     (omega arith, omega (arith, number-below (nameAt s p₂ 5))))))
+
+-- ## Refusals
+
+abbrev refusalIn : Lines → ℕ
+refusalIn (Lines.Stream f) = 1
+refusalIn (Lines.Refused r) = r
+
+clash : {r : ℕ} → Lines.Refused (suc r) ≡ Lines.Refused 0 → ⊥
+clash {r} e = let z : suc r ≡ 0 = ap refusalIn e in omega arith
+
+not-stream : {f : Fields} → Lines.Stream f ≡ Lines.Refused 0 → ⊥
+not-stream e = not-refused (sym e)
+
+next-refused : (x : Found) (g : ℕ → ℕ → Lines) → next x g ≡ Lines.Refused 0 → ((v p : ℕ) → g v p ≡ Lines.Refused 0 → ⊥) → ⊥
+next-refused (Number v p) g e c = c v p e
+next-refused Fault g e c = clash e
+
+fields-refused : (s : List ℕ) (op at : ℕ) → fieldsAfter s op at ≡ Lines.Refused 0 → ⊥
+unfolding fieldsAfter
+fields-refused s op at e =
+    next-refused (field s at firstKey 3) (λ a p. next (field s p secondKey 3) (λ b q. next (valueLine s q) (λ k t. next (outLine s t) (λ out end. Lines.Stream (record { op = op; a = a; b = b; k = k; out = out; next = end }))))) e
+    (λ a p r₁. next-refused (field s p secondKey 3) (λ b q. next (valueLine s q) (λ k t. next (outLine s t) (λ out end. Lines.Stream (record { op = op; a = a; b = b; k = k; out = out; next = end })))) r₁
+    (λ b q r₂. next-refused (valueLine s q) (λ k t. next (outLine s t) (λ out end. Lines.Stream (record { op = op; a = a; b = b; k = k; out = out; next = end }))) r₂
+    (λ k t r₃. next-refused (outLine s t) (λ out end. Lines.Stream (record { op = op; a = a; b = b; k = k; out = out; next = end })) r₃
+    (λ out end r₄. not-stream r₄))))
+
+-- a stream is never refused with the number 0
+pub stream-refused : (s : List ℕ) (at : ℕ) → stream s at ≡ Lines.Refused 0 → ⊥
+unfolding stream
+stream-refused s at e = by-name (opLine s at) e
+  where
+    by-name : (x : Name) → streamAfter s x ≡ Lines.Refused 0 → ⊥
+    by-name (Name.Operator op p) r = fields-refused s op p r
+    by-name Name.Unknown r = clash r
+    by-name Name.Fault r = clash r
