@@ -151,3 +151,75 @@ streams-written s n h (d ∷ ds) k at r l e =
       declare = λ i. fields-declare d (t .0) (k .0 .value) i ∷ w .declare i;
       kept = more-keep n f (w .fields) (keeps-written n (d .eqn) (d .out) (t .0) (k .0 .arguments) (k .0 .output)) (w .kept);
     }
+
+-- ## The length
+
+line-length : (key value : List ℕ) → length (line key value) ≡ length key + (length value + 1)
+line-length key value = length-append key (value ++ ending) ∙ ap (λ (n : ℕ). length key + n) (length-append value ending)
+
+value-length : (k : ℤ) → mag k < 2 ^ 63 → length (valueText k) ≤ 20
+value-length (pos n) h = omega (arith, digits-few 19 n 19 (lit< tt) (omega arith))
+value-length (negsuc n) h = omega (arith, digits-few 19 (suc n) 19 (lit< tt) (omega arith))
+
+bit-length : (b : Bool) → length (bitText b) ≡ 1
+bit-length true = refl
+bit-length false = refl
+
+declared-length : (n : ℕ) (d : Declared) → StreamKeeps n d → n ≤ streamLimit → length (declaredText d) ≤ 50
+unfolding declaredText streamText
+declared-length n d k h =
+    let e = d .eqn in
+    let o = line outKey (bitText (d .out)) in
+    let v = line valueKey (valueText (valueOf e)) in
+    let y = line secondKey (decimal (secondOf e)) in
+    let x = line firstKey (decimal (firstOf e)) in
+    let w = line opKey (nameOf (numberOf e)) in
+    let r = number-range e in
+    rw (length-append w (x ++ (y ++ (v ++ o))), length-append x (y ++ (v ++ o)), length-append y (v ++ o), length-append v o)
+    (omega (arith, line-length opKey (nameOf (numberOf e)), line-length firstKey (decimal (firstOf e)), line-length secondKey (decimal (secondOf e)), line-length valueKey (valueText (valueOf e)), line-length outKey (bitText (d .out)), name-short (numberOf e) (r .0) (r .1), digits-few 19 (firstOf e) 3 (lit< tt) (first-small n e (k .arguments) h), digits-few 19 (secondOf e) 3 (lit< tt) (second-small n e (k .arguments) h), value-length (valueOf e) (k .value), bit-length (d .out)))
+
+all-length : (n : ℕ) (ds : List Declared) → Each n ds → n ≤ streamLimit → length (allText ds) ≤ 50 * length ds
+unfolding allText
+all-length n [] k h = lit≤ tt
+all-length n (d ∷ ds) k h = rw (length-append (declaredText d) (allText ds)) (omega (arith, declared-length n d (k .0) h, all-length n ds (k .1) h))
+
+-- every plan that keeps the rules renders within the limit
+pub render-short : (ds : List Declared) → KeepsRules ds → length (render ds) ≤ textLimit
+unfolding render
+render-short ds k =
+    let n = length ds in
+    let l = line streamsKey (decimal n) in
+    rw (length-append planLine (l ++ allText ds), length-append l (allText ds))
+    (omega (arith, line-length streamsKey (decimal n), digits-few 19 n 3 (lit< tt) (omega (arith, k .few)), all-length n ds (k .each) (k .few), k .few))
+
+-- ## The whole text
+
+pub same-plan : (fs : List Fields) → planFrom fs ≡ planOf (map declaredFrom fs)
+unfolding planFrom
+same-plan [] = refl
+same-plan (f ∷ fs) = ap (λ (l : List Eqn). (declaredFrom f .eqn) ∷ l) (same-plan fs)
+
+numbered : (s : List ℕ) (n at : ℕ) (fs : List Fields) (end : ℕ) → length s ≤ textLimit → head s ≡ Head.Streams n at → streams s at n ≡ formed fs end → end ≡ length s → allKeep n fs ≡ true → acyclic streamLimit (planFrom fs) ≡ true → number s ≡ 0
+unfolding number numberAfter
+numbered s n at fs end l h e q k c = rw (le-ltb textLimit (length s) l, h, e, eq-eqb end (length s) q, k, c)
+
+read-back : (s : List ℕ) (n at : ℕ) (fs : List Fields) (end : ℕ) → head s ≡ Head.Streams n at → streams s at n ≡ formed fs end → declared s ≡ map declaredFrom fs
+unfolding declared
+read-back s n at fs end h e = rw (h, e)
+
+rendered : (ds : List Declared) → render ds ≡ planLine ++ (line streamsKey (decimal (length ds)) ++ allText ds)
+unfolding render
+rendered ds = refl
+
+-- the text of a plan that keeps the rules is taken, and reading it gives the plan back
+pub render-taken : (ds : List Declared) → KeepsRules ds → (number (render ds) ≡ 0) × (declared (render ds) ≡ ds)
+render-taken ds k =
+    let s = render ds in
+    let n = length ds in
+    let h = head-written s n (allText ds) (k .some) (k .few) (rendered ds) in
+    let w = streams-written s n (k .few) ds (k .each) (h .0) [] (h .3) (h .2 ∙ sym (append-nil (allText ds))) in
+    let z : length s - w .end ≡ 0 = sym (length-drop (w .end) s) ∙ ap length (w .behind) in
+    let end : w .end ≡ length s = omega (arith, w .within) in (
+      numbered s n (h .0) (w .fields) (w .end) (render-short ds k) (h .1) (w .found) end (w .kept) (ap (acyclic streamLimit) (same-plan (w .fields) ∙ ap planOf (w .declare)) ∙ k .clear),
+      read-back s n (h .0) (w .fields) (w .end) (h .1) (w .found) ∙ w .declare,
+    )
