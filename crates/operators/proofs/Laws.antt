@@ -4,9 +4,9 @@ use mathlib.Core.Path.{_≡_, refl}
 use mathlib.Core.Bool.{cond}
 use mathlib.Core.List.{List, [], _∷_}
 use native.Mathlib.Omega.{arith}
-use lib.Dec.{lit≤}
+use lib.Dec.{eqb, lit≤}
 use lib.IntN.{ℤ, pos}
-use Rattle.meaning.specs.Plan.{Unary, time, neg, set, plus, Calc, add, sub, mul, div, rem, lt, le, eq, Binary, calc, keep, merge, Eqn, input, nil, unit, one, two, last, delay, undelayed, reads}
+use Rattle.meaning.specs.Plan.{Unary, time, neg, set, plus, Calc, add, sub, mul, div, rem, lt, le, eq, Binary, calc, keep, merge, Eqn, input, nil, unit, one, two, last, delay, isInput, undelayed, reads}
 use Rattle.operators.specs.Operators.{operatorCount, calcNumber, eqnOf, numberOf, firstOf, secondOf, valueOf, usesA, usesB, usesK, delaysA}
 use Rattle.operators.proofs.Numbers.{listed, agree}
 
@@ -88,3 +88,7 @@ module _ (a b : ℕ) (k : ℤ) where
   pub undelayed-by-number : (n : ℕ) → 1 ≤ n → n ≤ operatorCount → undelayed (eqnOf n a b k) ≡ cond (delaysA n) (b ∷ []) (reads (eqnOf n a b k))
   unfolding eqnOf
   undelayed-by-number = everywhere (λ n. undelayed (eqnOf n a b k)) (λ n. cond (delaysA n) (b ∷ []) (reads (eqnOf n a b k))) refl
+
+  pub input-by-number : (n : ℕ) → 1 ≤ n → n ≤ operatorCount → isInput (eqnOf n a b k) ≡ eqb n 1
+  unfolding eqnOf
+  input-by-number = everywhere (λ n. isInput (eqnOf n a b k)) (λ n. eqb n 1) refl

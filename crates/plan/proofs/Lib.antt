@@ -2,3 +2,4 @@ pub mod Pass
 pub mod Noted
 pub mod Decide
 pub mod Rendered
+pub mod Taken

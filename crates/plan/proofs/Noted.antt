@@ -65,7 +65,7 @@ read-sound s (suc n) at fs end e = by-lines (λ at fs end e. read-sound s n at f
 
 -- ## The graph
 
-same-argument : (used : Bool) (n a : ℕ) → argumentFits used n a ≡ true → cond used a 0 ≡ a
+pub same-argument : (used : Bool) (n a : ℕ) → argumentFits used n a ≡ true → cond used a 0 ≡ a
 same-argument true n a e = refl
 same-argument false n a e = sym (eqb-true a 0 e)
 
