@@ -2,7 +2,7 @@
 ghost use mathlib.Core.Path.{_≡_};
 ghost use Prim.Native.Nat.{_+_, _*_, _<_, _≤_};
 ghost use lib.ListN.{length};
-ghost use Rattle.text.specs.Grammar.{skip, scan, whole, ended, field, signed, valueLine, outLine, packedAt, numberPacked, opLine, fieldsAfter, stream, head};
+ghost use Rattle.text.specs.Grammar.{skip, scan, whole, ended, field, signed, valueLine, outLine, packedAt, numberPacked, opLine, fieldsAfter, stream, counts, head};
 use operators::Plan;
 
 // What looking for a word finds: the position past it, or that it does not stand there.
@@ -311,6 +311,17 @@ pub fn read_stream(text: &[u8], at: usize) -> Lines
     }
 }
 
+// A count of streams, whose line ends before a position.
+fn count(n: u64, at: usize) -> Head
+    ensures { λ r. ⌜ r ≡ counts (Found.Number n at) ⌝ }
+{
+    let streams = n as usize;
+    if !Plan::new(streams).fits() {
+        return Head::Refused(3);
+    }
+    Head::Streams(streams, at)
+}
+
 // The first two lines.
 pub fn read_head(text: &[u8]) -> Head
     ensures { λ r. ⌜ r ≡ head (now (text .entry)) ⌝ }
@@ -318,12 +329,8 @@ pub fn read_head(text: &[u8]) -> Head
     let Word::Past(p) = skip(text, 0, b"plan=1\n") else {
         return Head::Refused(2);
     };
-    let Found::Number(n, q) = field(text, p, b"streams=", 3) else {
-        return Head::Refused(2);
-    };
-    let count = n as usize;
-    if !Plan::new(count).fits() {
-        return Head::Refused(3);
+    match field(text, p, b"streams=", 3) {
+        Found::Number(n, q) => count(n, q),
+        Found::Fault => Head::Refused(2),
     }
-    Head::Streams(count, q)
 }

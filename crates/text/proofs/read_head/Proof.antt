@@ -1,5 +1,3 @@
-use Rattle.operators.specs.Limits.{countFits}
-use borrow.Author.Tests.{not-true, not-false}
 use mathlib.Core.Path.{_≡_, refl, sym, ap, _∙_}
 use Prim.Native.Nat.{ℕ, _≤_, _<_, _+_, _*_, _-_, _^_}
 use lib.ListN.{length, getD, drop}
@@ -14,70 +12,60 @@ use Rattle.text.proofs.read_head.Statement.{statement}
 use Rattle.text.proofs.read_head.Tie as tie
 use Rattle.text.proofs.read_head.Reads as reads
 use Rattle.text.proofs.read_head.Lts as lts
-use Rattle.operators.proofs.Plan.fits.Reads as fits-reads
-use Rattle.operators.proofs.Plan.new.Reads as new-reads
+use Rattle.text.proofs.count.Reads as count-reads
 use Rattle.text.proofs.field.Reads as field-reads
 use Rattle.text.proofs.skip.Reads as skip-reads
 
--- src/lib.rt:318:39
+-- src/lib.rt:329:39
 slice-aggregate-skip : tie.Need-slice-aggregate-skip
 slice-aggregate-skip c = search needs
 
--- src/lib.rt:318:25
+-- src/lib.rt:329:25
 skip-requires : tie.Need-skip-requires
 skip-requires c κs = search needs
 
--- src/lib.rt:318:20
+-- src/lib.rt:329:20
 enum-known-p : tie.Need-enum-known-p
 enum-known-p c = search needs
 
--- src/lib.rt:319:9
+-- src/lib.rt:330:9
 enum-told : tie.Need-enum-told
 enum-told c = search needs
 
--- src/lib.rt:319:9
+-- src/lib.rt:330:9
 returns : tie.Need-returns
 unfolding head
 returns c = rw (sym (c .before .before .skip .ensures) ∙ c .enum-told .given .1)
 
--- src/lib.rt:321:46
+-- src/lib.rt:332:26
 slice-aggregate-field : tie.Need-slice-aggregate-field
 slice-aggregate-field c = search needs
 
--- src/lib.rt:321:31
+-- src/lib.rt:332:11
 field-requires : tie.Need-field-requires
 field-requires c κs = search needs
 
--- src/lib.rt:321:23
+-- src/lib.rt:333:23
 enum-known-n : tie.Need-enum-known-n
 enum-known-n c = search needs
 
--- src/lib.rt:322:9
+-- src/lib.rt:333:32
+count-requires : tie.Need-count-requires
+count-requires c κs = search needs
+
+-- src/lib.rt:334:25
 enum-told-2 : tie.Need-enum-told-2
 enum-told-2 c = search needs
 
--- src/lib.rt:322:9
+-- src/lib.rt:326:1
 returns-2 : tie.Need-returns-2
 unfolding head
-returns-2 c = rw (sym (c .before .before .before .before .before .before .before .skip .ensures) ∙ c .before .before .before .before .before .p .given .1, sym (c .before .before .field .ensures) ∙ c .enum-told2 .given .1)
+returns-2 c = c .count .ensures ∙ rw (sym (c .before .before .before .before .before .before .before .before .before .skip .ensures) ∙ c .before .before .before .before .before .before .before .p .given .1, sym (c .before .before .before .before .field .ensures) ∙ c .before .before .n .given .1)
 
--- src/lib.rt:325:9
-new-requires : tie.Need-new-requires
-new-requires c κs = search needs
-
--- src/lib.rt:325:9
-fits-requires : tie.Need-fits-requires
-fits-requires c κs = search needs
-
--- src/lib.rt:326:9
+-- src/lib.rt:326:1
 returns-3 : tie.Need-returns-3
 unfolding head
-returns-3 c = rw (sym (c .before .before .before .before .before .before .before .before .before .before .before .skip .ensures) ∙ c .before .before .before .before .before .before .before .before .before .p .given .1, sym (c .before .before .before .before .before .before .field .ensures) ∙ c .before .before .before .before .n .given .1, sym (ap countFits (c .before .before .new .ensures)) ∙ sym (c .before .fits2 .ensures) ∙ not-true (c .before .fits2 .result) (c .if1 .taken))
-
--- src/lib.rt:315:1
-returns-4 : tie.Need-returns-4
-unfolding head
-returns-4 c = rw (sym (c .before .before .before .before .before .before .before .before .before .before .before .skip .ensures) ∙ c .before .before .before .before .before .before .before .before .before .p .given .1, sym (c .before .before .before .before .before .before .field .ensures) ∙ c .before .before .before .before .n .given .1, sym (ap countFits (c .before .before .new .ensures)) ∙ sym (c .before .fits2 .ensures) ∙ not-false (c .before .fits2 .result) (c .if1 .left))
+returns-3 c = rw (sym (c .before .before .before .before .before .before .before .skip .ensures) ∙ c .before .before .before .before .before .p .given .1, sym (c .before .before .field .ensures) ∙ c .enum-told2 .given .1)
 
 pub read-head-spec : {M : Type 1} → statement M
 read-head-spec =
@@ -91,9 +79,7 @@ read-head-spec =
     slice-aggregate-field
     field-requires
     enum-known-n
+    count-requires
     enum-told-2
     returns-2
-    new-requires
-    fits-requires
-    returns-3
-    returns-4)
+    returns-3)
