@@ -1,13 +1,13 @@
 -- The graph of a plan is tied to it, and so the test on the graph's bytes decides the cycle rule.
-use Prim.Native.Nat.{ℕ, zero, suc, _+_, _*_, _<_, _≤_}
+use Prim.Native.Nat.{ℕ, zero, suc, _+_, _*_, _<_}
 use mathlib.Core.Path.{_≡_, refl, sym, ap, _∙_, subst}
 use mathlib.Core.List.{List, [], _∷_, _++_, append-assoc}
-use mathlib.Core.Bool.{Bool, true, false}
+use mathlib.Core.Bool.{false}
 use native.Mathlib.Omega.{arith}
 use lib.Dec.{lit<}
 use lib.ListN.{length, getD, length-append, List·getD-append}
 use lib.Seq.{getD-append-add}
-use Rattle.meaning.specs.Plan.{Unary, time, neg, set, plus, Calc, add, sub, mul, div, rem, lt, le, eq, Binary, calc, keep, merge, Eqn, input, nil, unit, one, two, last, delay, Plan, eqnAt, undelayed}
+use Rattle.meaning.specs.Plan.{time, neg, set, plus, add, sub, mul, div, rem, lt, le, eq, calc, keep, merge, Eqn, input, nil, unit, one, two, last, delay, Plan, eqnAt, undelayed}
 use Rattle.meaning.specs.Cycle.{acyclic}
 use Rattle.operators.specs.Operators.{numberOf, firstOf, secondOf}
 use Rattle.cycle.specs.Graph.{entryOf, graphOf, cleared}

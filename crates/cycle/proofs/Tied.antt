@@ -1,18 +1,18 @@
 -- The test on bytes is the test of the plan: graph and marks stay tied step by step.
 use Prim.Native.Nat.{ℕ, zero, suc, _+_, _*_, _<_, _≤_}
 use mathlib.Core.Path.{_≡_, refl, sym, ap, _∙_, subst}
-use mathlib.Core.List.{List, [], _∷_, _++_}
-use mathlib.Core.Bool.{Bool, true, false, cond, _&&_, _||_}
+use mathlib.Core.List.{List, [], _∷_}
+use mathlib.Core.Bool.{Bool, true, false, cond, _||_}
 use mathlib.Core.Option.{Option, none, some}
 use native.Mathlib.Omega.{arith}
 use lib.ListN.{length, getD, set, length-set}
 use lib.Seq.{getD-set-same, getD-set-other}
-use lib.Dec.{eqb, ltb}
-use borrow.Author.Tests.{eq-eqb, ne-eqb, lt-ltb, le-ltb, eqb-true, eqb-false}
-use Rattle.meaning.specs.Plan.{Eqn, Plan, eqnAt, undelayed}
+use lib.Dec.{eqb}
+use borrow.Author.Tests.{eq-eqb, eqb-true, eqb-false}
+use Rattle.meaning.specs.Plan.{Plan, eqnAt, undelayed}
 use Rattle.meaning.specs.Cycle.{Marks, then-marked, visits, visit, downFrom, isSome, acyclic}
 use Rattle.meaning.specs.Cycle as Cycle
-use Rattle.cycle.specs.Graph.{Walk, walked, marked, both, present, followed, rest, cleared}
+use Rattle.cycle.specs.Graph.{Walk, marked, both, followed, rest, cleared}
 use Rattle.cycle.proofs.Walks.{seen, stop, bare, onward}
 
 -- how a stream stands, by its mark and its undelayed arguments

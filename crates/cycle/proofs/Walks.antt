@@ -2,13 +2,13 @@
 use Prim.Native.Nat.{ℕ, zero, suc, _+_, _*_, _-_, _<_, _≤_}
 use mathlib.Core.Path.{_≡_, refl, sym, ap, _∙_}
 use mathlib.Core.List.{List, [], _∷_}
-use mathlib.Core.Bool.{Bool, true, false, not, cond, _&&_}
+use mathlib.Core.Bool.{Bool, true, false, not, cond}
 use native.Mathlib.Omega.{arith}
 use lib.ListN.{length, getD, set}
-use lib.Dec.{eqb, ltb}
+use lib.Dec.{eqb}
 use lib.Seq.{sets}
 use borrow.Author.Tests.{eq-eqb, ne-eqb, lt-ltb, le-ltb, not-true, not-false}
-use Rattle.cycle.specs.Graph.{Walk, walked, marked, both, present, followed, rest, cleared}
+use Rattle.cycle.specs.Graph.{Walk, walked, marked, both, followed, rest, cleared}
 
 -- a stream that the graph does not have
 pub absent : (d i : ℕ) (g : List ℕ) → length g ≤ 3 * i + 2 → walked false g ≡ followed d i g

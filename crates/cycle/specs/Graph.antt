@@ -4,7 +4,7 @@ use mathlib.Core.Bool.{Bool, true, false, cond, _&&_}
 use mathlib.Core.List.{List, [], _∷_, _++_}
 use lib.Dec.{eqb, leb, ltb}
 use lib.ListN.{length, getD, set}
-use Rattle.meaning.specs.Plan.{Eqn, Plan}
+use Rattle.meaning.specs.Plan.{Plan}
 use Rattle.operators.specs.Operators.{numberOf, firstOf, secondOf}
 
 -- Three bytes for each stream: how it stands (0: its arguments are to be followed, 1: found clear, 2: it has no undelayed

@@ -2,11 +2,11 @@
 use Prim.Native.Nat.{ℕ, _≤_}
 use mathlib.Core.Path.{_≡_, refl}
 use mathlib.Core.Bool.{cond}
-use mathlib.Core.List.{List, [], _∷_}
+use mathlib.Core.List.{[], _∷_}
 use native.Mathlib.Omega.{arith}
 use lib.Dec.{eqb, lit≤}
 use lib.IntN.{ℤ, pos}
-use Rattle.meaning.specs.Plan.{Unary, time, neg, set, plus, Calc, add, sub, mul, div, rem, lt, le, eq, Binary, calc, keep, merge, Eqn, input, nil, unit, one, two, last, delay, isInput, undelayed, reads}
+use Rattle.meaning.specs.Plan.{time, neg, set, plus, Calc, add, sub, mul, div, rem, lt, le, eq, calc, keep, merge, Eqn, input, nil, unit, one, two, last, delay, isInput, undelayed, reads}
 use Rattle.operators.specs.Operators.{operatorCount, calcNumber, eqnOf, numberOf, firstOf, secondOf, valueOf, usesA, usesB, usesK, delaysA}
 use Rattle.operators.proofs.Numbers.{listed, agree}
 

@@ -1,9 +1,8 @@
 -- From what the pass answers to the number of the text.
-use Prim.Native.Nat.{ℕ, zero, suc, _+_, _*_, _<_, _≤_}
-use mathlib.Core.Path.{_≡_, refl, sym, ap, _∙_, subst}
-use mathlib.Core.Bool.{Bool, true, false, not, cond, _&&_, true≢false}
-use mathlib.Core.List.{List, [], _∷_}
-use native.Mathlib.Omega.{arith}
+use Prim.Native.Nat.{ℕ, _*_, _≤_}
+use mathlib.Core.Path.{_≡_, refl, sym, ap, _∙_}
+use mathlib.Core.Bool.{Bool, true, false, not, cond, true≢false}
+use mathlib.Core.List.{List}
 use lib.Dec.{eqb}
 use lib.ListN.{length, replicate}
 use borrow.Author.Tests.{not-true, not-false}
@@ -13,7 +12,7 @@ use Rattle.cycle.specs.Graph.{Walk, walked, cleared}
 use Rattle.text.specs.declared.Fields.{Fields}
 use Rattle.plan.specs.declared.Checked.{Checked}
 use Rattle.plan.specs.declared.Checked.the-variants as Checked
-use Rattle.plan.specs.Rules.{allKeep, Form, refused, formed, streams, planFrom, notedAll, Pass, passOf, checkedOf, Noted, numberAfter}
+use Rattle.plan.specs.Rules.{allKeep, Form, refused, formed, streams, planFrom, notedAll, passOf, checkedOf, Noted, numberAfter}
 use Rattle.plan.proofs.Noted.{cleared-plan}
 
 abbrev refusalIn : Checked → ℕ

@@ -1,19 +1,19 @@
 -- What the pass notes of a plan that keeps rule 5 is the plan's graph, and so the code's test decides rule 6.
 use Prim.Native.Nat.{ℕ, zero, suc, _+_, _*_, _-_, _<_, _≤_}
 use mathlib.Core.Path.{_≡_, refl, sym, ap, _∙_, subst}
-use mathlib.Core.Bool.{Bool, true, false, cond, _&&_, true≢false}
-use mathlib.Core.List.{List, [], _∷_, _++_, append-assoc, map}
+use mathlib.Core.Bool.{Bool, true, false, cond, true≢false}
+use mathlib.Core.List.{List, [], _∷_, _++_, append-assoc}
 use native.Mathlib.Omega.{arith}
 use Rattle.operators.proofs.Tests.{left, right}
-use lib.Dec.{eqb, leb, ltb}
-use lib.ListN.{length, take, drop, getD, replicate, length-append, length-map, length-drop, length-replicate}
-use lib.Seq.{sets, sets-eq, take-at, drop-append-add, drop-drop}
-use borrow.Author.Tests.{eqb-true, ltb-true, leb-true, le-leb, lt-leb}
+use lib.Dec.{leb}
+use lib.ListN.{length, drop, replicate, length-append, length-map, length-drop, length-replicate}
+use lib.Seq.{sets-eq, take-at, drop-append-add, drop-drop}
+use borrow.Author.Tests.{eqb-true, ltb-true, leb-true, le-leb}
 use mir.Syntax.{w64}
 use mir.Val.{toZ}
-use Rattle.meaning.specs.Plan.{Eqn, Plan, eqnAt, undelayed, reads}
+use Rattle.meaning.specs.Plan.{undelayed}
 use Rattle.meaning.specs.Cycle.{acyclic}
-use Rattle.operators.specs.Operators.{operatorCount, eqnOf, numberOf, firstOf, secondOf, usesA, usesB, delaysA}
+use Rattle.operators.specs.Operators.{operatorCount, numberOf, firstOf, secondOf, usesA, usesB, delaysA}
 use Rattle.operators.specs.Limits.{streamLimit}
 use Rattle.operators.proofs.Laws.{number-back, first-back, second-back, reads-by-number, undelayed-by-number}
 use Rattle.cycle.specs.Graph.{entryOf, graphOf, cleared}
@@ -24,7 +24,7 @@ use Rattle.text.specs.declared.Lines.{Lines}
 use Rattle.text.specs.declared.Lines.the-variants as Lines
 use Rattle.text.specs.Grammar.{stream}
 use Rattle.render.proofs.Ranges.{op-range}
-use Rattle.plan.specs.Rules.{argumentFits, keeps, allKeep, Form, refused, formed, put, others, streams, eqnFrom, planFrom, entryIf, notedStream, notedAll}
+use Rattle.plan.specs.Rules.{argumentFits, keeps, allKeep, Form, refused, formed, put, others, streams, eqnFrom, planFrom, notedStream, notedAll}
 use Rattle.plan.proofs.Pass.{first-kept, second-kept}
 
 -- ## The streams that were read

@@ -1,12 +1,10 @@
 -- The pass over all streams: one stream after the other, and what the whole leaves.
 use Prim.Native.Nat.{ℕ, zero, suc, _+_, _*_, _-_, _<_, _≤_}
-use mathlib.Core.Path.{_≡_, refl, sym, ap, _∙_, subst}
-use mathlib.Core.Bool.{Bool, true, false, cond, _&&_, and-assoc, and-true, true≢false}
+use mathlib.Core.Path.{_≡_, refl, sym, ap}
+use mathlib.Core.Bool.{Bool, true, false, _&&_, and-assoc, and-true, true≢false}
 use mathlib.Core.List.{List, [], _∷_}
 use native.Mathlib.Omega.{arith}
 use Rattle.operators.proofs.Tests.{left, right}
-use lib.Dec.{eqb, ltb}
-use lib.ListN.{length}
 use lib.Seq.{sets}
 use borrow.Author.Tests.{eq-eqb, ne-eqb, eqb-true, ltb-true}
 use Rattle.operators.specs.Operators.{usesA, usesB}
@@ -19,7 +17,7 @@ use Rattle.plan.specs.declared.Checked.{Checked}
 use Rattle.plan.specs.declared.Checked.the-variants as Checked
 use Rattle.plan.specs.declared.Turn.{Turn}
 use Rattle.plan.specs.declared.Turn.the-variants as Turn
-use Rattle.plan.specs.Rules.{argumentFits, argumentsFit, valueFits, outFits, keeps, allKeep, notedAll, Form, refused, formed, put, others, streams, entryIf, notedStream, notedLines, turn, Pass, halted, through, passOf, checkedOf, Noted}
+use Rattle.plan.specs.Rules.{argumentFits, argumentsFit, valueFits, outFits, keeps, allKeep, notedAll, Form, refused, formed, put, others, streams, notedStream, notedLines, turn, Pass, halted, through, passOf, checkedOf, Noted}
 
 -- ## What rule 5 says of each field
 

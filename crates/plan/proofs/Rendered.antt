@@ -1,21 +1,21 @@
 -- A plan that keeps the rules renders within the limit, its text is taken, and reading the text gives the plan back.
-use Prim.Native.Nat.{ℕ, zero, suc, _+_, _*_, _-_, _^_, _<_, _≤_}
-use mathlib.Core.Path.{_≡_, refl, sym, ap, _∙_, subst}
-use mathlib.Core.Bool.{Bool, true, false, not, cond, _&&_, true≢false}
+use Prim.Native.Nat.{ℕ, suc, _+_, _*_, _-_, _^_, _<_, _≤_}
+use mathlib.Core.Path.{_≡_, refl, sym, ap, _∙_}
+use mathlib.Core.Bool.{Bool, true, false, not, _&&_, true≢false}
 use mathlib.Core.List.{List, [], _∷_, _++_, append-assoc, append-nil, map}
 use native.Mathlib.Omega.{arith}
-use lib.Dec.{eqb, leb, ltb, lit<, lit≤}
+use lib.Dec.{eqb, lit<, lit≤}
 use lib.IntN.{ℤ, pos, negsuc}
 use lib.Signed.{mag}
-use lib.ListN.{length, drop, length-append, length-drop, length-map}
+use lib.ListN.{length, drop, length-append, length-drop}
 use borrow.Author.Tests.{le-ltb, lt-ltb, eq-eqb}
 use mir.Syntax.{w64}
 use mir.Val.{toZ}
 use mir.Facts.{toZ-pos, toZ-neg}
-use Rattle.meaning.specs.Plan.{Unary, time, neg, set, plus, Calc, add, sub, mul, div, rem, lt, le, eq, Binary, calc, keep, merge, Eqn, input, nil, unit, one, two, last, delay, isInput, reads}
+use Rattle.meaning.specs.Plan.{time, neg, set, plus, add, sub, mul, div, rem, lt, le, eq, calc, keep, merge, Eqn, input, nil, unit, one, two, last, delay, isInput, reads}
 use Rattle.meaning.specs.Cycle.{acyclic}
 use Rattle.machine.specs.State.{Declared}
-use Rattle.operators.specs.Operators.{operatorCount, nameOf, eqnOf, numberOf, firstOf, secondOf, valueOf, usesA, usesB, usesK}
+use Rattle.operators.specs.Operators.{nameOf, eqnOf, numberOf, firstOf, secondOf, valueOf}
 use Rattle.operators.specs.Limits.{streamLimit, textLimit}
 use Rattle.operators.proofs.Laws.{eqn-back, number-range}
 use Rattle.text.specs.declared.Fields.{Fields}
@@ -23,11 +23,11 @@ use Rattle.text.specs.declared.Lines.the-variants as Lines
 use Rattle.text.specs.declared.Head.{Head}
 use Rattle.text.specs.declared.Head.the-variants as Head
 use Rattle.text.specs.Grammar.{planLine, streamsKey, opKey, firstKey, secondKey, valueKey, outKey, ending, stream, head}
-use Rattle.render.specs.Render.{digits, decimal, valueText, bitText, line, streamText, declaredText, allText, render}
+use Rattle.render.specs.Render.{decimal, valueText, bitText, line, streamText, declaredText, allText, render}
 use Rattle.render.proofs.Digits.{digits-few}
 use Rattle.render.proofs.Streams.{bitsOf, outOf, name-short, stream-written}
 use Rattle.render.proofs.Heads.{head-written}
-use Rattle.plan.specs.Rules.{argumentFits, argumentsFit, valueFits, outFits, keeps, allKeep, Form, formed, streams, declaredFrom, planFrom, numberAfter, number, declaredOf, declared}
+use Rattle.plan.specs.Rules.{keeps, allKeep, formed, streams, declaredFrom, planFrom, numberAfter, number, declared}
 use Rattle.plan.specs.Taken.{AllBelow, StreamKeeps, Each, planOf, KeepsRules}
 use Rattle.plan.proofs.Pass.{put-streams}
 

@@ -1,23 +1,21 @@
 -- A text that is taken is the text of a plan that keeps the rules, the plan that reading it gives.
-use Prim.Native.Nat.{ℕ, zero, suc, _+_, _*_, _-_, _^_, _<_, _≤_}
+use Prim.Native.Nat.{ℕ, zero, suc, _+_, _-_, _^_, _<_, _≤_}
 use mathlib.Core.Path.{_≡_, refl, sym, ap, _∙_, subst}
 use mathlib.Core.Logic.{_↔_}
 use mathlib.Core.Bool.{Bool, true, false, not, cond, _&&_, true≢false}
 use mathlib.Core.List.{List, [], _∷_, _++_, append-assoc, append-nil, map}
 use native.Mathlib.Omega.{arith}
-use lib.Dec.{eqb, leb, ltb, lit<, lit≤}
-use lib.IntN.{ℤ, pos, negsuc}
-use lib.Signed.{mag}
+use lib.Dec.{eqb, ltb}
+use lib.IntN.{pos}
 use lib.ListN.{length, drop, length-map}
 use lib.Seq.{drop-length}
-use borrow.Author.Tests.{eqb-true, ltb-true, leb-true, le-leb, not-true}
+use borrow.Author.Tests.{eqb-true, ltb-true, leb-true, le-leb}
 use mir.Syntax.{w64}
-use mir.Val.{toZ, Fits}
-use mir.Facts.{toZ-pos, sfits-toZ}
-use Rattle.meaning.specs.Plan.{Eqn, isInput, reads}
+use mir.Val.{toZ}
+use mir.Facts.{sfits-toZ}
 use Rattle.meaning.specs.Cycle.{acyclic}
 use Rattle.machine.specs.State.{Declared}
-use Rattle.operators.specs.Operators.{operatorCount, eqnOf, numberOf, firstOf, secondOf, valueOf, usesA, usesB, usesK}
+use Rattle.operators.specs.Operators.{firstOf, secondOf, valueOf, usesA, usesB, usesK}
 use Rattle.operators.specs.Limits.{streamLimit, textLimit}
 use Rattle.operators.proofs.Laws.{number-back, first-back, second-back, value-back, reads-by-number, input-by-number}
 use Rattle.operators.proofs.Tests.{left, right}
@@ -31,8 +29,8 @@ use Rattle.render.specs.Render.{decimal, line, streamText, declaredText, allTex
 use Rattle.render.proofs.Ranges.{stream-refused}
 use Rattle.render.proofs.Back.{stream-read}
 use Rattle.render.proofs.Heads.{head-fits, head-read, head-refused}
-use Rattle.plan.specs.Rules.{argumentFits, valueFits, outFits, keeps, allKeep, Form, refused, formed, put, others, streams, eqnFrom, declaredFrom, planFrom, numberAfter, numberOfHead, number, declaredOf, declared}
-use Rattle.plan.specs.Taken.{AllBelow, StreamKeeps, Each, planOf, KeepsRules}
+use Rattle.plan.specs.Rules.{argumentFits, keeps, allKeep, Form, refused, formed, put, others, streams, eqnFrom, declaredFrom, planFrom, numberAfter, numberOfHead, number, declared}
+use Rattle.plan.specs.Taken.{AllBelow, StreamKeeps, Each, KeepsRules}
 use Rattle.plan.proofs.Pass.{out-kept, value-kept, first-kept, second-kept}
 use Rattle.plan.proofs.Noted.{Sound, All, read-sound, same-argument}
 use Rattle.plan.proofs.Rendered.{same-plan, render-taken}

@@ -1,20 +1,20 @@
 -- What was read was written so: a text's bytes are those of what reading finds in it.
 use Prim.Native.Nat.{ℕ, zero, suc, _+_, _*_, _-_, _^_, _<_, _≤_}
 use mathlib.Core.Path.{_≡_, refl, sym, ap, _∙_, subst}
-use mathlib.Core.Bool.{Bool, true, false, cond, _&&_, true≢false}
-use mathlib.Core.List.{List, [], _∷_, _++_, append-assoc, map}
+use mathlib.Core.Bool.{Bool, true, false, cond, true≢false}
+use mathlib.Core.List.{List, [], _∷_, _++_, append-assoc}
 use native.Mathlib.Omega.{arith}
 use Rattle.operators.proofs.Tests.{left, right}
 use native.Mathlib.Nat.{pow-le-pow-right}
 use lib.Dec.{ltb, leb, eqb, lit<, lit≤}
-use lib.IntN.{ℤ, pos, negsuc}
-use lib.ListN.{length, getD, drop, length-append, List·getD-eq-default, List·getD-map}
+use lib.IntN.{negsuc}
+use lib.ListN.{length, getD, drop, List·getD-eq-default, List·getD-map}
 use lib.Seq.{drop-cons}
-use borrow.Author.Tests.{lt-ltb, le-ltb, le-leb, lt-leb, eq-eqb, ne-eqb, leb-true, leb-false, eqb-true, eqb-false, ltb-true, ltb-false}
+use borrow.Author.Tests.{lt-ltb, eq-eqb, leb-true, eqb-true, eqb-false, ltb-true, ltb-false}
 use mir.Syntax.{w64}
 use mir.Val.{toZ}
 use mir.Facts.{toZ-pos, toZ-neg}
-use Rattle.operators.specs.Operators.{Operator, operators, noOperator, operatorCount, nameOf}
+use Rattle.operators.specs.Operators.{Operator, operators, noOperator, nameOf}
 use Rattle.text.specs.declared.Word.{Word}
 use Rattle.text.specs.declared.Word.the-variants.{Past, Absent}
 use Rattle.text.specs.declared.Found.{Found}
@@ -25,9 +25,9 @@ use Rattle.text.specs.declared.Scanned.{Scanned}
 use Rattle.text.specs.declared.Fields.{Fields}
 use Rattle.text.specs.declared.Lines.{Lines}
 use Rattle.text.specs.declared.Lines.the-variants as Lines
-use Rattle.text.specs.Grammar.{ending, opKey, firstKey, secondKey, valueKey, outKey, stands, skip, after, digit, scanned, scan, counted, orZero, whole, endedAt, ended, field, positive, negative, signedAfter, signed, valueLine, bit, outLine, letter, nameAt, sameName, place, names, numberNamed, opLine, fieldsAfter, stream}
+use Rattle.text.specs.Grammar.{ending, opKey, firstKey, secondKey, valueKey, outKey, stands, skip, after, digit, scanned, scan, counted, orZero, whole, endedAt, ended, field, positive, negative, signedAfter, signed, valueLine, bit, outLine, letter, nameAt, sameName, place, names, numberNamed, opLine, stream}
 use Rattle.text.proofs.Turns.{grows}
-use Rattle.render.specs.Render.{digits, decimal, valueText, bitText, line, streamText}
+use Rattle.render.specs.Render.{decimal, valueText, bitText, line, streamText}
 use Rattle.render.proofs.Digits.{digit-one, digits-snoc}
 use Rattle.render.proofs.Written.{line-split}
 use Rattle.render.proofs.Ranges.{stream-case, fields-case, op-case}

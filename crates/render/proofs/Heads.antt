@@ -1,8 +1,8 @@
 -- The first two lines, written and read.
-use Prim.Native.Nat.{ℕ, zero, suc, _+_, _^_, _<_, _≤_}
+use Prim.Native.Nat.{ℕ, suc, _+_, _<_, _≤_}
 use mathlib.Core.Path.{_≡_, refl, sym, ap, _∙_}
-use mathlib.Core.Bool.{Bool, true, false, cond, _&&_, true≢false}
-use mathlib.Core.List.{List, [], _∷_, _++_}
+use mathlib.Core.Bool.{Bool, true, false, cond, true≢false}
+use mathlib.Core.List.{List, _++_}
 use native.Mathlib.Omega.{arith}
 use lib.Dec.{leb, lit<, lit≤}
 use lib.ListN.{length, drop}
@@ -17,7 +17,7 @@ use Rattle.text.specs.declared.Head.{Head}
 use Rattle.text.specs.declared.Head.the-variants as Head
 use Rattle.text.specs.Grammar.{planLine, streamsKey, skip, field, counts, headAfter, head}
 use Rattle.render.specs.Render.{decimal, line}
-use Rattle.render.proofs.Written.{on, skip-written, Finds, field-written}
+use Rattle.render.proofs.Written.{on, skip-written, field-written}
 use Rattle.render.proofs.Back.{skip-read, field-read}
 
 -- a count of streams that is as it may be is read

@@ -1,29 +1,26 @@
 -- What is written of a stream is read: the op line, the value of k, the five lines.
-use Prim.Native.Nat.{ℕ, zero, suc, _+_, _*_, _-_, _^_, _<_, _≤_}
-use mathlib.Core.Path.{_≡_, refl, sym, ap, _∙_, subst}
-use mathlib.Core.Bool.{Bool, true, false, cond, _&&_, true≢false}
+use Prim.Native.Nat.{ℕ, zero, suc, _+_, _-_, _^_, _<_, _≤_}
+use mathlib.Core.Path.{_≡_, refl, sym, ap, _∙_}
+use mathlib.Core.Bool.{Bool, true, false, _&&_}
 use mathlib.Core.List.{List, [], _∷_, _++_, append-assoc}
-use native.Mathlib.Nat.{pow-le-pow-right}
 use native.Mathlib.Omega.{arith}
 use Rattle.operators.proofs.Tests.{left, right}
-use lib.Dec.{ltb, leb, eqb, lit<, lit≤}
+use lib.Dec.{leb, eqb, lit<, lit≤}
 use lib.IntN.{ℤ, pos, negsuc}
 use lib.Signed.{mag}
-use lib.ListN.{length, getD, drop, length-append, length-drop}
-use borrow.Author.Tests.{lt-ltb, le-ltb, le-leb, lt-leb, eq-eqb, ne-eqb, leb-true, eqb-true, ltb-true}
+use lib.ListN.{length, getD, drop}
+use borrow.Author.Tests.{lt-ltb, le-leb, ne-eqb, leb-true, eqb-true}
 use Rattle.operators.specs.Operators.{operatorCount, nameOf}
-use Rattle.operators.proofs.Numbers.{listed, agree}
-use Rattle.text.specs.declared.Word.{Word}
+use Rattle.operators.proofs.Numbers.{agree}
 use Rattle.text.specs.declared.Word.the-variants.{Past, Absent}
 use Rattle.text.specs.declared.Found.{Found}
-use Rattle.text.specs.declared.Found.the-variants.{Number, Fault}
+use Rattle.text.specs.declared.Found.the-variants.{Number}
 use Rattle.text.specs.declared.Name.{Name}
 use Rattle.text.specs.declared.Name.the-variants as Name
-use Rattle.text.specs.declared.Fields.{Fields}
 use Rattle.text.specs.declared.Lines.{Lines}
 use Rattle.text.specs.declared.Lines.the-variants as Lines
-use Rattle.text.specs.Grammar.{ending, opKey, firstKey, secondKey, valueKey, outKey, place, skip, after, whole, ended, field, positive, negative, signedAfter, signed, valueLine, bit, outLine, letter, nameAt, numberNamed, known, named, nameAfter, opLine, next, fieldsAfter, streamAfter, stream}
-use Rattle.render.specs.Render.{digits, decimal, valueText, bitText, line, streamText}
+use Rattle.text.specs.Grammar.{ending, opKey, firstKey, secondKey, valueKey, outKey, place, skip, whole, positive, negative, signed, valueLine, bit, outLine, letter, nameAt, numberNamed, known, named, opLine, next, fieldsAfter, stream}
+use Rattle.render.specs.Render.{decimal, valueText, bitText, line, streamText}
 use Rattle.render.proofs.Digits.{digits-first, digits-some, digit-one}
 use Rattle.render.proofs.Written.{here, on, skip-written, skip-absent, Finds, whole-written, ended-written, line-split, field-written}
 

@@ -1,20 +1,17 @@
 -- What is written is read: numbers, lines, and a stream's five lines.
 use Prim.Native.Nat.{ℕ, zero, suc, _+_, _*_, _-_, _/_, _%_, _^_, _<_, _≤_}
-use mathlib.Core.Path.{_≡_, refl, sym, ap, _∙_, subst}
-use mathlib.Core.Bool.{Bool, true, false, cond, _&&_, true≢false}
+use mathlib.Core.Path.{_≡_, refl, sym, ap, _∙_}
 use mathlib.Core.List.{List, [], _∷_, _++_, append-assoc}
 use native.Mathlib.Nat.{pow-le-pow-right}
 use native.Mathlib.Omega.{arith}
-use lib.Dec.{ltb, leb, eqb, lit<, lit≤}
+use lib.Dec.{lit<}
 use lib.ListN.{length, getD, drop, length-append, length-drop}
 use lib.Seq.{getD-drop, drop-drop, drop-append-seam}
-use borrow.Author.Tests.{lt-ltb, le-ltb, le-leb, lt-leb, eq-eqb, ne-eqb}
-use Rattle.text.specs.declared.Word.{Word}
+use borrow.Author.Tests.{lt-ltb, eq-eqb, ne-eqb}
 use Rattle.text.specs.declared.Word.the-variants.{Past, Absent}
 use Rattle.text.specs.declared.Found.{Found}
-use Rattle.text.specs.declared.Found.the-variants.{Number, Fault}
-use Rattle.text.specs.declared.Scanned.{Scanned}
-use Rattle.text.specs.Grammar.{ending, stands, skip, after, digit, scanned, scan, counted, orZero, whole, endedAt, ended, field}
+use Rattle.text.specs.declared.Found.the-variants.{Number}
+use Rattle.text.specs.Grammar.{ending, skip, scanned, scan, whole, ended, field}
 use Rattle.text.proofs.Turns.{scan-go, scan-low, scan-end}
 use Rattle.render.specs.Render.{digits, decimal, line}
 use Rattle.render.proofs.Digits.{digit-one, digit-more, small-or, digits-some, digits-first, digits-few, tenth}

@@ -2,19 +2,18 @@
 use Prim.Native.Nat.{ℕ, zero, suc, _+_, _*_, _-_, _^_, _<_, _≤_}
 use mathlib.Core.Path.{_≡_, refl, sym, ap, _∙_}
 use mathlib.Core.List.{List, [], _∷_, map}
-use mathlib.Core.Bool.{Bool, true, false, cond, _&&_, and-false, true≢false}
-use native.Mathlib.Nat.{mul-add, mul-assoc, mul-zero, pow-suc, pow-le-pow-right, mul-le-mul-left, mul-comm}
+use mathlib.Core.Bool.{Bool, true, false, cond, _&&_, and-false}
+use native.Mathlib.Nat.{mul-add, mul-assoc, mul-zero, pow-suc, pow-le-pow-right, mul-le-mul-left}
 use native.Mathlib.Omega.{arith}
 use Rattle.operators.proofs.Tests.{left, right}
-use lib.Dec.{eqb, leb, ltb, lit<, lit≤}
+use lib.Dec.{eqb, leb, ltb, lit<}
 use lib.ListN.{length, getD, drop, List·getD-eq-default}
 use borrow.Author.Tests.{le-leb, lt-leb, eq-eqb, ne-eqb, eqb-true, eqb-false, leb-true, ltb-true}
-use Rattle.text.specs.declared.Word.{Word}
 use Rattle.text.specs.declared.Word.the-variants.{Past, Absent}
 use Rattle.text.specs.declared.Name.{Name}
 use Rattle.text.specs.declared.Name.the-variants as Name
 use Rattle.text.specs.declared.Packed.{Packed}
-use Rattle.text.specs.Grammar.{skip, ending, letter, nameAt, sameName, place, names, numberNamed, known, named, pack, packed, packedAt, placePacked, numberPacked}
+use Rattle.text.specs.Grammar.{skip, ending, letter, nameAt, sameName, place, names, numberNamed, known, named, pack, packedAt, placePacked, numberPacked}
 
 -- ## The loop over the letters
 

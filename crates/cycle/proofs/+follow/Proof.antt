@@ -1,10 +1,7 @@
-use mathlib.Core.Path.{_≡_, refl, sym, ap, _∙_}
-use lib.ListN.{length, length-set}
+use mathlib.Core.Path.{_∙_}
+use lib.ListN.{length-set}
 use denote.Ref.{now}
-use borrow.Author.Tests.{le-leb, lt-leb}
-use Rattle.cycle.specs.Graph.{Walk, walked, followed, cleared, entryOf}
 use Rattle.cycle.proofs.Walks.{absent, seen, stop, bare, first, second, last}
-use borrow.Author.Needs.{needs}
 use native.Mathlib.Omega.{arith}
 use Prim.Native.Nat.{ℕ, _<_, _+_, _*_}
 use borrow.Fn.Kinds.{In}

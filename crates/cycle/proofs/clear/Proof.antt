@@ -1,16 +1,11 @@
 use Prim.Native.Nat.{_≤_, _-_}
-use mathlib.Core.Path.{_≡_, refl, sym, ap, _∙_}
+use mathlib.Core.Path.{_≡_, refl, _∙_}
 use lib.ListN.{length}
-use denote.Ref.{now}
 use Rattle.cycle.specs.Graph.{cleared}
 use Rattle.cycle.proofs.Walks.{blocked, going, done}
-use borrow.Author.Needs.{needs}
 use native.Mathlib.Omega.{arith}
 use Rattle.cycle.proofs.clear.Statement.{statement}
 use Rattle.cycle.proofs.clear.Tie as tie
-use Rattle.cycle.proofs.clear.Reads as reads
-use Rattle.cycle.proofs.clear.Lts as lts
-use Rattle.cycle.proofs.follow.Reads as follow-reads
 
 abbrev Inv-loop : tie.InvT-loop
 Inv-loop graph₀ n depth i₀ graph i = (i ≤ n) × (length graph ≡ length graph₀) × (cleared depth i graph ≡ cleared depth n graph₀)

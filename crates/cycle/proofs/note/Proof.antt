@@ -1,13 +1,10 @@
-use mathlib.Core.Path.{_≡_, refl, sym, ap, _∙_}
+use mathlib.Core.Path.{sym, _∙_}
 use borrow.Author.Tests.{le-leb, lt-leb}
 use Rattle.cycle.specs.Graph.{entryOf}
 use borrow.Author.Needs.{needs}
 use native.Mathlib.Omega.{arith}
 use Rattle.cycle.proofs.note.Statement.{statement}
 use Rattle.cycle.proofs.note.Tie as tie
-use Rattle.cycle.proofs.note.Reads as reads
-use Rattle.cycle.proofs.note.Lts as lts
-use Rattle.cycle.proofs.store.Reads as store-reads
 
 -- src/lib.rt:31:14
 mul-at : tie.Need-mul-at

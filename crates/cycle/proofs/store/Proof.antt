@@ -1,16 +1,10 @@
-use lib.ListN.{length, length-set}
-use native.Mathlib.Numerals.{add-one}
-use mathlib.Core.Path.{_≡_, refl, sym, ap, _∙_}
-use Prim.Native.Nat.{ℕ, suc, _+_}
-use lib.Seq.{sets}
+use lib.ListN.{length-set}
 use denote.Ref.{now}
 use Rattle.cycle.proofs.Walks.{stored}
 use borrow.Author.Needs.{needs}
 use native.Mathlib.Omega.{arith}
 use Rattle.cycle.proofs.store.Statement.{statement}
 use Rattle.cycle.proofs.store.Tie as tie
-use Rattle.cycle.proofs.store.Reads as reads
-use Rattle.cycle.proofs.store.Lts as lts
 
 -- src/lib.rt:21:5
 slice-write-graph : tie.Need-slice-write-graph

@@ -1,15 +1,10 @@
-use mathlib.Core.Path.{_≡_, refl, sym, ap, _∙_}
-use Prim.Native.Nat.{ℕ, _≤_, _<_, _+_, _*_, _-_, _^_}
-use lib.ListN.{length, getD, drop}
-use denote.Ref.{now}
-use borrow.Author.Tests.{le-leb, lt-leb, lt-ltb, le-ltb, eq-eqb, ne-eqb, not-true, not-false}
+use mathlib.Core.Path.{sym, _∙_}
+use Prim.Native.Nat.{_-_}
+use borrow.Author.Tests.{le-leb, lt-leb}
 use borrow.Author.Needs.{needs}
 use native.Mathlib.Omega.{arith}
 use Rattle.plan.proofs.arguments_fit.Statement.{statement}
 use Rattle.plan.proofs.arguments_fit.Tie as tie
-use Rattle.plan.proofs.arguments_fit.Reads as reads
-use Rattle.plan.proofs.arguments_fit.Lts as lts
-use Rattle.plan.proofs.both.Reads as both-reads
 
 -- src/lib.rt:61:18
 both-requires : tie.Need-both-requires

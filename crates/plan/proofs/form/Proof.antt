@@ -1,21 +1,15 @@
 use native.Mathlib.Nat.{sub-zero}
-use mathlib.Core.Path.{_≡_, refl, sym, ap, _∙_}
-use Prim.Native.Nat.{ℕ, _≤_, _<_, _+_, _*_, _-_, _^_}
-use lib.ListN.{length, getD, drop}
+use mathlib.Core.Path.{_≡_, refl, sym, _∙_}
+use Prim.Native.Nat.{_≤_, _-_}
+use lib.ListN.{length}
 use denote.Ref.{now}
-use borrow.Author.Tests.{le-leb, lt-leb, lt-ltb, le-ltb, eq-eqb, ne-eqb, not-true, not-false}
-use Rattle.plan.proofs.Pass.{first-kept, second-kept, small, noted-kept, noted-broken, pass-halt, pass-go, pass-end, answer-halted, answer-formed, answer-left-over}
-use Rattle.plan.specs.Rules.{keeps, turn, streams, passOf, notedStream, notedLines}
-use Rattle.text.specs.Grammar.{stream}
+use Rattle.plan.proofs.Pass.{pass-halt, pass-go, pass-end, answer-halted, answer-formed, answer-left-over}
+use Rattle.plan.specs.Rules.{streams, passOf}
 use mathlib.Core.Bool.{true}
 use borrow.Author.Needs.{needs}
 use native.Mathlib.Omega.{arith}
 use Rattle.plan.proofs.form.Statement.{statement}
 use Rattle.plan.proofs.form.Tie as tie
-use Rattle.plan.proofs.form.Reads as reads
-use Rattle.plan.proofs.form.Lts as lts
-use Rattle.plan.proofs.both.Reads as both-reads
-use Rattle.plan.proofs.read_turn.Reads as read-turn-reads
 
 abbrev Inv-loop : tie.InvT-loop
 Inv-loop text at n graph₀ p₀ i₀ ok₀ graph p i ok = (i ≤ n) × (length graph ≡ length graph₀) × (passOf n ok i graph (streams text p (n - i)) ≡ passOf n true 0 graph₀ (streams text at n))

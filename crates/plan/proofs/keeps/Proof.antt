@@ -1,18 +1,10 @@
-use mathlib.Core.Path.{_≡_, refl, sym, ap, _∙_}
-use Prim.Native.Nat.{ℕ, _≤_, _<_, _+_, _*_, _-_, _^_}
-use lib.ListN.{length, getD, drop}
-use denote.Ref.{now}
-use borrow.Author.Tests.{le-leb, lt-leb, lt-ltb, le-ltb, eq-eqb, ne-eqb, not-true, not-false}
+use mathlib.Core.Path.{sym, _∙_}
+use Prim.Native.Nat.{_-_}
+use borrow.Author.Tests.{not-true, not-false}
 use Rattle.plan.specs.Rules.{keeps}
 use borrow.Author.Needs.{needs}
-use native.Mathlib.Omega.{arith}
 use Rattle.plan.proofs.keeps.Statement.{statement}
 use Rattle.plan.proofs.keeps.Tie as tie
-use Rattle.plan.proofs.keeps.Reads as reads
-use Rattle.plan.proofs.keeps.Lts as lts
-use Rattle.plan.proofs.arguments_fit.Reads as arguments-fit-reads
-use Rattle.plan.proofs.out_fits.Reads as out-fits-reads
-use Rattle.plan.proofs.value_fits.Reads as value-fits-reads
 
 -- src/lib.rt:71:9
 out-fits-requires : tie.Need-out-fits-requires

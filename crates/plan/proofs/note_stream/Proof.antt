@@ -1,21 +1,14 @@
-use mathlib.Core.Path.{_≡_, refl, sym, ap, _∙_}
-use Prim.Native.Nat.{ℕ, _≤_, _<_, _+_, _*_, _-_, _^_}
-use lib.ListN.{length, getD, drop}
+use mathlib.Core.Path.{sym, _∙_}
+use Prim.Native.Nat.{_-_}
 use denote.Ref.{now}
-use borrow.Author.Tests.{le-leb, lt-leb, lt-ltb, le-ltb, eq-eqb, ne-eqb, not-true, not-false}
-use Rattle.plan.proofs.Pass.{first-kept, second-kept, small, noted-kept, noted-broken, pass-halt, pass-go, pass-end, answer-halted, answer-formed, answer-left-over}
-use Rattle.plan.specs.Rules.{keeps, turn, streams, passOf, notedStream, notedLines}
-use Rattle.text.specs.Grammar.{stream}
-use mathlib.Core.Bool.{true}
+use borrow.Author.Tests.{not-true, not-false}
+use Rattle.plan.proofs.Pass.{first-kept, second-kept, small, noted-kept, noted-broken}
+use Rattle.plan.specs.Rules.{keeps}
 use Rattle.operators.specs.Operators.{usesA, usesB}
 use borrow.Author.Needs.{needs}
 use native.Mathlib.Omega.{arith}
 use Rattle.plan.proofs.note_stream.Statement.{statement}
 use Rattle.plan.proofs.note_stream.Tie as tie
-use Rattle.plan.proofs.note_stream.Reads as reads
-use Rattle.plan.proofs.note_stream.Lts as lts
-use Rattle.cycle.proofs.note.Reads as note-reads
-use Rattle.plan.proofs.keeps.Reads as keeps-reads
 
 -- src/lib.rt:79:9
 keeps-requires : tie.Need-keeps-requires

@@ -1,18 +1,13 @@
-use mathlib.Core.Path.{_≡_, refl, sym, ap, _∙_}
-use Prim.Native.Nat.{ℕ, _≤_, _<_, _+_, _*_, _-_, _^_}
-use lib.ListN.{length, getD, drop}
+use mathlib.Core.Path.{sym, _∙_}
+use Prim.Native.Nat.{_-_}
+use lib.ListN.{length}
 use denote.Ref.{now}
-use borrow.Author.Tests.{le-leb, lt-leb, lt-ltb, le-ltb, eq-eqb, ne-eqb, not-true, not-false}
+use borrow.Author.Tests.{lt-ltb, le-ltb}
 use Rattle.render.proofs.Heads.{head-fits}
-use Rattle.plan.specs.Rules.{streams, number}
+use Rattle.plan.specs.Rules.{number}
 use borrow.Author.Needs.{needs}
-use native.Mathlib.Omega.{arith}
 use Rattle.plan.proofs.number.Statement.{statement}
 use Rattle.plan.proofs.number.Tie as tie
-use Rattle.plan.proofs.number.Reads as reads
-use Rattle.plan.proofs.number.Lts as lts
-use Rattle.plan.proofs.plan_number.Reads as plan-number-reads
-use Rattle.text.proofs.read_head.Reads as read-head-reads
 
 -- src/lib.rt:153:9
 returns : tie.Need-returns

@@ -1,14 +1,7 @@
-use mathlib.Core.Path.{_≡_, refl, sym, ap, _∙_}
-use Prim.Native.Nat.{ℕ, _≤_, _<_, _+_, _*_, _-_, _^_}
-use lib.ListN.{length, getD, drop}
-use denote.Ref.{now}
-use borrow.Author.Tests.{le-leb, lt-leb, lt-ltb, le-ltb, eq-eqb, ne-eqb, not-true, not-false}
-use borrow.Author.Needs.{needs}
-use native.Mathlib.Omega.{arith}
+use Prim.Native.Nat.{_-_}
+use borrow.Author.Tests.{eq-eqb, ne-eqb}
 use Rattle.plan.proofs.out_fits.Statement.{statement}
 use Rattle.plan.proofs.out_fits.Tie as tie
-use Rattle.plan.proofs.out_fits.Reads as reads
-use Rattle.plan.proofs.out_fits.Lts as lts
 
 -- src/lib.rt:37:1
 returns : tie.Need-returns

@@ -1,18 +1,13 @@
-use mathlib.Core.Path.{_≡_, refl, sym, ap, _∙_}
-use Prim.Native.Nat.{ℕ, _≤_, _<_, _+_, _*_, _-_, _^_}
-use lib.ListN.{length, getD, drop}
+use mathlib.Core.Path.{sym, _∙_}
+use Prim.Native.Nat.{_-_}
 use denote.Ref.{now}
-use borrow.Author.Tests.{le-leb, lt-leb, lt-ltb, le-ltb, eq-eqb, ne-eqb, not-true, not-false}
+use borrow.Author.Tests.{not-true, not-false}
 use Rattle.plan.proofs.Decide.{refused-number, broken-number, cycle-number}
-use Rattle.plan.specs.Rules.{streams, number}
+use Rattle.plan.specs.Rules.{streams}
 use borrow.Author.Needs.{needs}
 use native.Mathlib.Omega.{arith}
 use Rattle.plan.proofs.plan_number.Statement.{statement}
 use Rattle.plan.proofs.plan_number.Tie as tie
-use Rattle.plan.proofs.plan_number.Reads as reads
-use Rattle.plan.proofs.plan_number.Lts as lts
-use Rattle.cycle.proofs.clear.Reads as clear-reads
-use Rattle.plan.proofs.form.Reads as form-reads
 
 -- src/lib.rt:134:29
 slice-aggregate-form : tie.Need-slice-aggregate-form

@@ -1,20 +1,9 @@
-use mathlib.Core.Path.{_≡_, refl, sym, ap, _∙_}
-use Prim.Native.Nat.{ℕ, _≤_, _<_, _+_, _*_, _-_, _^_}
-use lib.ListN.{length, getD, drop}
-use denote.Ref.{now}
-use borrow.Author.Tests.{le-leb, lt-leb, lt-ltb, le-ltb, eq-eqb, ne-eqb, not-true, not-false}
-use Rattle.plan.proofs.Pass.{first-kept, second-kept, small, noted-kept, noted-broken, pass-halt, pass-go, pass-end, answer-halted, answer-formed, answer-left-over}
-use Rattle.plan.specs.Rules.{keeps, turn, streams, passOf, notedStream, notedLines}
-use Rattle.text.specs.Grammar.{stream}
-use mathlib.Core.Bool.{true}
+use mathlib.Core.Path.{sym, _∙_}
+use Prim.Native.Nat.{_-_}
+use Rattle.plan.specs.Rules.{turn}
 use borrow.Author.Needs.{needs}
-use native.Mathlib.Omega.{arith}
 use Rattle.plan.proofs.read_turn.Statement.{statement}
 use Rattle.plan.proofs.read_turn.Tie as tie
-use Rattle.plan.proofs.read_turn.Reads as reads
-use Rattle.plan.proofs.read_turn.Lts as lts
-use Rattle.plan.proofs.note_stream.Reads as note-stream-reads
-use Rattle.text.proofs.read_stream.Reads as read-stream-reads
 
 -- src/lib.rt:93:11
 read-stream-requires : tie.Need-read-stream-requires

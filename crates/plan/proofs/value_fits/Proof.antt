@@ -1,14 +1,8 @@
-use mathlib.Core.Path.{_≡_, refl, sym, ap, _∙_}
-use Prim.Native.Nat.{ℕ, _≤_, _<_, _+_, _*_, _-_, _^_}
-use lib.ListN.{length, getD, drop}
-use denote.Ref.{now}
-use borrow.Author.Tests.{le-leb, lt-leb, lt-ltb, le-ltb, eq-eqb, ne-eqb, not-true, not-false}
-use borrow.Author.Needs.{needs}
+use Prim.Native.Nat.{_-_}
+use borrow.Author.Tests.{le-leb, lt-leb}
 use native.Mathlib.Omega.{arith}
 use Rattle.plan.proofs.value_fits.Statement.{statement}
 use Rattle.plan.proofs.value_fits.Tie as tie
-use Rattle.plan.proofs.value_fits.Reads as reads
-use Rattle.plan.proofs.value_fits.Lts as lts
 
 -- src/lib.rt:47:1
 returns : tie.Need-returns

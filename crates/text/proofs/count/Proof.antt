@@ -1,21 +1,10 @@
-use mathlib.Core.Path.{_≡_, refl, sym, ap, _∙_}
-use Prim.Native.Nat.{ℕ, _≤_, _<_, _+_, _*_, _-_, _^_}
-use lib.ListN.{length, getD, drop}
-use lib.Dec.{lit<}
-use native.Mathlib.Nat.{sub-zero}
-use denote.Ref.{now}
-use borrow.Author.Tests.{le-leb, lt-leb, lt-ltb, le-ltb, eq-eqb, ne-eqb}
-use Rattle.text.specs.Grammar.{skip, whole, ended, field, signed, valueLine, outLine, nameAt, packedAt, numberPacked, placePacked, pack, opLine, fieldsAfter, stream, head}
+use mathlib.Core.Path.{sym, ap, _∙_}
+use Prim.Native.Nat.{_-_}
 use Rattle.operators.specs.Limits.{countFits}
 use borrow.Author.Tests.{not-true, not-false}
 use borrow.Author.Needs.{needs}
-use native.Mathlib.Omega.{arith}
 use Rattle.text.proofs.count.Statement.{statement}
 use Rattle.text.proofs.count.Tie as tie
-use Rattle.text.proofs.count.Reads as reads
-use Rattle.text.proofs.count.Lts as lts
-use Rattle.operators.proofs.Plan.fits.Reads as fits-reads
-use Rattle.operators.proofs.Plan.new.Reads as new-reads
 
 -- src/lib.rt:319:9
 new-requires : tie.Need-new-requires

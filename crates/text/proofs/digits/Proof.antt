@@ -1,19 +1,13 @@
-use mathlib.Core.Path.{_≡_, refl, sym, ap, _∙_}
-use Prim.Native.Nat.{ℕ, _≤_, _<_, _+_, _*_, _-_, _^_}
-use lib.ListN.{length, getD, drop}
+use mathlib.Core.Path.{_≡_, _∙_}
+use Prim.Native.Nat.{_≤_, _<_, _+_, _-_, _^_}
 use lib.Dec.{lit<}
 use native.Mathlib.Nat.{sub-zero}
 use denote.Ref.{now}
-use borrow.Author.Tests.{le-leb, lt-leb, lt-ltb, le-ltb, eq-eqb, ne-eqb}
 use Rattle.text.specs.Grammar.{scan}
 use Rattle.text.proofs.Turns.{scan-past, scan-low, scan-high, scan-go, scan-end, grows, fits}
-use borrow.Author.Needs.{needs}
 use native.Mathlib.Omega.{arith}
 use Rattle.text.proofs.digits.Statement.{statement}
 use Rattle.text.proofs.digits.Tie as tie
-use Rattle.text.proofs.digits.Reads as reads
-use Rattle.text.proofs.digits.Lts as lts
-use Rattle.text.proofs.wide.Reads as wide-reads
 
 abbrev Inv-loop : tie.InvT-loop
 Inv-loop text at max value₀ p₀ i₀ value p i = (i ≤ max) × (value < 10 ^ i) × (scan text p value (max - i) ≡ scan text at 0 max)

@@ -1,19 +1,12 @@
-use mathlib.Core.Path.{_≡_, refl, sym, ap, _∙_}
-use Prim.Native.Nat.{ℕ, _≤_, _<_, _+_, _*_, _-_, _^_}
-use lib.ListN.{length, getD, drop}
+use mathlib.Core.Path.{_≡_, refl, _∙_}
+use Prim.Native.Nat.{_≤_, _<_, _+_, _-_, _^_}
 use lib.Dec.{lit<}
-use native.Mathlib.Nat.{sub-zero}
 use denote.Ref.{now}
-use borrow.Author.Tests.{le-leb, lt-leb, lt-ltb, le-ltb, eq-eqb, ne-eqb}
-use Rattle.text.specs.Grammar.{skip, whole, ended, field, signed, valueLine, outLine, nameAt, packedAt, numberPacked, placePacked, pack, opLine, fieldsAfter, stream, head}
+use Rattle.text.specs.Grammar.{nameAt, packedAt}
 use Rattle.text.proofs.Names.{packedFrom, name-past, name-low, name-high, name-go, name-end, name-start, more, heavier, light}
-use borrow.Author.Needs.{needs}
 use native.Mathlib.Omega.{arith}
 use Rattle.text.proofs.letters.Statement.{statement}
 use Rattle.text.proofs.letters.Tie as tie
-use Rattle.text.proofs.letters.Reads as reads
-use Rattle.text.proofs.letters.Lts as lts
-use Rattle.text.proofs.wide.Reads as wide-reads
 
 abbrev Inv-loop : tie.InvT-loop
 Inv-loop text at code₀ weight₀ p₀ i₀ code weight p i = (i ≤ 5) × (weight ≡ 256 ^ i) × (code < 256 ^ i) × (packedFrom code weight p (nameAt text p (5 - i)) ≡ packedAt text at)

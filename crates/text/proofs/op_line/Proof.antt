@@ -1,21 +1,11 @@
-use mathlib.Core.Path.{_≡_, refl, sym, ap, _∙_}
-use Prim.Native.Nat.{ℕ, _≤_, _<_, _+_, _*_, _-_, _^_}
-use lib.ListN.{length, getD, drop}
-use lib.Dec.{lit<}
-use native.Mathlib.Nat.{sub-zero}
+use mathlib.Core.Path.{sym, _∙_}
+use Prim.Native.Nat.{_-_}
 use denote.Ref.{now}
-use borrow.Author.Tests.{le-leb, lt-leb, lt-ltb, le-ltb, eq-eqb, ne-eqb}
-use Rattle.text.specs.Grammar.{skip, whole, ended, field, signed, valueLine, outLine, nameAt, packedAt, numberPacked, placePacked, pack, opLine, fieldsAfter, stream, head}
+use Rattle.text.specs.Grammar.{skip, numberPacked, opLine}
 use Rattle.text.proofs.Names.{no-name, a-name, an-operator, not-ended}
 use borrow.Author.Needs.{needs}
-use native.Mathlib.Omega.{arith}
 use Rattle.text.proofs.op_line.Statement.{statement}
 use Rattle.text.proofs.op_line.Tie as tie
-use Rattle.text.proofs.op_line.Reads as reads
-use Rattle.text.proofs.op_line.Lts as lts
-use Rattle.text.proofs.letters.Reads as letters-reads
-use Rattle.text.proofs.operator.Reads as operator-reads
-use Rattle.text.proofs.skip.Reads as skip-reads
 
 -- src/lib.rt:259:40
 slice-aggregate-skip : tie.Need-slice-aggregate-skip

@@ -1,20 +1,9 @@
-use mathlib.Core.Path.{_≡_, refl, sym, ap, _∙_}
-use Prim.Native.Nat.{ℕ, _≤_, _<_, _+_, _*_, _-_, _^_}
-use lib.ListN.{length, getD, drop}
-use lib.Dec.{lit<}
-use native.Mathlib.Nat.{sub-zero}
-use denote.Ref.{now}
-use borrow.Author.Tests.{le-leb, lt-leb, lt-ltb, le-ltb, eq-eqb, ne-eqb}
-use Rattle.text.specs.Grammar.{skip, whole, ended, field, signed, valueLine, outLine, nameAt, packedAt, numberPacked, placePacked, pack, opLine, fieldsAfter, stream, head}
-use Rattle.text.specs.Grammar.{names}
-use mathlib.Core.List.{map}
+use mathlib.Core.Path.{sym, ap}
+use Prim.Native.Nat.{_-_}
+use Rattle.text.specs.Grammar.{numberPacked, placePacked, pack}
 use Rattle.text.proofs.Names.{no-operator}
-use borrow.Author.Needs.{needs}
-use native.Mathlib.Omega.{arith}
 use Rattle.text.proofs.operator.Statement.{statement}
 use Rattle.text.proofs.operator.Tie as tie
-use Rattle.text.proofs.operator.Reads as reads
-use Rattle.text.proofs.operator.Lts as lts
 
 -- src/lib.rt:228:1
 returns : tie.Need-returns

@@ -1,18 +1,10 @@
-use mathlib.Core.Path.{_≡_, refl, sym, ap, _∙_}
-use Prim.Native.Nat.{ℕ, _≤_, _<_, _+_, _*_, _-_, _^_}
-use lib.ListN.{length, getD, drop}
-use lib.Dec.{lit<}
-use native.Mathlib.Nat.{sub-zero}
-use denote.Ref.{now}
-use borrow.Author.Tests.{le-leb, lt-leb, lt-ltb, le-ltb, eq-eqb, ne-eqb}
-use Rattle.text.specs.Grammar.{skip, scan, whole, ended, field, signed, valueLine, outLine}
+use mathlib.Core.Path.{sym, _∙_}
+use Prim.Native.Nat.{_-_}
+use borrow.Author.Tests.{le-leb, lt-leb}
+use Rattle.text.specs.Grammar.{field, outLine}
 use borrow.Author.Needs.{needs}
-use native.Mathlib.Omega.{arith}
 use Rattle.text.proofs.out_line.Statement.{statement}
 use Rattle.text.proofs.out_line.Tie as tie
-use Rattle.text.proofs.out_line.Reads as reads
-use Rattle.text.proofs.out_line.Lts as lts
-use Rattle.text.proofs.field.Reads as field-reads
 
 -- src/lib.rt:191:47
 slice-aggregate-field : tie.Need-slice-aggregate-field

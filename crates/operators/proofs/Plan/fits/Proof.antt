@@ -1,10 +1,6 @@
 use borrow.Author.Tests.{le-leb, lt-leb}
-use borrow.Author.Needs.{needs}
-use native.Mathlib.Omega.{arith}
 use Rattle.operators.proofs.Plan.fits.Statement.{statement}
 use Rattle.operators.proofs.Plan.fits.Tie as tie
-use Rattle.operators.proofs.Plan.fits.Reads as reads
-use Rattle.operators.proofs.Plan.fits.Lts as lts
 
 -- src/lib.rt:23:5
 returns : tie.Need-returns
