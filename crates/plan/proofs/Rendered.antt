@@ -22,7 +22,8 @@ use Rattle.text.specs.declared.Fields.{Fields}
 use Rattle.text.specs.declared.Lines.the-variants as Lines
 use Rattle.text.specs.declared.Head.{Head}
 use Rattle.text.specs.declared.Head.the-variants as Head
-use Rattle.text.specs.Grammar.{planLine, streamsKey, opKey, firstKey, secondKey, valueKey, outKey, ending, stream, head}
+use Rattle.lines.specs.Form.{valueKey, outKey, ending}
+use Rattle.text.specs.Grammar.{planLine, streamsKey, opKey, firstKey, secondKey, stream, head}
 use Rattle.render.specs.Render.{decimal, valueText, bitText, line, streamText, declaredText, allText, render}
 use Rattle.render.proofs.Digits.{digits-few}
 use Rattle.render.proofs.Streams.{bitsOf, outOf, name-short, stream-written}

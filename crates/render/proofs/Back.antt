@@ -15,18 +15,19 @@ use mir.Syntax.{w64}
 use mir.Val.{toZ}
 use mir.Facts.{toZ-pos, toZ-neg}
 use Rattle.operators.specs.Operators.{Operator, operators, noOperator, nameOf}
-use Rattle.text.specs.declared.Word.{Word}
-use Rattle.text.specs.declared.Word.the-variants.{Past, Absent}
-use Rattle.text.specs.declared.Found.{Found}
-use Rattle.text.specs.declared.Found.the-variants.{Number, Fault}
+use Rattle.lines.specs.declared.Word.{Word}
+use Rattle.lines.specs.declared.Word.the-variants.{Past, Absent}
+use Rattle.lines.specs.declared.Found.{Found}
+use Rattle.lines.specs.declared.Found.the-variants.{Number, Fault}
 use Rattle.text.specs.declared.Name.{Name}
 use Rattle.text.specs.declared.Name.the-variants as Name
-use Rattle.text.specs.declared.Scanned.{Scanned}
+use Rattle.lines.specs.declared.Scanned.{Scanned}
 use Rattle.text.specs.declared.Fields.{Fields}
 use Rattle.text.specs.declared.Lines.{Lines}
 use Rattle.text.specs.declared.Lines.the-variants as Lines
-use Rattle.text.specs.Grammar.{ending, opKey, firstKey, secondKey, valueKey, outKey, stands, skip, after, digit, scanned, scan, counted, orZero, whole, endedAt, ended, field, positive, negative, signedAfter, signed, valueLine, bit, outLine, letter, nameAt, sameName, place, names, numberNamed, opLine, stream}
-use Rattle.text.proofs.Turns.{grows}
+use Rattle.lines.specs.Form.{ending, valueKey, outKey, stands, skip, after, digit, scanned, scan, counted, orZero, whole, endedAt, ended, field, positive, negative, signedAfter, signed, valueLine, bit, outLine}
+use Rattle.text.specs.Grammar.{opKey, firstKey, secondKey, letter, nameAt, sameName, place, names, numberNamed, opLine, stream}
+use Rattle.lines.proofs.Turns.{grows}
 use Rattle.render.specs.Render.{decimal, valueText, bitText, line, streamText}
 use Rattle.render.proofs.Digits.{digit-one, digits-snoc}
 use Rattle.render.proofs.Written.{line-split}

@@ -9,13 +9,14 @@ use lib.ListN.{length, drop}
 use borrow.Author.Tests.{le-leb, leb-true}
 use Rattle.operators.specs.Limits.{streamLimit, countFits}
 use Rattle.operators.proofs.Tests.{left, right}
-use Rattle.text.specs.declared.Word.{Word}
-use Rattle.text.specs.declared.Word.the-variants.{Past, Absent}
-use Rattle.text.specs.declared.Found.{Found}
-use Rattle.text.specs.declared.Found.the-variants.{Number, Fault}
+use Rattle.lines.specs.declared.Word.{Word}
+use Rattle.lines.specs.declared.Word.the-variants.{Past, Absent}
+use Rattle.lines.specs.declared.Found.{Found}
+use Rattle.lines.specs.declared.Found.the-variants.{Number, Fault}
 use Rattle.text.specs.declared.Head.{Head}
 use Rattle.text.specs.declared.Head.the-variants as Head
-use Rattle.text.specs.Grammar.{planLine, streamsKey, skip, field, counts, headAfter, head}
+use Rattle.lines.specs.Form.{skip, field}
+use Rattle.text.specs.Grammar.{planLine, streamsKey, counts, headAfter, head}
 use Rattle.render.specs.Render.{decimal, line}
 use Rattle.render.proofs.Written.{on, skip-written, field-written}
 use Rattle.render.proofs.Back.{skip-read, field-read}

@@ -7,16 +7,17 @@ use native.Mathlib.Omega.{arith}
 use lib.ListN.{length}
 use lib.Dec.{lit<}
 use Rattle.operators.specs.Operators.{operatorCount}
-use Rattle.text.specs.declared.Word.{Word}
-use Rattle.text.specs.declared.Word.the-variants.{Past, Absent}
-use Rattle.text.specs.declared.Found.{Found}
-use Rattle.text.specs.declared.Found.the-variants.{Number, Fault}
+use Rattle.lines.specs.declared.Word.{Word}
+use Rattle.lines.specs.declared.Word.the-variants.{Past, Absent}
+use Rattle.lines.specs.declared.Found.{Found}
+use Rattle.lines.specs.declared.Found.the-variants.{Number, Fault}
 use Rattle.text.specs.declared.Name.{Name}
 use Rattle.text.specs.declared.Name.the-variants as Name
 use Rattle.text.specs.declared.Fields.{Fields}
 use Rattle.text.specs.declared.Lines.{Lines}
 use Rattle.text.specs.declared.Lines.the-variants as Lines
-use Rattle.text.specs.Grammar.{ending, opKey, firstKey, secondKey, skip, sameName, place, names, numberNamed, known, named, nameAt, nameAfter, opLine, next, field, valueLine, outLine, fieldsAfter, streamAfter, stream}
+use Rattle.lines.specs.Form.{ending, skip, field, valueLine, outLine}
+use Rattle.text.specs.Grammar.{opKey, firstKey, secondKey, sameName, place, names, numberNamed, known, named, nameAt, nameAfter, opLine, next, fieldsAfter, streamAfter, stream}
 
 -- ## Case by case: what was found, if something was
 

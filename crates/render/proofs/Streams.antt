@@ -12,14 +12,15 @@ use lib.ListN.{length, getD, drop}
 use borrow.Author.Tests.{lt-ltb, le-leb, ne-eqb, leb-true, eqb-true}
 use Rattle.operators.specs.Operators.{operatorCount, nameOf}
 use Rattle.operators.proofs.Numbers.{agree}
-use Rattle.text.specs.declared.Word.the-variants.{Past, Absent}
-use Rattle.text.specs.declared.Found.{Found}
-use Rattle.text.specs.declared.Found.the-variants.{Number}
+use Rattle.lines.specs.declared.Word.the-variants.{Past, Absent}
+use Rattle.lines.specs.declared.Found.{Found}
+use Rattle.lines.specs.declared.Found.the-variants.{Number}
 use Rattle.text.specs.declared.Name.{Name}
 use Rattle.text.specs.declared.Name.the-variants as Name
 use Rattle.text.specs.declared.Lines.{Lines}
 use Rattle.text.specs.declared.Lines.the-variants as Lines
-use Rattle.text.specs.Grammar.{ending, opKey, firstKey, secondKey, valueKey, outKey, place, skip, whole, positive, negative, signed, valueLine, bit, outLine, letter, nameAt, numberNamed, known, named, opLine, next, fieldsAfter, stream}
+use Rattle.lines.specs.Form.{ending, valueKey, outKey, skip, whole, positive, negative, signed, valueLine, bit, outLine}
+use Rattle.text.specs.Grammar.{opKey, firstKey, secondKey, place, letter, nameAt, numberNamed, known, named, opLine, next, fieldsAfter, stream}
 use Rattle.render.specs.Render.{decimal, valueText, bitText, line, streamText}
 use Rattle.render.proofs.Digits.{digits-first, digits-some, digit-one}
 use Rattle.render.proofs.Written.{here, on, skip-written, skip-absent, Finds, whole-written, ended-written, line-split, field-written}

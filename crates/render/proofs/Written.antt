@@ -8,11 +8,11 @@ use lib.Dec.{lit<}
 use lib.ListN.{length, getD, drop, length-append, length-drop}
 use lib.Seq.{getD-drop, drop-drop, drop-append-seam}
 use borrow.Author.Tests.{lt-ltb, eq-eqb, ne-eqb}
-use Rattle.text.specs.declared.Word.the-variants.{Past, Absent}
-use Rattle.text.specs.declared.Found.{Found}
-use Rattle.text.specs.declared.Found.the-variants.{Number}
-use Rattle.text.specs.Grammar.{ending, skip, scanned, scan, whole, ended, field}
-use Rattle.text.proofs.Turns.{scan-go, scan-low, scan-end}
+use Rattle.lines.specs.declared.Word.the-variants.{Past, Absent}
+use Rattle.lines.specs.declared.Found.{Found}
+use Rattle.lines.specs.declared.Found.the-variants.{Number}
+use Rattle.lines.specs.Form.{ending, skip, scanned, scan, whole, ended, field}
+use Rattle.lines.proofs.Turns.{scan-go, scan-low, scan-end}
 use Rattle.render.specs.Render.{digits, decimal, line}
 use Rattle.render.proofs.Digits.{digit-one, digit-more, small-or, digits-some, digits-first, digits-few, tenth}
 

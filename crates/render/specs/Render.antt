@@ -7,7 +7,8 @@ use lib.ListN.{length}
 use lib.IntN.{ℤ, pos, negsuc}
 use Rattle.machine.specs.State.{Declared}
 use Rattle.operators.specs.Operators.{nameOf, numberOf, firstOf, secondOf, valueOf}
-use Rattle.text.specs.Grammar.{ending, planLine, streamsKey, opKey, firstKey, secondKey, valueKey, outKey}
+use Rattle.lines.specs.Form.{ending, valueKey, outKey}
+use Rattle.text.specs.Grammar.{planLine, streamsKey, opKey, firstKey, secondKey}
 
 -- "Numbers are decimal without leading zeros": at most this many digits
 unfoldable pub digits : ℕ → ℕ → List ℕ

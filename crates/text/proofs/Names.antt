@@ -9,11 +9,12 @@ use Rattle.operators.proofs.Tests.{left, right}
 use lib.Dec.{eqb, leb, ltb, lit<}
 use lib.ListN.{length, getD, drop, List·getD-eq-default}
 use borrow.Author.Tests.{le-leb, lt-leb, eq-eqb, ne-eqb, eqb-true, eqb-false, leb-true, ltb-true}
-use Rattle.text.specs.declared.Word.the-variants.{Past, Absent}
+use Rattle.lines.specs.declared.Word.the-variants.{Past, Absent}
 use Rattle.text.specs.declared.Name.{Name}
 use Rattle.text.specs.declared.Name.the-variants as Name
 use Rattle.text.specs.declared.Packed.{Packed}
-use Rattle.text.specs.Grammar.{skip, ending, letter, nameAt, sameName, place, names, numberNamed, known, named, pack, packedAt, placePacked, numberPacked}
+use Rattle.lines.specs.Form.{skip, ending}
+use Rattle.text.specs.Grammar.{letter, nameAt, sameName, place, names, numberNamed, known, named, pack, packedAt, placePacked, numberPacked}
 
 -- ## The loop over the letters
 

@@ -1,6 +1,7 @@
 use mathlib.Core.Path.{sym, _∙_}
 use Prim.Native.Nat.{_-_}
-use Rattle.text.specs.Grammar.{field, fieldsAfter}
+use Rattle.lines.specs.Form.{field}
+use Rattle.text.specs.Grammar.{fieldsAfter}
 use borrow.Author.Needs.{needs}
 use Rattle.text.proofs.field_lines.Statement.{statement}
 use Rattle.text.proofs.field_lines.Tie as tie

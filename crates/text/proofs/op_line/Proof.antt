@@ -1,7 +1,8 @@
 use mathlib.Core.Path.{sym, _∙_}
 use Prim.Native.Nat.{_-_}
 use denote.Ref.{now}
-use Rattle.text.specs.Grammar.{skip, numberPacked, opLine}
+use Rattle.lines.specs.Form.{skip}
+use Rattle.text.specs.Grammar.{numberPacked, opLine}
 use Rattle.text.proofs.Names.{no-name, a-name, an-operator, not-ended}
 use borrow.Author.Needs.{needs}
 use Rattle.text.proofs.op_line.Statement.{statement}

@@ -1,6 +1,7 @@
 use mathlib.Core.Path.{sym, _∙_}
 use Prim.Native.Nat.{_-_}
-use Rattle.text.specs.Grammar.{skip, field, head}
+use Rattle.lines.specs.Form.{skip, field}
+use Rattle.text.specs.Grammar.{head}
 use borrow.Author.Needs.{needs}
 use Rattle.text.proofs.read_head.Statement.{statement}
 use Rattle.text.proofs.read_head.Tie as tie

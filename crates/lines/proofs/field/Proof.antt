@@ -1,9 +1,9 @@
 use mathlib.Core.Path.{sym, _∙_}
 use Prim.Native.Nat.{_-_}
-use Rattle.text.specs.Grammar.{skip, whole, ended, field}
+use Rattle.lines.specs.Form.{skip, whole, ended, field}
 use borrow.Author.Needs.{needs}
-use Rattle.text.proofs.field.Statement.{statement}
-use Rattle.text.proofs.field.Tie as tie
+use Rattle.lines.proofs.field.Statement.{statement}
+use Rattle.lines.proofs.field.Tie as tie
 
 -- src/lib.rt:146:25
 skip-requires : tie.Need-skip-requires

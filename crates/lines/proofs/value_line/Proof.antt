@@ -1,9 +1,9 @@
 use mathlib.Core.Path.{sym, _∙_}
 use Prim.Native.Nat.{_-_}
-use Rattle.text.specs.Grammar.{skip, ended, signed, valueLine}
+use Rattle.lines.specs.Form.{skip, ended, signed, valueLine}
 use borrow.Author.Needs.{needs}
-use Rattle.text.proofs.value_line.Statement.{statement}
-use Rattle.text.proofs.value_line.Tie as tie
+use Rattle.lines.proofs.value_line.Statement.{statement}
+use Rattle.lines.proofs.value_line.Tie as tie
 
 -- src/lib.rt:181:40
 slice-aggregate-skip : tie.Need-slice-aggregate-skip

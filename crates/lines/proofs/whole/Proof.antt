@@ -1,10 +1,10 @@
 use mathlib.Core.Path.{sym, _∙_}
 use Prim.Native.Nat.{_-_}
 use borrow.Author.Tests.{eq-eqb, ne-eqb}
-use Rattle.text.specs.Grammar.{skip, whole}
+use Rattle.lines.specs.Form.{skip, whole}
 use borrow.Author.Needs.{needs}
-use Rattle.text.proofs.whole.Statement.{statement}
-use Rattle.text.proofs.whole.Tie as tie
+use Rattle.lines.proofs.whole.Statement.{statement}
+use Rattle.lines.proofs.whole.Tie as tie
 
 -- src/lib.rt:118:43
 slice-aggregate-skip : tie.Need-slice-aggregate-skip

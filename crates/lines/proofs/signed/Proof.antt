@@ -1,11 +1,11 @@
 use mathlib.Core.Path.{_≡_, sym, _∙_}
 use Prim.Native.Nat.{_-_, _^_}
 use borrow.Author.Tests.{le-leb, lt-leb, lt-ltb, le-ltb, eq-eqb, ne-eqb}
-use Rattle.text.specs.Grammar.{skip, whole, signed}
+use Rattle.lines.specs.Form.{skip, whole, signed}
 use borrow.Author.Needs.{needs}
 use native.Mathlib.Omega.{arith}
-use Rattle.text.proofs.signed.Statement.{statement}
-use Rattle.text.proofs.signed.Tie as tie
+use Rattle.lines.proofs.signed.Statement.{statement}
+use Rattle.lines.proofs.signed.Tie as tie
 
 -- src/lib.rt:156:40
 slice-aggregate-skip : tie.Need-slice-aggregate-skip

@@ -1,9 +1,9 @@
 use mathlib.Core.Path.{sym, _∙_}
 use Prim.Native.Nat.{_-_}
-use Rattle.text.specs.Grammar.{skip, ended}
+use Rattle.lines.specs.Form.{skip, ended}
 use borrow.Author.Needs.{needs}
-use Rattle.text.proofs.ended.Statement.{statement}
-use Rattle.text.proofs.ended.Tie as tie
+use Rattle.lines.proofs.ended.Statement.{statement}
+use Rattle.lines.proofs.ended.Tie as tie
 
 -- src/lib.rt:132:23
 enum-known-number : tie.Need-enum-known-number

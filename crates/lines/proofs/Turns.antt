@@ -9,8 +9,8 @@ use lib.Dec.{leb, lit<}
 use lib.ListN.{length, getD, drop, drop-of-length-le, List·getD-eq-default}
 use lib.Seq.{drop-cons}
 use borrow.Author.Tests.{le-leb, lt-leb, lt-ltb, le-ltb, eq-eqb, ne-eqb}
-use Rattle.text.specs.declared.Word.the-variants.{Past, Absent}
-use Rattle.text.specs.Grammar.{stands, skip, digit, scanned, scan}
+use Rattle.lines.specs.declared.Word.the-variants.{Past, Absent}
+use Rattle.lines.specs.Form.{stands, skip, digit, scanned, scan}
 
 -- ## A word
 

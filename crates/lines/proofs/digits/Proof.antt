@@ -3,11 +3,11 @@ use Prim.Native.Nat.{_≤_, _<_, _+_, _-_, _^_}
 use lib.Dec.{lit<}
 use native.Mathlib.Nat.{sub-zero}
 use denote.Ref.{now}
-use Rattle.text.specs.Grammar.{scan}
-use Rattle.text.proofs.Turns.{scan-past, scan-low, scan-high, scan-go, scan-end, grows, fits}
+use Rattle.lines.specs.Form.{scan}
+use Rattle.lines.proofs.Turns.{scan-past, scan-low, scan-high, scan-go, scan-end, grows, fits}
 use native.Mathlib.Omega.{arith}
-use Rattle.text.proofs.digits.Statement.{statement}
-use Rattle.text.proofs.digits.Tie as tie
+use Rattle.lines.proofs.digits.Statement.{statement}
+use Rattle.lines.proofs.digits.Tie as tie
 
 abbrev Inv-loop : tie.InvT-loop
 Inv-loop text at max value₀ p₀ i₀ value p i = (i ≤ max) × (value < 10 ^ i) × (scan text p value (max - i) ≡ scan text at 0 max)

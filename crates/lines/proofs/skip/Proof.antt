@@ -2,11 +2,11 @@ use mathlib.Core.Path.{_≡_, refl, _∙_}
 use Prim.Native.Nat.{_≤_, _-_}
 use lib.ListN.{length, drop}
 use denote.Ref.{now}
-use Rattle.text.specs.Grammar.{skip}
-use Rattle.text.proofs.Turns.{skip-past, skip-other, skip-go, skip-end}
+use Rattle.lines.specs.Form.{skip}
+use Rattle.lines.proofs.Turns.{skip-past, skip-other, skip-go, skip-end}
 use native.Mathlib.Omega.{arith}
-use Rattle.text.proofs.skip.Statement.{statement}
-use Rattle.text.proofs.skip.Tie as tie
+use Rattle.lines.proofs.skip.Statement.{statement}
+use Rattle.lines.proofs.skip.Tie as tie
 
 abbrev Inv-loop : tie.InvT-loop
 Inv-loop text at word p₀ i₀ p i = (i ≤ length word) × (skip text p (drop i word) ≡ skip text at word)

@@ -1,10 +1,10 @@
 use mathlib.Core.Path.{sym, _∙_}
 use Prim.Native.Nat.{_-_}
 use borrow.Author.Tests.{le-leb, lt-leb}
-use Rattle.text.specs.Grammar.{field, outLine}
+use Rattle.lines.specs.Form.{field, outLine}
 use borrow.Author.Needs.{needs}
-use Rattle.text.proofs.out_line.Statement.{statement}
-use Rattle.text.proofs.out_line.Tie as tie
+use Rattle.lines.proofs.out_line.Statement.{statement}
+use Rattle.lines.proofs.out_line.Tie as tie
 
 -- src/lib.rt:191:47
 slice-aggregate-field : tie.Need-slice-aggregate-field
