@@ -10,8 +10,8 @@ use lib.Seq.{getD-append-add}
 use Rattle.meaning.specs.Plan.{time, neg, set, plus, add, sub, mul, div, rem, lt, le, eq, calc, keep, merge, Eqn, input, nil, unit, one, two, last, delay, Plan, eqnAt, undelayed}
 use Rattle.meaning.specs.Cycle.{acyclic}
 use Rattle.operators.specs.Operators.{numberOf, firstOf, secondOf}
-use Rattle.cycle.specs.Graph.{entryOf, graphOf, cleared}
-use Rattle.cycle.proofs.Tied.{howOf, Args, Below, argsAt, Tied, cleared-acyclic}
+use Rattle.cycle.specs.Graph.{AllBelow, entryOf, graphOf, cleared}
+use Rattle.cycle.proofs.Tied.{howOf, Args, argsAt, Tied, cleared-acyclic}
 
 -- a stream's three bytes, by its undelayed arguments
 abbrev entryBy : List ℕ → List ℕ
@@ -91,5 +91,5 @@ graph-tied plan r = record {
 }
 
 -- The code's test on the graph of a plan whose arguments are streams of the plan is the definition's test of the plan.
-pub graph-acyclic : (plan : Plan) (r : List ℕ) → ((i : ℕ) → i < length plan → Below (length plan) (argsAt plan i)) → (d : ℕ) → cleared d (length plan) (graphOf plan ++ r) .isClear ≡ acyclic d plan
+pub graph-acyclic : (plan : Plan) (r : List ℕ) → ((i : ℕ) → i < length plan → AllBelow (length plan) (argsAt plan i)) → (d : ℕ) → cleared d (length plan) (graphOf plan ++ r) .isClear ≡ acyclic d plan
 graph-acyclic plan r bound d = cleared-acyclic plan bound d (graphOf plan ++ r) (graph-tied plan r)

@@ -12,7 +12,7 @@ use borrow.Author.Tests.{eq-eqb, eqb-true, eqb-false}
 use Rattle.meaning.specs.Plan.{Plan, eqnAt, undelayed}
 use Rattle.meaning.specs.Cycle.{Marks, then-marked, visits, visit, downFrom, isSome, acyclic}
 use Rattle.meaning.specs.Cycle as Cycle
-use Rattle.cycle.specs.Graph.{Walk, marked, both, followed, rest, cleared}
+use Rattle.cycle.specs.Graph.{AllBelow, Walk, marked, both, followed, rest, cleared}
 use Rattle.cycle.proofs.Walks.{seen, stop, bare, onward}
 
 -- how a stream stands, by its mark and its undelayed arguments
@@ -27,11 +27,6 @@ Args [] x y = Unit {0}
 Args (a ∷ []) x y = (x ≡ a) × (y ≡ a)
 Args (a ∷ b ∷ []) x y = (x ≡ a) × (y ≡ b)
 Args (a ∷ b ∷ c ∷ l) x y = ⊥
-
--- every argument is a stream below n
-abbrev pub Below : ℕ → List ℕ → Type 0
-Below n [] = Unit {0}
-Below n (a ∷ l) = (a < n) × Below n l
 
 abbrev pub argsAt : Plan → ℕ → List ℕ
 argsAt plan i = undelayed (eqnAt plan i)
@@ -126,7 +121,7 @@ module _ (plan : Plan) where
         subst (Same plan (then-marked s (visits (λ x. visit plan d x) (a ∷ b ∷ []) m))) (sym (onward d s g (omega (arith, t .size)) z ∙ ap (λ (i : ℕ). both s (followed d) (followed d i g)) x))
         (first b k (visit plan d a m) (followed d a g) (ih a g m l t) (λ j u. y j (followed d a g .graph) u))
 
-    follow-all : (l : List ℕ) → argsAt plan s ≡ l → Below (length plan) l → (g : List ℕ) (m : Marks) → m s ≡ false → Tied plan g m → Same plan (then-marked s (visits (λ x. visit plan d x) l m)) (followed (suc d) s g)
+    follow-all : (l : List ℕ) → argsAt plan s ≡ l → AllBelow (length plan) l → (g : List ℕ) (m : Marks) → m s ≡ false → Tied plan g m → Same plan (then-marked s (visits (λ x. visit plan d x) l m)) (followed (suc d) s g)
     unfolding visits
     follow-all [] p b g m f t =
         let e : getD g (3 * s) 0 ≡ 2 = t .how s h ∙ rw (f, p) in
@@ -143,7 +138,7 @@ module _ (plan : Plan) where
   not-one [] e = omega arith
   not-one (a ∷ l) e = omega arith
 
-  module _ (bound : (i : ℕ) → i < length plan → Below (length plan) (argsAt plan i)) where
+  module _ (bound : (i : ℕ) → i < length plan → AllBelow (length plan) (argsAt plan i)) where
     last-step : (s : ℕ) (g : List ℕ) (m : Marks) → s < length plan → Tied plan g m → (b : Bool) → m s ≡ b → Same plan (visit plan zero s m) (followed zero s g)
     unfolding visit
     last-step s g m h t true e = rw e (subst (Same plan (some m)) (seen 0 s g (omega (arith, t .size)) (t .how s h ∙ rw e)) (refl, t))

@@ -1,5 +1,5 @@
 -- The graph of a plan in bytes, and the test that follows it.
-use Prim.Native.Nat.{ℕ, zero, suc, _+_, _*_}
+use Prim.Native.Nat.{ℕ, zero, suc, _+_, _*_, _<_}
 use mathlib.Core.Bool.{Bool, true, false, cond, _&&_}
 use mathlib.Core.List.{List, [], _∷_, _++_}
 use lib.Dec.{eqb, leb, ltb}
@@ -57,3 +57,8 @@ rest w others = cond (w .isClear) (others (w .graph)) w
 unfoldable pub cleared : ℕ → ℕ → List ℕ → Walk
 cleared depth zero g = walked true g
 cleared depth (suc n) g = rest (followed depth n g) (cleared depth n)
+
+-- every argument is a stream below n
+abbrev pub AllBelow : ℕ → List ℕ → Type 0
+AllBelow n [] = Unit {0}
+AllBelow n (a ∷ l) = (a < n) × AllBelow n l

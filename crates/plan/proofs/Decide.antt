@@ -12,7 +12,8 @@ use Rattle.cycle.specs.Graph.{Walk, walked, cleared}
 use Rattle.text.specs.declared.Fields.{Fields}
 use Rattle.plan.specs.declared.Checked.{Checked}
 use Rattle.plan.specs.declared.Checked.the-variants as Checked
-use Rattle.plan.specs.Rules.{allKeep, Form, refused, formed, streams, planFrom, notedAll, passOf, checkedOf, Noted, numberAfter}
+use Rattle.plan.specs.Rules.{allKeep, Form, refused, formed, streams, planFrom, numberAfter}
+use Rattle.plan.specs.Pass.{notedAll, passOf, checkedOf, Noted}
 use Rattle.plan.proofs.Noted.{cleared-plan}
 
 abbrev refusalIn : Checked → ℕ

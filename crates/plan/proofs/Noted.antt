@@ -16,15 +16,17 @@ use Rattle.meaning.specs.Cycle.{acyclic}
 use Rattle.operators.specs.Operators.{operatorCount, numberOf, firstOf, secondOf, usesA, usesB, delaysA}
 use Rattle.operators.specs.Limits.{streamLimit}
 use Rattle.operators.proofs.Laws.{number-back, first-back, second-back, reads-by-number, undelayed-by-number}
-use Rattle.cycle.specs.Graph.{entryOf, graphOf, cleared}
-use Rattle.cycle.proofs.Tied.{Below, argsAt}
+use Rattle.cycle.specs.Graph.{AllBelow, entryOf, graphOf, cleared}
+use Rattle.cycle.proofs.Tied.{argsAt}
 use Rattle.cycle.proofs.Graphs.{graph-acyclic}
 use Rattle.text.specs.declared.Fields.{Fields}
 use Rattle.text.specs.declared.Lines.{Lines}
 use Rattle.text.specs.declared.Lines.the-variants as Lines
 use Rattle.text.specs.Grammar.{stream}
 use Rattle.render.proofs.Ranges.{op-range}
-use Rattle.plan.specs.Rules.{argumentFits, keeps, allKeep, Form, refused, formed, put, others, streams, eqnFrom, planFrom, notedStream, notedAll}
+use Rattle.plan.specs.Rules.{argumentFits, keeps, allKeep, Form, refused, formed, put, others, streams, eqnFrom, planFrom}
+use Rattle.plan.specs.Pass.{notedStream, notedAll}
+use Rattle.plan.proofs.Forms.{fieldsIn, clash}
 use Rattle.plan.proofs.Pass.{first-kept, second-kept}
 
 -- ## The streams that were read
@@ -35,17 +37,6 @@ Sound f = (1 ≤ f .op) × (f .op ≤ operatorCount)
 abbrev pub All : (Fields → Type 0) → List Fields → Type 0
 All P [] = Unit {0}
 All P (f ∷ fs) = P f × All P fs
-
-abbrev isFormed : Form → Bool
-isFormed (refused r) = false
-isFormed (formed fs end) = true
-
-abbrev fieldsIn : Form → List Fields
-fieldsIn (refused r) = []
-fieldsIn (formed fs end) = fs
-
-clash : {A : Type 0} {r end : ℕ} {fs : List Fields} → refused r ≡ formed fs end → A
-clash e = absurd (true≢false (sym (ap isFormed e)))
 
 -- all have a stored number of an operator, and there are as many as were asked for
 pub read-sound : (s : List ℕ) (n at : ℕ) (fs : List Fields) (end : ℕ) → streams s at n ≡ formed fs end → All Sound fs × (length fs ≡ n)
@@ -88,7 +79,7 @@ module _ (n : ℕ) (f : Fields) (h : Sound f) (e : keeps n f ≡ true) where
       (rw (same-argument (usesA (f .op)) n (f .a) (first-kept n f e), same-argument (usesB (f .op)) n (f .b) (second-kept n f e))))
 
   -- the arguments that are followed are streams of the plan
-  below-by : (d ub ua : Bool) → (d ≡ true → ub ≡ true) → (ub ≡ true → ua ≡ true) → argumentFits ua n (f .a) ≡ true → argumentFits ub n (f .b) ≡ true → Below n (cond d (f .b ∷ []) (cond ub (f .a ∷ f .b ∷ []) (cond ua (f .a ∷ []) [])))
+  below-by : (d ub ua : Bool) → (d ≡ true → ub ≡ true) → (ub ≡ true → ua ≡ true) → argumentFits ua n (f .a) ≡ true → argumentFits ub n (f .b) ≡ true → AllBelow n (cond d (f .b ∷ []) (cond ub (f .a ∷ f .b ∷ []) (cond ua (f .a ∷ []) [])))
   below-by true true ua db ba a b = (ltb-true (f .b) n b, tt)
   below-by true false ua db ba a b = absurd (true≢false (sym (db refl)))
   below-by false true true db ba a b = (ltb-true (f .a) n a, (ltb-true (f .b) n b, tt))
@@ -96,7 +87,7 @@ module _ (n : ℕ) (f : Fields) (h : Sound f) (e : keeps n f ≡ true) where
   below-by false false true db ba a b = (ltb-true (f .a) n a, tt)
   below-by false false false db ba a b = tt
 
-  below : Below n (undelayed (eqnFrom f))
+  below : AllBelow n (undelayed (eqnFrom f))
   below =
       let k = toZ w64 (f .k) in
       rw (undelayed-by-number (f .a) (f .b) k (f .op) (h .0) (h .1), reads-by-number (f .a) (f .b) k (f .op) (h .0) (h .1))
@@ -120,7 +111,7 @@ noted-graph n i (f ∷ fs) h e pre r l k =
     (noted-graph n (i + 1) fs (h .1) (right (keeps n f) (allKeep n fs) e) (pre ++ v) (drop 3 r) (rw (length-append pre v, three (f .op) (f .a) (f .b)) (omega arith)) (rw (length-drop 3 r) (omega arith))
     ∙ rw (z, append-assoc pre v (graphOf (planFrom fs) ++ drop (3 * length fs) (drop 3 r)), drop-drop (3 * length fs) 3 r, ← same-entry n f (h .0) kept, append-assoc v (graphOf (planFrom fs)) (drop (3 + 3 * length fs) r)))
 
-all-below : (n : ℕ) (fs : List Fields) → All Sound fs → allKeep n fs ≡ true → (i : ℕ) → i < length fs → Below n (argsAt (planFrom fs) i)
+all-below : (n : ℕ) (fs : List Fields) → All Sound fs → allKeep n fs ≡ true → (i : ℕ) → i < length fs → AllBelow n (argsAt (planFrom fs) i)
 unfolding allKeep planFrom
 all-below n [] h e i l = absurd (omega arith)
 all-below n (f ∷ fs) h e zero l = below n f (h .0) (left (keeps n f) (allKeep n fs) e)
@@ -138,4 +129,4 @@ cleared-plan s n at fs end e k h d =
     let g : List ℕ = replicate (3 * streamLimit) 0 in
     ap (λ (x : List ℕ). cleared d n x .isClear) (noted-graph n 0 fs (r .0) k [] g refl (rw (length-replicate {A = ℕ} (3 * streamLimit) 0) (omega arith)))
     ∙ ap (λ (x : ℕ). cleared d x (graphOf (planFrom fs) ++ drop (3 * length fs) g) .isClear) (sym m)
-    ∙ graph-acyclic (planFrom fs) (drop (3 * length fs) g) (λ i l. subst (λ (x : ℕ). Below x (argsAt (planFrom fs) i)) (sym m) (all-below n fs (r .0) k i (omega arith))) d
+    ∙ graph-acyclic (planFrom fs) (drop (3 * length fs) g) (λ i l. subst (λ (x : ℕ). AllBelow x (argsAt (planFrom fs) i)) (sym m) (all-below n fs (r .0) k i (omega arith))) d

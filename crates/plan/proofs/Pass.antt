@@ -17,7 +17,8 @@ use Rattle.plan.specs.declared.Checked.{Checked}
 use Rattle.plan.specs.declared.Checked.the-variants as Checked
 use Rattle.plan.specs.declared.Turn.{Turn}
 use Rattle.plan.specs.declared.Turn.the-variants as Turn
-use Rattle.plan.specs.Rules.{argumentFits, argumentsFit, valueFits, outFits, keeps, allKeep, notedAll, Form, refused, formed, put, others, streams, notedStream, notedLines, turn, Pass, halted, through, passOf, checkedOf, Noted}
+use Rattle.plan.specs.Rules.{argumentFits, argumentsFit, valueFits, outFits, keeps, allKeep, Form, refused, formed, put, others, streams}
+use Rattle.plan.specs.Pass.{notedAll, notedStream, notedLines, turn, Pass, halted, through, passOf, checkedOf, Noted}
 
 -- ## What rule 5 says of each field
 
@@ -80,19 +81,19 @@ passed-none : (n : ℕ) (ok : Bool) (i : ℕ) (g : List ℕ) (p : ℕ) → passO
 unfolding passOf allKeep notedAll
 passed-none n ok i g p = rw (and-true ok)
 
+pub turn-streams : (s : List ℕ) (m p : ℕ) → 0 < m → streams s p m ≡ others (stream s p) (λ f. streams s (f .next) (m - 1))
+unfolding streams
+turn-streams s zero p h = absurd (omega arith)
+turn-streams s (suc m) p h =
+    let e : suc m - 1 ≡ m = omega arith in
+    rw e
+
+no-streams : (s : List ℕ) (m p : ℕ) → m ≡ 0 → streams s p m ≡ formed [] p
+unfolding streams
+no-streams s zero p e = refl
+no-streams s (suc m) p e = absurd (omega arith)
+
 module _ (s : List ℕ) (n : ℕ) where
-  turn-streams : (m p : ℕ) → 0 < m → streams s p m ≡ others (stream s p) (λ f. streams s (f .next) (m - 1))
-  unfolding streams
-  turn-streams zero p h = absurd (omega arith)
-  turn-streams (suc m) p h =
-      let e : suc m - 1 ≡ m = omega arith in
-      rw e
-
-  no-streams : (m p : ℕ) → m ≡ 0 → streams s p m ≡ formed [] p
-  unfolding streams
-  no-streams zero p e = refl
-  no-streams (suc m) p e = absurd (omega arith)
-
   put-pass : (ok : Bool) (i : ℕ) (g : List ℕ) (f : Fields) (r : Form) → passOf n (ok && keeps n f) (i + 1) (notedStream n i f g) r ≡ passOf n ok i g (put f r)
   unfolding passOf allKeep notedAll
   put-pass ok i g f (refused r) = refl
@@ -113,15 +114,15 @@ module _ (s : List ℕ) (n : ℕ) where
     go (Lines.Refused r) m kept q e = absurd (clash (sym e))
 
     pub pass-halt : i < n → (r : ℕ) → turn n (stream s p) ≡ Turn.Refused r → passOf n ok i g (streams s p (n - i)) ≡ halted r
-    pass-halt h r e = rw (turn-streams (n - i) p (omega arith)) (halt (stream s p) (λ f. streams s (f .next) (n - i - 1)) r e)
+    pass-halt h r e = rw (turn-streams s (n - i) p (omega arith)) (halt (stream s p) (λ f. streams s (f .next) (n - i - 1)) r e)
 
     pub pass-go : i < n → (kept : Bool) (q : ℕ) (g₁ : List ℕ) → turn n (stream s p) ≡ Turn.Next kept q → g₁ ≡ notedLines n i (stream s p) g → passOf n (ok && kept) (i + 1) g₁ (streams s q (n - (i + 1))) ≡ passOf n ok i g (streams s p (n - i))
     pass-go h kept q g₁ e l =
         let m : n - (i + 1) ≡ n - i - 1 = omega arith in
-        rw (m, l, turn-streams (n - i) p (omega arith)) (go (stream s p) (n - i - 1) kept q e)
+        rw (m, l, turn-streams s (n - i) p (omega arith)) (go (stream s p) (n - i - 1) kept q e)
 
     pub pass-end : n ≤ i → passOf n ok i g (streams s p (n - i)) ≡ through ok g p
-    pass-end h = rw (no-streams (n - i) p (omega arith)) (passed-none n ok i g p)
+    pass-end h = rw (no-streams s (n - i) p (omega arith)) (passed-none n ok i g p)
 
 -- ## What the code answers
 

@@ -29,7 +29,8 @@ use Rattle.render.proofs.Digits.{digits-few}
 use Rattle.render.proofs.Streams.{bitsOf, outOf, name-short, stream-written}
 use Rattle.render.proofs.Heads.{head-written}
 use Rattle.plan.specs.Rules.{keeps, allKeep, formed, streams, declaredFrom, planFrom, numberAfter, number, declared}
-use Rattle.plan.specs.Taken.{AllBelow, StreamKeeps, Each, planOf, KeepsRules}
+use Rattle.cycle.specs.Graph.{AllBelow}
+use Rattle.plan.specs.Taken.{StreamKeeps, Each, planOf, KeepsRules}
 use Rattle.plan.proofs.Pass.{put-streams}
 
 -- ## One stream

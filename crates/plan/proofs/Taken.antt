@@ -30,7 +30,9 @@ use Rattle.render.proofs.Ranges.{stream-refused}
 use Rattle.render.proofs.Back.{stream-read}
 use Rattle.render.proofs.Heads.{head-fits, head-read, head-refused}
 use Rattle.plan.specs.Rules.{argumentFits, keeps, allKeep, Form, refused, formed, put, others, streams, eqnFrom, declaredFrom, planFrom, numberAfter, numberOfHead, number, declared}
-use Rattle.plan.specs.Taken.{AllBelow, StreamKeeps, Each, KeepsRules}
+use Rattle.cycle.specs.Graph.{AllBelow}
+use Rattle.plan.specs.Taken.{StreamKeeps, Each, KeepsRules}
+use Rattle.plan.proofs.Forms.{fieldsIn, endIn, refusalIn, clash}
 use Rattle.plan.proofs.Pass.{out-kept, value-kept, first-kept, second-kept}
 use Rattle.plan.proofs.Noted.{Sound, All, read-sound, same-argument}
 use Rattle.plan.proofs.Rendered.{same-plan, render-taken}
@@ -46,7 +48,7 @@ output-by true true q = absurd (true≢false (sym q))
 output-by true false q = refl
 output-by false o q = refl
 
-abbrev InRange : Fields → Type 0
+abbrev pub InRange : Fields → Type 0
 InRange f = (f .k < 2 ^ 64) × (f .out ≤ 1)
 
 module _ (n : ℕ) (f : Fields) (h : Sound f) (e : keeps n f ≡ true) where
@@ -79,33 +81,14 @@ module _ (n : ℕ) (f : Fields) (h : Sound f) (e : keeps n f ≡ true) where
 
 -- ## All streams
 
-abbrev isFormed : Form → Bool
-isFormed (refused r) = false
-isFormed (formed fs end) = true
-
-abbrev fieldsIn : Form → List Fields
-fieldsIn (refused r) = []
-fieldsIn (formed fs end) = fs
-
-abbrev endIn : Form → ℕ
-endIn (refused r) = 0
-endIn (formed fs end) = end
-
-abbrev refusalIn : Form → ℕ
-refusalIn (refused r) = r
-refusalIn (formed fs end) = 1
-
-clash : {A : Type 0} {r end : ℕ} {fs : List Fields} → refused r ≡ formed fs end → A
-clash e = absurd (true≢false (sym (ap isFormed e)))
-
-fieldsText : List Fields → List ℕ
+pub fieldsText : List Fields → List ℕ
 fieldsText [] = []
 fieldsText (f ∷ fs) = streamText (f .op) (f .a) (f .b) (toZ w64 (f .k)) (eqb (f .out) 1) ++ fieldsText fs
 
-abbrev AsRead : List ℕ → ℕ → List Fields → ℕ → Type 0
+abbrev pub AsRead : List ℕ → ℕ → List Fields → ℕ → Type 0
 AsRead s at fs end = (drop at s ≡ fieldsText fs ++ drop end s) × All InRange fs
 
-streams-read : (s : List ℕ) (n at : ℕ) (fs : List Fields) (end : ℕ) → streams s at n ≡ formed fs end → AsRead s at fs end
+pub streams-read : (s : List ℕ) (n at : ℕ) (fs : List Fields) (end : ℕ) → streams s at n ≡ formed fs end → AsRead s at fs end
 unfolding streams fieldsText
 streams-read s zero at fs end e =
     subst (λ (l : List Fields). AsRead s at l end) (ap fieldsIn e) (ap (λ (p : ℕ). drop p s) (ap endIn e), tt)

@@ -10,10 +10,7 @@ use Rattle.meaning.specs.Cycle.{acyclic}
 use Rattle.machine.specs.State.{Declared}
 use Rattle.operators.specs.Operators.{valueOf}
 use Rattle.operators.specs.Limits.{streamLimit}
-
-abbrev pub AllBelow : ℕ → List ℕ → Type 0
-AllBelow n [] = Unit {0}
-AllBelow n (a ∷ l) = (a < n) × AllBelow n l
+use Rattle.cycle.specs.Graph.{AllBelow}
 
 -- one stream of a plan of n streams
 pub record StreamKeeps (n : ℕ) (d : Declared) : Type 0 where

@@ -14,7 +14,8 @@ use Rattle.text.specs.declared.Name.{Name}
 use Rattle.text.specs.declared.Name.the-variants as Name
 use Rattle.text.specs.declared.Packed.{Packed}
 use Rattle.lines.specs.Form.{skip, ending}
-use Rattle.text.specs.Grammar.{letter, nameAt, sameName, place, names, numberNamed, known, named, pack, packedAt, placePacked, numberPacked}
+use Rattle.text.specs.Grammar.{letter, nameAt, sameName, place, names, numberNamed, known, named}
+use Rattle.text.specs.Lookup.{pack, packedAt, placePacked, numberPacked}
 
 -- ## The loop over the letters
 

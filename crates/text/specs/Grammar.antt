@@ -88,24 +88,6 @@ nameAfter s Absent = Name.Fault
 unfoldable pub opLine : List ℕ → ℕ → Name
 opLine s at = nameAfter s (skip s at opKey)
 
--- how the code looks a name up: its bytes as one number, the first the lowest
-unfoldable pub pack : List ℕ → ℕ
-pack [] = 0
-pack (c ∷ w) = c + 256 * pack w
-
-abbrev pub packed : ℕ → List ℕ → Packed
-packed at w = record { code = pack w; next = at + length w }
-
-unfoldable pub packedAt : List ℕ → ℕ → Packed
-packedAt s at = packed at (nameAt s at 5)
-
-unfoldable pub placePacked : ℕ → List ℕ → ℕ → ℕ
-placePacked x [] n = 0
-placePacked x (y ∷ l) n = cond (eqb x y) n (placePacked x l (n + 1))
-
-unfoldable pub numberPacked : ℕ → ℕ
-numberPacked x = placePacked x (map pack names) 0
-
 -- ## A stream's five lines: op, a, b, k, out
 
 -- the next line, if this one has its form; "2 wrong key, form, missing line"

@@ -1,6 +1,7 @@
 // Plan text: the op line, a stream's five lines and the head, read in place at a position of the lent text.
 ghost use mathlib.Core.Path.{_≡_};
-ghost use Rattle.text.specs.Grammar.{packedAt, numberPacked, opLine, fieldsAfter, stream, counts, head};
+ghost use Rattle.text.specs.Grammar.{opLine, fieldsAfter, stream, counts, head};
+ghost use Rattle.text.specs.Lookup.{packedAt, numberPacked};
 ghost use Rattle.lines.specs.declared.Found.the-variants.{Number};
 use lines::Found;
 use lines::Word;

@@ -1,3 +1,4 @@
+-- `cycle::clear` meets its contract.
 use Prim.Native.Nat.{_≤_, _-_}
 use mathlib.Core.Path.{_≡_, refl, _∙_}
 use lib.ListN.{length}
@@ -13,39 +14,30 @@ Inv-loop graph₀ n depth i₀ graph i = (i ≤ n) × (length graph ≡ length g
 abbrev μ-loop : tie.MeasureT-loop
 μ-loop graph₀ n depth i₀ graph i = i
 
--- src/lib.rt:78:5
 loop-holds : tie.Need-loop-holds Inv-loop μ-loop
 loop-holds c = (omega arith, refl, refl)
 
--- src/lib.rt:79:9
 sub-i : tie.Need-sub-i Inv-loop μ-loop
 sub-i c = omega arith
 
--- src/lib.rt:80:13
 follow-requires : tie.Need-follow-requires Inv-loop μ-loop
 follow-requires c κs = omega arith
 
--- src/lib.rt:81:13
 same-length : tie.Need-same-length Inv-loop μ-loop
 same-length c = c .before .before .before .follow .kept .0 ∙ c .before .before .before .before .before .before .loop .inv .1
 
--- src/lib.rt:81:13
 returns : tie.Need-returns Inv-loop μ-loop
 returns c = blocked (c .before .before .before .before .before .before .before .before .args .depth) (c .before .before .before .before .before .before .loop .i) (c .before .before .before .before .before .before .loop .i - 1) (c .before .before .before .before .before .before .loop .graph) (c .before .before .before .follow .result) (c .before .before .before .follow .last .0) (omega arith) refl (c .before .before .before .follow .ensures) (c .if1 .taken) ∙ c .before .before .before .before .before .before .loop .inv .2
 
--- src/lib.rt:78:5
 loop-less : tie.Need-loop-less Inv-loop μ-loop
 loop-less c = omega arith
 
--- src/lib.rt:78:5
 loop-again : tie.Need-loop-again Inv-loop μ-loop
 loop-again c = (omega arith, c .before .before .before .follow .kept .0 ∙ c .before .before .before .before .before .before .loop .inv .1, going (c .before .before .before .before .before .before .before .before .args .depth) (c .before .before .before .before .before .before .loop .i) (c .before .before .before .before .before .before .loop .i - 1) (c .before .before .before .before .before .before .loop .graph) (c .before .before .before .follow .result) (c .before .before .before .follow .last .0) (omega arith) refl (c .before .before .before .follow .ensures) (c .if1 .left) ∙ c .before .before .before .before .before .before .loop .inv .2)
 
--- src/lib.rt:73:1
 same-length-2 : tie.Need-same-length-2 Inv-loop μ-loop
 same-length-2 c = c .before .loop .inv .1
 
--- src/lib.rt:73:1
 returns-2 : tie.Need-returns-2 Inv-loop μ-loop
 returns-2 c = done (c .before .before .before .args .depth) (c .before .loop .i) (c .before .loop .graph) (omega arith) ∙ c .before .loop .inv .2
 

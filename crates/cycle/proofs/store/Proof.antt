@@ -1,3 +1,4 @@
+-- `cycle::store` meets its contract.
 use lib.ListN.{length-set}
 use denote.Ref.{now}
 use Rattle.cycle.proofs.Walks.{stored}
@@ -6,31 +7,24 @@ use native.Mathlib.Omega.{arith}
 use Rattle.cycle.proofs.store.Statement.{statement}
 use Rattle.cycle.proofs.store.Tie as tie
 
--- src/lib.rt:21:5
 slice-write-graph : tie.Need-slice-write-graph
 slice-write-graph c = search needs
 
--- src/lib.rt:22:11
 add-graph : tie.Need-add-graph
 add-graph c = search needs
 
--- src/lib.rt:22:5
 slice-write-graph-2 : tie.Need-slice-write-graph-2
 slice-write-graph-2 c = simp length-set (omega arith)
 
--- src/lib.rt:23:11
 add-graph-2 : tie.Need-add-graph-2
 add-graph-2 c = search needs
 
--- src/lib.rt:23:5
 slice-write-graph-3 : tie.Need-slice-write-graph-3
 slice-write-graph-3 c = search needs
 
--- src/lib.rt:17:1
 same-length : tie.Need-same-length
 same-length c = search needs
 
--- src/lib.rt:17:1
 returns : tie.Need-returns
 returns c = stored (now (c .args .graph)) (c .args .at) (c .args .how) (c .args .a) (c .args .b)
 

@@ -1,3 +1,4 @@
+-- `lines::digits` meets its contract.
 use mathlib.Core.Path.{_≡_, _∙_}
 use Prim.Native.Nat.{_≤_, _<_, _+_, _-_, _^_}
 use lib.Dec.{lit<}
@@ -15,55 +16,42 @@ Inv-loop text at max value₀ p₀ i₀ value p i = (i ≤ max) × (value < 10 ^
 abbrev μ-loop : tie.MeasureT-loop
 μ-loop text at max value₀ p₀ i₀ value p i = max - i
 
--- src/lib.rt:95:5
 loop-holds : tie.Need-loop-holds Inv-loop μ-loop
 loop-holds c = (omega arith, lit< tt, simp sub-zero)
 
--- src/lib.rt:97:13
 returns : tie.Need-returns Inv-loop μ-loop
 returns c = scan-past (now (c .before .before .before .before .args .text)) (c .before .before .loop .p) (c .before .before .loop .value) (c .before .before .before .before .args .max - c .before .before .loop .i) (omega arith) (omega arith) ∙ c .before .before .loop .inv .2
 
--- src/lib.rt:99:22
 shared-slice-read-wide : tie.Need-shared-slice-read-wide Inv-loop μ-loop
 shared-slice-read-wide c = omega arith
 
--- src/lib.rt:99:13
 wide-requires : tie.Need-wide-requires Inv-loop μ-loop
 wide-requires c κs = omega arith
 
--- src/lib.rt:101:13
 returns-2 : tie.Need-returns-2 Inv-loop μ-loop
 returns-2 c = scan-low (now (c .before .before .before .before .before .before .before .args .text)) (c .before .before .before .before .before .loop .p) (c .before .before .before .before .before .loop .value) (c .before .before .before .before .before .before .before .args .max - c .before .before .before .before .before .loop .i) (omega arith) (c .before .wide .result) (c .before .wide .ensures .0) (c .if2 .taken) ∙ c .before .before .before .before .before .loop .inv .2
 
--- src/lib.rt:104:13
 returns-3 : tie.Need-returns-3 Inv-loop μ-loop
 returns-3 c = scan-high (now (c .before .before .before .before .before .before .before .before .args .text)) (c .before .before .before .before .before .before .loop .p) (c .before .before .before .before .before .before .loop .value) (c .before .before .before .before .before .before .before .before .args .max - c .before .before .before .before .before .before .loop .i) (omega arith) (c .before .before .wide .result) (c .before .before .wide .ensures .0) (c .if3 .taken) ∙ c .before .before .before .before .before .before .loop .inv .2
 
--- src/lib.rt:106:17
 mul-value : tie.Need-mul-value Inv-loop μ-loop
 mul-value c = omega (arith, fits (c .before .before .before .before .before .before .loop .value) (c .before .before .before .before .before .before .loop .i) 0 (c .before .before .before .before .before .before .loop .inv .1) (omega arith) (omega arith))
 
--- src/lib.rt:106:17
 add-value : tie.Need-add-value Inv-loop μ-loop
 add-value c = omega (arith, fits (c .before .before .before .before .before .before .loop .value) (c .before .before .before .before .before .before .loop .i) (c .before .before .wide .result - 48) (c .before .before .before .before .before .before .loop .inv .1) (omega arith) (omega arith))
 
--- src/lib.rt:107:9
 add-p : tie.Need-add-p Inv-loop μ-loop
 add-p c = omega arith
 
--- src/lib.rt:108:9
 add-i : tie.Need-add-i Inv-loop μ-loop
 add-i c = omega arith
 
--- src/lib.rt:95:5
 loop-less : tie.Need-loop-less Inv-loop μ-loop
 loop-less c = omega arith
 
--- src/lib.rt:95:5
 loop-again : tie.Need-loop-again Inv-loop μ-loop
 loop-again c = (omega arith, grows (c .before .before .before .before .before .before .loop .value) (c .before .before .before .before .before .before .loop .i) (c .before .before .wide .result - 48) (c .before .before .before .before .before .before .loop .inv .1) (omega arith), scan-go (now (c .before .before .before .before .before .before .before .before .args .text)) (c .before .before .before .before .before .before .loop .p) (c .before .before .before .before .before .before .loop .value) (c .before .before .before .before .before .before .before .before .args .max - c .before .before .before .before .before .before .loop .i) (omega arith) (c .before .before .wide .result) (c .before .before .wide .ensures .0) (omega arith) (omega arith) (c .before .before .before .before .before .before .before .before .args .max - (c .before .before .before .before .before .before .loop .i + 1)) (omega arith) ∙ c .before .before .before .before .before .before .loop .inv .2)
 
--- src/lib.rt:88:1
 returns-4 : tie.Need-returns-4 Inv-loop μ-loop
 returns-4 c = scan-end (now (c .before .before .before .args .text)) (c .before .loop .p) (c .before .loop .value) (c .before .before .before .args .max - c .before .loop .i) (omega arith) ∙ c .before .loop .inv .2
 

@@ -1,3 +1,4 @@
+-- `lines::field` meets its contract.
 use mathlib.Core.Path.{sym, _∙_}
 use Prim.Native.Nat.{_-_}
 use Rattle.lines.specs.Form.{skip, whole, ended, field}
@@ -5,32 +6,25 @@ use borrow.Author.Needs.{needs}
 use Rattle.lines.proofs.field.Statement.{statement}
 use Rattle.lines.proofs.field.Tie as tie
 
--- src/lib.rt:146:25
 skip-requires : tie.Need-skip-requires
 skip-requires c κs = search needs
 
--- src/lib.rt:146:20
 enum-known-p : tie.Need-enum-known-p
 enum-known-p c = search needs
 
--- src/lib.rt:147:9
 enum-told : tie.Need-enum-told
 enum-told c = search needs
 
--- src/lib.rt:147:9
 returns : tie.Need-returns
 unfolding field
 returns c = rw (sym (c .before .before .skip .ensures) ∙ c .enum-told .given .1)
 
--- src/lib.rt:149:17
 whole-requires : tie.Need-whole-requires
 whole-requires c κs = search needs
 
--- src/lib.rt:149:5
 ended-requires : tie.Need-ended-requires
 ended-requires c κs = search needs
 
--- src/lib.rt:142:1
 returns-2 : tie.Need-returns-2
 unfolding field
 returns-2 c = c .ended .ensures ∙ rw (c .before .whole .ensures, sym (c .before .before .before .before .before .skip .ensures) ∙ c .before .before .before .p .given .1)

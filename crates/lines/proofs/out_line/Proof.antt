@@ -1,3 +1,4 @@
+-- `lines::out_line` meets its contract.
 use mathlib.Core.Path.{sym, _∙_}
 use Prim.Native.Nat.{_-_}
 use borrow.Author.Tests.{le-leb, lt-leb}
@@ -6,33 +7,26 @@ use borrow.Author.Needs.{needs}
 use Rattle.lines.proofs.out_line.Statement.{statement}
 use Rattle.lines.proofs.out_line.Tie as tie
 
--- src/lib.rt:191:47
 slice-aggregate-field : tie.Need-slice-aggregate-field
 slice-aggregate-field c = search needs
 
--- src/lib.rt:191:31
 field-requires : tie.Need-field-requires
 field-requires c κs = search needs
 
--- src/lib.rt:191:23
 enum-known-v : tie.Need-enum-known-v
 enum-known-v c = search needs
 
--- src/lib.rt:192:9
 enum-told : tie.Need-enum-told
 enum-told c = search needs
 
--- src/lib.rt:192:9
 returns : tie.Need-returns
 unfolding outLine
 returns c = rw (sym (c .before .before .field .ensures) ∙ c .enum-told .given .1)
 
--- src/lib.rt:195:9
 returns-2 : tie.Need-returns-2
 unfolding outLine
 returns-2 c = rw (sym (c .before .before .before .before .field .ensures) ∙ c .before .before .v .given .1, le-leb (c .before .before .v .given .0 .0) 1 (c .if1 .taken))
 
--- src/lib.rt:188:1
 returns-3 : tie.Need-returns-3
 unfolding outLine
 returns-3 c = rw (sym (c .before .before .before .before .field .ensures) ∙ c .before .before .v .given .1, lt-leb (c .before .before .v .given .0 .0) 1 (c .if1 .left))

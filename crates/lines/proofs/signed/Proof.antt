@@ -1,3 +1,4 @@
+-- `lines::signed` meets its contract.
 use mathlib.Core.Path.{_≡_, sym, _∙_}
 use Prim.Native.Nat.{_-_, _^_}
 use borrow.Author.Tests.{le-leb, lt-leb, lt-ltb, le-ltb, eq-eqb, ne-eqb}
@@ -7,85 +8,66 @@ use native.Mathlib.Omega.{arith}
 use Rattle.lines.proofs.signed.Statement.{statement}
 use Rattle.lines.proofs.signed.Tie as tie
 
--- src/lib.rt:156:40
 slice-aggregate-skip : tie.Need-slice-aggregate-skip
 slice-aggregate-skip c = search needs
 
--- src/lib.rt:156:25
 skip-requires : tie.Need-skip-requires
 skip-requires c κs = search needs
 
--- src/lib.rt:156:20
 enum-known-p : tie.Need-enum-known-p
 enum-known-p c = search needs
 
--- src/lib.rt:157:35
 enum-told : tie.Need-enum-told
 enum-told c = search needs
 
--- src/lib.rt:157:35
 whole-requires : tie.Need-whole-requires
 whole-requires c κs = search needs
 
--- src/lib.rt:157:27
 enum-known-v : tie.Need-enum-known-v
 enum-known-v c = search needs
 
--- src/lib.rt:158:13
 enum-told-2 : tie.Need-enum-told-2
 enum-told-2 c = search needs
 
--- src/lib.rt:158:13
 returns : tie.Need-returns
 unfolding signed
 returns c = rw (sym (c .before .before .before .before .before .skip .ensures) ∙ c .before .before .before .enum-told .given .1, sym (c .before .before .whole .ensures) ∙ c .enum-told2 .given .1)
 
--- src/lib.rt:161:13
 returns-2 : tie.Need-returns-2
 unfolding signed
 returns-2 c = rw (sym (c .before .before .before .before .before .before .before .skip .ensures) ∙ c .before .before .before .before .before .enum-told .given .1, sym (c .before .before .before .before .whole .ensures) ∙ c .before .before .v .given .1, lt-ltb (c .before .before .v .given .0 .0) (2 ^ 63) (c .if1 .taken))
 
--- src/lib.rt:163:9
 returns-3 : tie.Need-returns-3
 unfolding signed
 returns-3 c = rw (sym (c .before .before .before .before .before .before .before .skip .ensures) ∙ c .before .before .before .before .before .enum-told .given .1, sym (c .before .before .before .before .whole .ensures) ∙ c .before .before .v .given .1, le-ltb (c .before .before .v .given .0 .0) (2 ^ 63) (c .if1 .left))
 
--- src/lib.rt:165:31
 whole-requires-2 : tie.Need-whole-requires-2
 whole-requires-2 c κs = search needs
 
--- src/lib.rt:165:23
 enum-known-v-2 : tie.Need-enum-known-v-2
 enum-known-v-2 c = search needs
 
--- src/lib.rt:166:9
 enum-told-3 : tie.Need-enum-told-3
 enum-told-3 c = search needs
 
--- src/lib.rt:166:9
 returns-4 : tie.Need-returns-4
 unfolding signed
 returns-4 c = rw (sym (c .before .before .before .before .before .before .skip .ensures) ∙ c .before .before .before .before .p .given .1, sym (c .before .before .whole2 .ensures) ∙ c .enum-told3 .given .1)
 
--- src/lib.rt:169:9
 returns-5 : tie.Need-returns-5
 unfolding signed
 returns-5 c = rw (sym (c .before .before .before .before .before .before .before .before .skip .ensures) ∙ c .before .before .before .before .before .before .p .given .1, sym (c .before .before .before .before .whole2 .ensures) ∙ c .before .before .v2 .given .1, eq-eqb (c .before .before .v2 .given .0 .0) 0 (c .if2 .taken))
 
--- src/lib.rt:172:42
 sub-t16 : tie.Need-sub-t16
 sub-t16 c = search needs
 
--- src/lib.rt:172:30
 sub-t17 : tie.Need-sub-t17
 sub-t17 c = search needs
 
--- src/lib.rt:172:9
 returns-6 : tie.Need-returns-6
 unfolding signed
 returns-6 c = let e : 18446744073709551615 - ((c .before .before .before .v2 .given .0 .0) - 1) ≡ 2 ^ 64 - (c .before .before .before .v2 .given .0 .0) = omega arith in rw (sym (c .before .before .before .before .before .before .before .before .before .skip .ensures) ∙ c .before .before .before .before .before .before .before .p .given .1, sym (c .before .before .before .before .before .whole2 .ensures) ∙ c .before .before .before .v2 .given .1, ne-eqb (c .before .before .before .v2 .given .0 .0) 0 (c .before .if2 .left), le-leb (c .before .before .before .v2 .given .0 .0) (2 ^ 63) (c .if3 .taken), e)
 
--- src/lib.rt:153:1
 returns-7 : tie.Need-returns-7
 unfolding signed
 returns-7 c = rw (sym (c .before .before .before .before .before .before .before .before .before .skip .ensures) ∙ c .before .before .before .before .before .before .before .p .given .1, sym (c .before .before .before .before .before .whole2 .ensures) ∙ c .before .before .before .v2 .given .1, ne-eqb (c .before .before .before .v2 .given .0 .0) 0 (c .before .if2 .left), lt-leb (c .before .before .before .v2 .given .0 .0) (2 ^ 63) (c .if3 .left))

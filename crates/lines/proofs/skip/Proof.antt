@@ -1,3 +1,4 @@
+-- `lines::skip` meets its contract.
 use mathlib.Core.Path.{_≡_, refl, _∙_}
 use Prim.Native.Nat.{_≤_, _-_}
 use lib.ListN.{length, drop}
@@ -14,43 +15,33 @@ Inv-loop text at word p₀ i₀ p i = (i ≤ length word) × (skip text p (drop 
 abbrev μ-loop : tie.MeasureT-loop
 μ-loop text at word p₀ i₀ p i = length word - i
 
--- src/lib.rt:74:5
 loop-holds : tie.Need-loop-holds Inv-loop μ-loop
 loop-holds c = (omega arith, refl)
 
--- src/lib.rt:76:13
 returns : tie.Need-returns Inv-loop μ-loop
 returns c = skip-past (now (c .before .before .before .args .text)) (c .before .before .loop .p) (now (c .before .before .before .args .word)) (c .before .before .loop .i) (omega arith) (omega arith) ∙ c .before .before .loop .inv .1
 
--- src/lib.rt:78:12
 shared-slice-read-if2 : tie.Need-shared-slice-read-if2 Inv-loop μ-loop
 shared-slice-read-if2 c = omega arith
 
--- src/lib.rt:78:23
 shared-slice-read-if2-2 : tie.Need-shared-slice-read-if2-2 Inv-loop μ-loop
 shared-slice-read-if2-2 c = omega arith
 
--- src/lib.rt:79:13
 returns-2 : tie.Need-returns-2 Inv-loop μ-loop
 returns-2 c = skip-other (now (c .before .before .before .before .before .before .args .text)) (c .before .before .before .before .before .loop .p) (now (c .before .before .before .before .before .before .args .word)) (c .before .before .before .before .before .loop .i) (omega arith) (omega arith) (c .if2 .taken) ∙ c .before .before .before .before .before .loop .inv .1
 
--- src/lib.rt:81:9
 add-p : tie.Need-add-p Inv-loop μ-loop
 add-p c = omega arith
 
--- src/lib.rt:82:9
 add-i : tie.Need-add-i Inv-loop μ-loop
 add-i c = omega arith
 
--- src/lib.rt:74:5
 loop-less : tie.Need-loop-less Inv-loop μ-loop
 loop-less c = omega arith
 
--- src/lib.rt:74:5
 loop-again : tie.Need-loop-again Inv-loop μ-loop
 loop-again c = (omega arith, skip-go (now (c .before .before .before .before .before .before .args .text)) (c .before .before .before .before .before .loop .p) (now (c .before .before .before .before .before .before .args .word)) (c .before .before .before .before .before .loop .i) (omega arith) (omega arith) (c .if2 .left) ∙ c .before .before .before .before .before .loop .inv .1)
 
--- src/lib.rt:69:1
 returns-3 : tie.Need-returns-3 Inv-loop μ-loop
 returns-3 c = skip-end (now (c .before .before .args .text)) (c .before .loop .p) (now (c .before .before .args .word)) (c .before .loop .i) (omega arith) ∙ c .before .loop .inv .1
 

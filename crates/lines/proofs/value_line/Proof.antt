@@ -1,3 +1,4 @@
+-- `lines::value_line` meets its contract.
 use mathlib.Core.Path.{sym, _∙_}
 use Prim.Native.Nat.{_-_}
 use Rattle.lines.specs.Form.{skip, ended, signed, valueLine}
@@ -5,36 +6,28 @@ use borrow.Author.Needs.{needs}
 use Rattle.lines.proofs.value_line.Statement.{statement}
 use Rattle.lines.proofs.value_line.Tie as tie
 
--- src/lib.rt:181:40
 slice-aggregate-skip : tie.Need-slice-aggregate-skip
 slice-aggregate-skip c = search needs
 
--- src/lib.rt:181:25
 skip-requires : tie.Need-skip-requires
 skip-requires c κs = search needs
 
--- src/lib.rt:181:20
 enum-known-p : tie.Need-enum-known-p
 enum-known-p c = search needs
 
--- src/lib.rt:182:9
 enum-told : tie.Need-enum-told
 enum-told c = search needs
 
--- src/lib.rt:182:9
 returns : tie.Need-returns
 unfolding valueLine
 returns c = rw (sym (c .before .before .skip .ensures) ∙ c .enum-told .given .1)
 
--- src/lib.rt:184:17
 signed-requires : tie.Need-signed-requires
 signed-requires c κs = search needs
 
--- src/lib.rt:184:5
 ended-requires : tie.Need-ended-requires
 ended-requires c κs = search needs
 
--- src/lib.rt:178:1
 returns-2 : tie.Need-returns-2
 unfolding valueLine
 returns-2 c = c .ended .ensures ∙ rw (c .before .signed .ensures, sym (c .before .before .before .before .before .skip .ensures) ∙ c .before .before .before .p .given .1)

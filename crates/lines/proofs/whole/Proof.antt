@@ -1,3 +1,4 @@
+-- `lines::whole` meets its contract.
 use mathlib.Core.Path.{sym, _∙_}
 use Prim.Native.Nat.{_-_}
 use borrow.Author.Tests.{eq-eqb, ne-eqb}
@@ -6,19 +7,15 @@ use borrow.Author.Needs.{needs}
 use Rattle.lines.proofs.whole.Statement.{statement}
 use Rattle.lines.proofs.whole.Tie as tie
 
--- src/lib.rt:118:43
 slice-aggregate-skip : tie.Need-slice-aggregate-skip
 slice-aggregate-skip c = search needs
 
--- src/lib.rt:118:28
 skip-requires : tie.Need-skip-requires
 skip-requires c κs = search needs
 
--- src/lib.rt:118:23
 enum-known-p : tie.Need-enum-known-p
 enum-known-p c = search needs
 
--- src/lib.rt:119:9
 returns : tie.Need-returns
 unfolding whole
 returns c = rw (sym (c .before .before .before .skip .ensures) ∙ c .before .p .given .1)
@@ -26,16 +23,13 @@ returns c = rw (sym (c .before .before .before .skip .ensures) ∙ c .before .p 
 enum-told : tie.Need-enum-told
 enum-told c = search needs
 
--- src/lib.rt:121:9
 digits-requires : tie.Need-digits-requires
 digits-requires c κs = search needs
 
--- src/lib.rt:123:9
 returns-2 : tie.Need-returns-2
 unfolding whole
 returns-2 c = rw (sym (c .before .before .before .before .before .skip .ensures) ∙ c .before .before .before .enum-told .given .1, sym (c .before .before .digits .ensures), eq-eqb (c .before .before .digits .result .next) (c .before .before .before .before .before .before .before .before .args .at) (c .if1 .taken))
 
--- src/lib.rt:114:1
 returns-3 : tie.Need-returns-3
 unfolding whole
 returns-3 c = rw (sym (c .before .before .before .before .before .skip .ensures) ∙ c .before .before .before .enum-told .given .1, sym (c .before .before .digits .ensures), ne-eqb (c .before .before .digits .result .next) (c .before .before .before .before .before .before .before .before .args .at) (c .if1 .left))

@@ -1,10 +1,12 @@
+-- `plan::form` meets its contract.
 use native.Mathlib.Nat.{sub-zero}
 use mathlib.Core.Path.{_≡_, refl, sym, _∙_}
 use Prim.Native.Nat.{_≤_, _-_}
 use lib.ListN.{length}
 use denote.Ref.{now}
 use Rattle.plan.proofs.Pass.{pass-halt, pass-go, pass-end, answer-halted, answer-formed, answer-left-over}
-use Rattle.plan.specs.Rules.{streams, passOf}
+use Rattle.plan.specs.Rules.{streams}
+use Rattle.plan.specs.Pass.{passOf}
 use mathlib.Core.Bool.{true}
 use borrow.Author.Needs.{needs}
 use native.Mathlib.Omega.{arith}
@@ -17,59 +19,45 @@ Inv-loop text at n graph₀ p₀ i₀ ok₀ graph p i ok = (i ≤ n) × (length 
 abbrev μ-loop : tie.MeasureT-loop
 μ-loop text at n graph₀ p₀ i₀ ok₀ graph p i ok = n - i
 
--- src/lib.rt:111:5
 loop-holds : tie.Need-loop-holds Inv-loop μ-loop
 loop-holds c = (omega arith, refl, simp sub-zero)
 
--- src/lib.rt:112:15
 read-turn-requires : tie.Need-read-turn-requires Inv-loop μ-loop
 read-turn-requires c κs = omega arith
 
--- src/lib.rt:113:24
 enum-known-kept : tie.Need-enum-known-kept Inv-loop μ-loop
 enum-known-kept c = search needs
 
--- src/lib.rt:114:17
 both-requires : tie.Need-both-requires Inv-loop μ-loop
 both-requires c κs = search needs
 
--- src/lib.rt:116:17
 add-i : tie.Need-add-i Inv-loop μ-loop
 add-i c = omega arith
 
--- src/lib.rt:111:5
 loop-less : tie.Need-loop-less Inv-loop μ-loop
 loop-less c = omega arith
 
--- src/lib.rt:111:5
 loop-again : tie.Need-loop-again Inv-loop μ-loop
 loop-again c = (omega arith, c .before .before .before .before .before .before .read-turn .kept .1 .1 .0 ∙ c .before .before .before .before .before .before .before .before .before .loop .inv .1, rw (c .both .ensures) (pass-go (now (c .before .before .before .before .before .before .before .before .before .before .before .before .args .text)) (c .before .before .before .before .before .before .before .before .before .before .before .before .args .n) (c .before .before .before .before .before .before .before .before .before .loop .ok) (c .before .before .before .before .before .before .before .before .before .loop .i) (c .before .before .before .before .before .before .before .before .before .loop .graph) (c .before .before .before .before .before .before .before .before .before .loop .p) (omega arith) (c .before .before .kept .given .0 .0) (c .before .before .kept .given .0 .1 .0) (c .before .before .before .before .before .before .read-turn .last .1 .1 .0) (sym (c .before .before .before .before .before .before .read-turn .ensures .0) ∙ c .before .before .kept .given .1) (c .before .before .before .before .before .before .read-turn .ensures .1)) ∙ c .before .before .before .before .before .before .before .before .before .loop .inv .2)
 
--- src/lib.rt:118:27
 enum-known-r : tie.Need-enum-known-r Inv-loop μ-loop
 enum-known-r c = search needs
 
--- src/lib.rt:118:33
 same-length : tie.Need-same-length Inv-loop μ-loop
 same-length c = c .before .before .before .before .before .read-turn .kept .1 .1 .0 ∙ c .before .before .before .before .before .before .before .before .loop .inv .1
 
--- src/lib.rt:118:33
 returns : tie.Need-returns Inv-loop μ-loop
 returns c = answer-halted (length (now (c .before .before .before .before .before .before .before .before .before .before .before .args .text))) (c .before .before .before .before .before .read-turn .last .1 .1 .0) _ (c .before .r .given .0 .0) (sym (c .before .before .before .before .before .before .before .before .loop .inv .2) ∙ pass-halt (now (c .before .before .before .before .before .before .before .before .before .before .before .args .text)) (c .before .before .before .before .before .before .before .before .before .before .before .args .n) (c .before .before .before .before .before .before .before .before .loop .ok) (c .before .before .before .before .before .before .before .before .loop .i) (c .before .before .before .before .before .before .before .before .loop .graph) (c .before .before .before .before .before .before .before .before .loop .p) (omega arith) (c .before .r .given .0 .0) (sym (c .before .before .before .before .before .read-turn .ensures .0) ∙ c .before .r .given .1))
 
--- src/lib.rt:103:1
 same-length-2 : tie.Need-same-length-2 Inv-loop μ-loop
 same-length-2 c = c .before .before .loop .inv .1
 
--- src/lib.rt:103:1
 returns-2 : tie.Need-returns-2 Inv-loop μ-loop
 returns-2 c = answer-formed (length (now (c .before .before .before .before .before .args .text))) (c .before .before .loop .graph) _ (c .before .before .loop .ok) (c .before .before .loop .p) (sym (c .before .before .loop .inv .2) ∙ pass-end (now (c .before .before .before .before .before .args .text)) (c .before .before .before .before .before .args .n) (c .before .before .loop .ok) (c .before .before .loop .i) (c .before .before .loop .graph) (c .before .before .loop .p) (omega arith)) (c .if1 .taken)
 
--- src/lib.rt:103:1
 same-length-3 : tie.Need-same-length-3 Inv-loop μ-loop
 same-length-3 c = c .before .before .loop .inv .1
 
--- src/lib.rt:103:1
 returns-3 : tie.Need-returns-3 Inv-loop μ-loop
 returns-3 c = answer-left-over (length (now (c .before .before .before .before .before .args .text))) (c .before .before .loop .graph) _ (c .before .before .loop .ok) (c .before .before .loop .p) (sym (c .before .before .loop .inv .2) ∙ pass-end (now (c .before .before .before .before .before .args .text)) (c .before .before .before .before .before .args .n) (c .before .before .loop .ok) (c .before .before .loop .i) (c .before .before .loop .graph) (c .before .before .loop .p) (omega arith)) (c .if1 .left)
 

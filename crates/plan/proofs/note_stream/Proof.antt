@@ -1,3 +1,4 @@
+-- `plan::note_stream` meets its contract.
 use mathlib.Core.Path.{sym, _∙_}
 use Prim.Native.Nat.{_-_}
 use denote.Ref.{now}
@@ -10,39 +11,30 @@ use native.Mathlib.Omega.{arith}
 use Rattle.plan.proofs.note_stream.Statement.{statement}
 use Rattle.plan.proofs.note_stream.Tie as tie
 
--- src/lib.rt:79:9
 keeps-requires : tie.Need-keeps-requires
 keeps-requires c κs = search needs
 
--- src/lib.rt:80:9
 note-requires : tie.Need-note-requires
 note-requires c κs = search needs
 
--- src/lib.rt:81:9
 same-length : tie.Need-same-length
 same-length c = search needs
 
--- src/lib.rt:81:9
 returns : tie.Need-returns
 returns c = (sym (sym (c .before .before .before .before .before .keeps .ensures) ∙ not-true (c .before .before .before .before .before .keeps .result) (c .before .before .before .before .if1 .taken)), c .before .before .note .ensures ∙ noted-broken (c .before .before .before .before .before .before .before .args .n) (c .before .before .before .before .before .before .before .args .i) (c .before .before .before .before .before .before .before .args .f) (now (c .before .before .before .before .before .before .before .args .graph)) (sym (c .before .before .before .before .before .keeps .ensures) ∙ not-true (c .before .before .before .before .before .keeps .result) (c .before .before .before .before .if1 .taken)))
 
--- src/lib.rt:83:33
 cast-note : tie.Need-cast-note
 cast-note c = omega (arith, small (usesA (c .before .before .before .before .before .args .f .op)) (c .before .before .before .before .before .args .n) (c .before .before .before .before .before .args .f .a) (first-kept (c .before .before .before .before .before .args .n) (c .before .before .before .before .before .args .f) (sym (c .before .before .before .keeps .ensures) ∙ not-false (c .before .before .before .keeps .result) (c .before .before .if1 .left))) (omega arith))
 
--- src/lib.rt:83:44
 cast-note-2 : tie.Need-cast-note-2
 cast-note-2 c = omega (arith, small (usesB (c .before .before .before .before .before .before .args .f .op)) (c .before .before .before .before .before .before .args .n) (c .before .before .before .before .before .before .args .f .b) (second-kept (c .before .before .before .before .before .before .args .n) (c .before .before .before .before .before .before .args .f) (sym (c .before .before .before .before .keeps .ensures) ∙ not-false (c .before .before .before .before .keeps .result) (c .before .before .before .if1 .left))) (omega arith))
 
--- src/lib.rt:83:5
 note-requires-2 : tie.Need-note-requires-2
 note-requires-2 c κs = search needs
 
--- src/lib.rt:74:1
 same-length-2 : tie.Need-same-length-2
 same-length-2 c = search needs
 
--- src/lib.rt:74:1
 returns-2 : tie.Need-returns-2
 returns-2 c = (sym (sym (c .before .before .before .before .before .before .before .keeps .ensures) ∙ not-false (c .before .before .before .before .before .before .before .keeps .result) (c .before .before .before .before .before .before .if1 .left)), c .before .before .note2 .ensures ∙ noted-kept (c .before .before .before .before .before .before .before .before .before .args .n) (c .before .before .before .before .before .before .before .before .before .args .i) (c .before .before .before .before .before .before .before .before .before .args .f) (now (c .before .before .before .before .before .before .before .before .before .args .graph)) (sym (c .before .before .before .before .before .before .before .keeps .ensures) ∙ not-false (c .before .before .before .before .before .before .before .keeps .result) (c .before .before .before .before .before .before .if1 .left)))
 

@@ -1,3 +1,4 @@
+-- `plan::number` meets its contract.
 use mathlib.Core.Path.{sym, _∙_}
 use Prim.Native.Nat.{_-_}
 use lib.ListN.{length}
@@ -9,33 +10,26 @@ use borrow.Author.Needs.{needs}
 use Rattle.plan.proofs.number.Statement.{statement}
 use Rattle.plan.proofs.number.Tie as tie
 
--- src/lib.rt:153:9
 returns : tie.Need-returns
 unfolding number
 returns c = rw (lt-ltb 2048 (length (now (c .before .before .args .text))) (c .if1 .taken))
 
--- src/lib.rt:155:11
 read-head-requires : tie.Need-read-head-requires
 read-head-requires c κs = search needs
 
--- src/lib.rt:156:23
 enum-known-n : tie.Need-enum-known-n
 enum-known-n c = search needs
 
--- src/lib.rt:156:33
 plan-number-requires : tie.Need-plan-number-requires
 plan-number-requires c κs = head-fits (now (c .before .before .before .before .before .before .args .text)) (c .before .n .given .0 .0) (c .before .n .given .0 .1 .0) (sym (c .before .before .before .read-head .ensures) ∙ c .before .n .given .1) .1
 
--- src/lib.rt:157:23
 enum-known-r : tie.Need-enum-known-r
 enum-known-r c = search needs
 
--- src/lib.rt:149:1
 returns-2 : tie.Need-returns-2
 unfolding number
 returns-2 c = c .plan-number .ensures ∙ rw (le-ltb 2048 (length (now (c .before .before .before .before .before .before .before .args .text))) (c .before .before .before .before .before .if1 .left), sym (c .before .before .before .before .read-head .ensures) ∙ c .before .before .n .given .1)
 
--- src/lib.rt:149:1
 returns-3 : tie.Need-returns-3
 unfolding number
 returns-3 c = rw (le-ltb 2048 (length (now (c .before .before .before .before .before .before .args .text))) (c .before .before .before .before .if1 .left), sym (c .before .before .before .read-head .ensures) ∙ c .before .r .given .1)

@@ -1,3 +1,4 @@
+-- `plan::plan_number` meets its contract.
 use mathlib.Core.Path.{sym, _∙_}
 use Prim.Native.Nat.{_-_}
 use denote.Ref.{now}
@@ -9,43 +10,33 @@ use native.Mathlib.Omega.{arith}
 use Rattle.plan.proofs.plan_number.Statement.{statement}
 use Rattle.plan.proofs.plan_number.Tie as tie
 
--- src/lib.rt:134:29
 slice-aggregate-form : tie.Need-slice-aggregate-form
 slice-aggregate-form c = search needs
 
--- src/lib.rt:134:11
 form-requires : tie.Need-form-requires
 form-requires c κs = search needs
 
--- src/lib.rt:135:26
 enum-known-r : tie.Need-enum-known-r
 enum-known-r c = search needs
 
--- src/lib.rt:136:25
 enum-known-ok : tie.Need-enum-known-ok
 enum-known-ok c = search needs
 
--- src/lib.rt:138:17
 returns : tie.Need-returns
 returns c = broken-number (now (c .before .before .before .before .before .before .before .before .args .text)) (c .before .before .before .before .before .before .before .before .args .n) _ (streams (now (c .before .before .before .before .before .before .before .before .args .text)) (c .before .before .before .before .before .before .before .before .args .at) (c .before .before .before .before .before .before .before .before .args .n)) (c .before .before .ok .given .0 .0) (sym (c .before .before .ok .given .1) ∙ c .before .before .before .before .before .form .ensures .0) (c .if1 .taken)
 
--- src/lib.rt:140:30
 slice-aggregate-clear : tie.Need-slice-aggregate-clear
 slice-aggregate-clear c = search needs
 
--- src/lib.rt:140:17
 clear-requires : tie.Need-clear-requires
 clear-requires c κs = search needs
 
--- src/lib.rt:141:17
 returns-2 : tie.Need-returns-2
 returns-2 c = rw (not-true (c .before .before .clear .result) (c .if2 .taken)) at (cycle-number (now (c .before .before .before .before .before .before .before .before .before .before .before .before .args .text)) (c .before .before .before .before .before .before .before .before .before .before .before .before .args .n) (c .before .before .before .before .before .before .before .before .before .before .before .before .args .at) (omega arith) (c .before .before .before .before .before .before .ok .given .0 .0) (c .before .before .before .before .before .before .before .before .before .form .last .1 .1 .1 .0) (sym (c .before .before .before .before .before .before .ok .given .1) ∙ c .before .before .before .before .before .before .before .before .before .form .ensures .0) (c .before .before .before .before .before .before .before .before .before .form .ensures .1) (c .before .before .before .before .if1 .left) (c .before .before .clear .result) (c .before .before .clear .last .0) (c .before .before .clear .ensures))
 
--- src/lib.rt:129:1
 returns-3 : tie.Need-returns-3
 returns-3 c = refused-number (now (c .before .before .before .before .before .before .before .args .text)) (c .before .before .before .before .before .before .before .args .n) _ (streams (now (c .before .before .before .before .before .before .before .args .text)) (c .before .before .before .before .before .before .before .args .at) (c .before .before .before .before .before .before .before .args .n)) (c .before .r .given .0 .0) (sym (c .before .r .given .1) ∙ c .before .before .before .before .form .ensures .0)
 
--- src/lib.rt:129:1
 returns-4 : tie.Need-returns-4
 returns-4 c = rw (not-false (c .before .before .clear .result) (c .if2 .left)) at (cycle-number (now (c .before .before .before .before .before .before .before .before .before .before .before .before .args .text)) (c .before .before .before .before .before .before .before .before .before .before .before .before .args .n) (c .before .before .before .before .before .before .before .before .before .before .before .before .args .at) (omega arith) (c .before .before .before .before .before .before .ok .given .0 .0) (c .before .before .before .before .before .before .before .before .before .form .last .1 .1 .1 .0) (sym (c .before .before .before .before .before .before .ok .given .1) ∙ c .before .before .before .before .before .before .before .before .before .form .ensures .0) (c .before .before .before .before .before .before .before .before .before .form .ensures .1) (c .before .before .before .before .if1 .left) (c .before .before .clear .result) (c .before .before .clear .last .0) (c .before .before .clear .ensures))
 

@@ -1,36 +1,30 @@
+-- `plan::read_turn` meets its contract.
 use mathlib.Core.Path.{sym, _∙_}
 use Prim.Native.Nat.{_-_}
-use Rattle.plan.specs.Rules.{turn}
+use Rattle.plan.specs.Pass.{turn}
 use borrow.Author.Needs.{needs}
 use Rattle.plan.proofs.read_turn.Statement.{statement}
 use Rattle.plan.proofs.read_turn.Tie as tie
 
--- src/lib.rt:93:11
 read-stream-requires : tie.Need-read-stream-requires
 read-stream-requires c κs = search needs
 
--- src/lib.rt:94:23
 enum-known-f : tie.Need-enum-known-f
 enum-known-f c = search needs
 
--- src/lib.rt:95:17
 note-stream-requires : tie.Need-note-stream-requires
 note-stream-requires c κs = search needs
 
--- src/lib.rt:98:24
 enum-known-r : tie.Need-enum-known-r
 enum-known-r c = search needs
 
--- src/lib.rt:88:1
 same-length : tie.Need-same-length
 same-length c = search needs
 
--- src/lib.rt:88:1
 returns : tie.Need-returns
 unfolding turn
 returns c = (rw (sym (c .before .before .before .before .before .before .before .read-stream .ensures) ∙ c .before .before .before .before .before .f .given .1, c .before .before .note-stream .ensures .0), rw (sym (c .before .before .before .before .before .before .before .read-stream .ensures) ∙ c .before .before .before .before .before .f .given .1) (c .before .before .note-stream .ensures .1))
 
--- src/lib.rt:88:1
 returns-2 : tie.Need-returns-2
 unfolding turn
 returns-2 c = (rw (sym (c .before .before .before .read-stream .ensures) ∙ c .before .r .given .1), rw (sym (c .before .before .before .read-stream .ensures) ∙ c .before .r .given .1))

@@ -1,3 +1,4 @@
+-- `text::count` meets its contract.
 use mathlib.Core.Path.{sym, ap, _∙_}
 use Prim.Native.Nat.{_-_}
 use Rattle.operators.specs.Limits.{countFits}
@@ -6,19 +7,15 @@ use borrow.Author.Needs.{needs}
 use Rattle.text.proofs.count.Statement.{statement}
 use Rattle.text.proofs.count.Tie as tie
 
--- src/lib.rt:319:9
 new-requires : tie.Need-new-requires
 new-requires c κs = search needs
 
--- src/lib.rt:319:9
 fits-requires : tie.Need-fits-requires
 fits-requires c κs = search needs
 
--- src/lib.rt:320:9
 returns : tie.Need-returns
 returns c = rw (sym (ap countFits (c .before .before .new .ensures)) ∙ sym (c .before .fits2 .ensures) ∙ not-true (c .before .fits2 .result) (c .if1 .taken))
 
--- src/lib.rt:315:1
 returns-2 : tie.Need-returns-2
 returns-2 c = rw (sym (ap countFits (c .before .before .new .ensures)) ∙ sym (c .before .fits2 .ensures) ∙ not-false (c .before .fits2 .result) (c .if1 .left))
 

@@ -1,3 +1,4 @@
+-- `text::read_head` meets its contract.
 use mathlib.Core.Path.{sym, _∙_}
 use Prim.Native.Nat.{_-_}
 use Rattle.lines.specs.Form.{skip, field}
@@ -6,53 +7,41 @@ use borrow.Author.Needs.{needs}
 use Rattle.text.proofs.read_head.Statement.{statement}
 use Rattle.text.proofs.read_head.Tie as tie
 
--- src/lib.rt:329:39
 slice-aggregate-skip : tie.Need-slice-aggregate-skip
 slice-aggregate-skip c = search needs
 
--- src/lib.rt:329:25
 skip-requires : tie.Need-skip-requires
 skip-requires c κs = search needs
 
--- src/lib.rt:329:20
 enum-known-p : tie.Need-enum-known-p
 enum-known-p c = search needs
 
--- src/lib.rt:330:9
 enum-told : tie.Need-enum-told
 enum-told c = search needs
 
--- src/lib.rt:330:9
 returns : tie.Need-returns
 unfolding head
 returns c = rw (sym (c .before .before .skip .ensures) ∙ c .enum-told .given .1)
 
--- src/lib.rt:332:26
 slice-aggregate-field : tie.Need-slice-aggregate-field
 slice-aggregate-field c = search needs
 
--- src/lib.rt:332:11
 field-requires : tie.Need-field-requires
 field-requires c κs = search needs
 
--- src/lib.rt:333:23
 enum-known-n : tie.Need-enum-known-n
 enum-known-n c = search needs
 
--- src/lib.rt:333:32
 count-requires : tie.Need-count-requires
 count-requires c κs = search needs
 
--- src/lib.rt:334:25
 enum-told-2 : tie.Need-enum-told-2
 enum-told-2 c = search needs
 
--- src/lib.rt:326:1
 returns-2 : tie.Need-returns-2
 unfolding head
 returns-2 c = c .count .ensures ∙ rw (sym (c .before .before .before .before .before .before .before .before .before .skip .ensures) ∙ c .before .before .before .before .before .before .before .p .given .1, sym (c .before .before .before .before .field .ensures) ∙ c .before .before .n .given .1)
 
--- src/lib.rt:326:1
 returns-3 : tie.Need-returns-3
 unfolding head
 returns-3 c = rw (sym (c .before .before .before .before .before .before .before .skip .ensures) ∙ c .before .before .before .before .before .p .given .1, sym (c .before .before .field .ensures) ∙ c .enum-told2 .given .1)
