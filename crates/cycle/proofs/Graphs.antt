@@ -1,5 +1,5 @@
 -- The graph of a plan is tied to it, and so the test on the graph's bytes decides the cycle rule.
-use Prim.Native.Nat.{ℕ, zero, suc, _+_, _*_, _<_}
+use Prim.Native.Nat.{ℕ, zero, suc, _+_, _*_, _<_, _≤_}
 use mathlib.Core.Path.{_≡_, refl, sym, ap, _∙_, subst}
 use mathlib.Core.List.{List, [], _∷_, _++_, append-assoc}
 use mathlib.Core.Bool.{false}
@@ -10,6 +10,7 @@ use lib.Seq.{getD-append-add}
 use Rattle.meaning.specs.Plan.{time, neg, set, plus, add, sub, mul, div, rem, lt, le, eq, calc, keep, merge, Eqn, input, nil, unit, one, two, last, delay, Plan, eqnAt, undelayed}
 use Rattle.meaning.specs.Cycle.{acyclic}
 use Rattle.operators.specs.Operators.{numberOf, firstOf, secondOf}
+use Rattle.operators.specs.Limits.{streamLimit}
 use Rattle.cycle.specs.Graph.{AllBelow, entryOf, graphOf, cleared}
 use Rattle.cycle.proofs.Tied.{howOf, Args, argsAt, Tied, cleared-acyclic}
 
@@ -91,5 +92,5 @@ graph-tied plan r = record {
 }
 
 -- The code's test on the graph of a plan whose arguments are streams of the plan is the definition's test of the plan.
-pub graph-acyclic : (plan : Plan) (r : List ℕ) → ((i : ℕ) → i < length plan → AllBelow (length plan) (argsAt plan i)) → (d : ℕ) → cleared d (length plan) (graphOf plan ++ r) .isClear ≡ acyclic d plan
-graph-acyclic plan r bound d = cleared-acyclic plan bound d (graphOf plan ++ r) (graph-tied plan r)
+pub graph-acyclic : (plan : Plan) (r : List ℕ) → length plan ≤ streamLimit → ((i : ℕ) → i < length plan → AllBelow (length plan) (argsAt plan i)) → (d : ℕ) → cleared d (length plan) (graphOf plan ++ r) .isClear ≡ acyclic d plan
+graph-acyclic plan r few bound d = cleared-acyclic plan few bound d (graphOf plan ++ r) (graph-tied plan r)

@@ -129,4 +129,4 @@ cleared-plan s n at fs end e k h d =
     let g : List ℕ = replicate (3 * streamLimit) 0 in
     ap (λ (x : List ℕ). cleared d n x .isClear) (noted-graph n 0 fs (r .0) k [] g refl (rw (length-replicate {A = ℕ} (3 * streamLimit) 0) (omega arith)))
     ∙ ap (λ (x : ℕ). cleared d x (graphOf (planFrom fs) ++ drop (3 * length fs) g) .isClear) (sym m)
-    ∙ graph-acyclic (planFrom fs) (drop (3 * length fs) g) (λ i l. subst (λ (x : ℕ). AllBelow x (argsAt (planFrom fs) i)) (sym m) (all-below n fs (r .0) k i (omega arith))) d
+    ∙ graph-acyclic (planFrom fs) (drop (3 * length fs) g) (omega arith) (λ i l. subst (λ (x : ℕ). AllBelow x (argsAt (planFrom fs) i)) (sym m) (all-below n fs (r .0) k i (omega arith))) d

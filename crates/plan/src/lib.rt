@@ -8,6 +8,7 @@ ghost use Rattle.operators.specs.Operators.{usesA, usesB, usesK};
 ghost use Rattle.operators.specs.Limits.{streamLimit};
 ghost use Rattle.plan.specs.Rules.{argumentFits, argumentsFit, valueFits, outFits, keeps, streams, numberAfter, number};
 ghost use Rattle.plan.specs.Pass.{notedStream, notedLines, turn, Noted, passOf, checkedOf};
+use cycle::GRAPH;
 use operators::Plan;
 use text::Fields;
 use text::Head;
@@ -72,8 +73,8 @@ fn keeps(n: u64, f: Fields) -> bool
 }
 
 // Tests rule 5 for stream i, and notes its undelayed arguments.
-fn note_stream(graph: &mut [u8], i: usize, n: u64, f: Fields) -> bool
-    requires { ⌜ (i < 256) × (3 * i + 2 < length (now graph)) × (n ≤ 256) ⌝ }
+fn note_stream(graph: &mut [u8; GRAPH], i: usize, n: u64, f: Fields) -> bool
+    requires { ⌜ (i < streamLimit) × (n ≤ 256) ⌝ }
     ensures { λ r. ⌜ r ≡ keeps n f ⌝ }
     ensures { λ _. ⌜ now (graph .exit) ≡ notedStream n i f (now (graph .entry)) ⌝ }
 {
@@ -86,8 +87,8 @@ fn note_stream(graph: &mut [u8], i: usize, n: u64, f: Fields) -> bool
 }
 
 // Reads stream i at a position.
-fn read_turn(text: &[u8], at: usize, graph: &mut [u8], i: usize, n: u64) -> Turn
-    requires { ⌜ (i < 256) × (3 * i + 2 < length (now graph)) × (n ≤ 256) ⌝ }
+fn read_turn(text: &[u8], at: usize, graph: &mut [u8; GRAPH], i: usize, n: u64) -> Turn
+    requires { ⌜ (i < streamLimit) × (n ≤ 256) ⌝ }
     ensures { λ r. ⌜ r ≡ turn n (stream (now (text .entry)) at) ⌝ }
     ensures { λ _. ⌜ now (graph .exit) ≡ notedLines n i (stream (now (text .entry)) at) (now (graph .entry)) ⌝ }
 {
@@ -101,8 +102,8 @@ fn read_turn(text: &[u8], at: usize, graph: &mut [u8], i: usize, n: u64) -> Turn
 }
 
 // Reads all streams' lines. A text whose form is right leaves its graph.
-fn form(text: &[u8], at: usize, n: usize, graph: &mut [u8]) -> Checked
-    requires { ⌜ (n ≤ 256) × (3 * n ≤ length (now graph)) ⌝ }
+fn form(text: &[u8], at: usize, n: usize, graph: &mut [u8; GRAPH]) -> Checked
+    requires { ⌜ n ≤ streamLimit ⌝ }
     ensures { λ r. ⌜ r ≡ checkedOf (length (now (text .entry))) (passOf n true 0 (now (graph .entry)) (streams (now (text .entry)) at n)) ⌝ }
     ensures { λ _. ⌜ Noted (now (graph .exit)) (passOf n true 0 (now (graph .entry)) (streams (now (text .entry)) at n)) ⌝ }
 {
@@ -131,14 +132,14 @@ fn plan_number(text: &[u8], n: usize, at: usize) -> u32
     requires { ⌜ n ≤ streamLimit ⌝ }
     ensures { λ r. ⌜ r ≡ numberAfter (now (text .entry)) n (streams (now (text .entry)) at n) ⌝ }
 {
-    let mut graph = [0u8; 3 * Plan::STREAMS];
+    let mut graph = [0u8; GRAPH];
     match form(text, at, n, &mut graph) {
         Checked::Refused(r) => r,
         Checked::Formed(ok) => {
             if !ok {
                 return 5;
             }
-            if !cycle::clear(&mut graph, n, Plan::STREAMS) {
+            if !cycle::clear(&mut graph, n as u8, Plan::STREAMS as u8) {
                 return 6;
             }
             0
