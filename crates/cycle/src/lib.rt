@@ -1,11 +1,10 @@
 // The cycle test: follows undelayed arguments from stream to stream over a graph in bytes.
 ghost use mathlib.Core.Path.{_≡_};
-ghost use Prim.Native.Nat.{_+_, _*_, _<_, _≤_};
+ghost use Prim.Native.Nat.{_+_, _*_, _<_};
 ghost use mathlib.Core.List.{[], _∷_};
-ghost use lib.ListN.{length};
 ghost use lib.Seq.{sets};
 ghost use Rattle.operators.specs.Limits.{streamLimit};
-ghost use Rattle.cycle.specs.Graph.{Walk, walked, followed, cleared, entryOf};
+ghost use Rattle.cycle.specs.Graph.{walked, followed, cleared, entryOf};
 use operators::Plan;
 
 // The bytes of a graph: three for each stream that a plan may have.

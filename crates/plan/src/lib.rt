@@ -1,12 +1,11 @@
 // The number of a plan text: its form line by line, then rule 5, then rule 6.
 ghost use mathlib.Core.Path.{_≡_};
 ghost use mathlib.Core.Bool.{true, _&&_};
-ghost use Prim.Native.Nat.{_+_, _*_, _<_, _≤_};
+ghost use Prim.Native.Nat.{_<_, _≤_};
 ghost use lib.ListN.{length};
 ghost use Rattle.text.specs.Grammar.{stream};
-ghost use Rattle.operators.specs.Operators.{usesA, usesB, usesK};
 ghost use Rattle.operators.specs.Limits.{streamLimit};
-ghost use Rattle.plan.specs.Rules.{argumentFits, argumentsFit, valueFits, outFits, keeps, streams, numberAfter, number};
+ghost use Rattle.plan.specs.Rules.{argumentsFit, valueFits, outFits, keeps, streams, numberAfter, number};
 ghost use Rattle.plan.specs.Pass.{notedStream, notedLines, turn, Noted, passOf, checkedOf};
 use cycle::GRAPH;
 use operators::Plan;
