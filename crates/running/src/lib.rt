@@ -1,13 +1,17 @@
 // Run: the lowest-numbered equation that can is moved, again and again.
 ghost use mathlib.Core.Path.{_≡_};
 ghost use mathlib.Core.Bool.{cond};
+ghost use Prim.Native.Nat.{_*_, _≤_};
 ghost use lib.Dec.{ltb};
+ghost use lib.ListN.{length};
 ghost use Rattle.machine.specs.Step.{move};
 ghost use Rattle.machine.specs.Calls as machine;
 ghost use Rattle.machine.specs.Calls.{lowest};
+ghost use Rattle.layout.specs.Record.{decode};
 ghost use Rattle.cells.specs.View.{bytesOf};
 ghost use Rattle.valid.specs.Valid.{stateLength};
 ghost use Rattle.state.specs.In.{stateIn, IsState};
+ghost use Rattle.running.specs.Equation.{equationRaw};
 
 // Moves the lowest-numbered equation that can move; whether there was one.
 fn move_lowest(state: &mut [u8], n: usize) -> bool
@@ -39,4 +43,19 @@ pub fn run(state: &mut [u8], n: usize, most: u32) -> u32
         made += 1;
     }
     made
+}
+
+// Whether the stream is there and is no input.
+pub fn is_equation(state: &[u8], n: usize, stream: u32) -> bool
+    requires { ⌜ n * 256 ≤ length (now state) ⌝ }
+    ensures { λ r. ⌜ r ≡ equationRaw n (decode n (now (state .entry))) stream ⌝ }
+{
+    let i = stream as usize;
+    if n <= i {
+        return false;
+    }
+    let at = i * 256;
+    let end = at + 256;
+    let op = layout::byte_at(&state[at..end], 0);
+    op != 1
 }
