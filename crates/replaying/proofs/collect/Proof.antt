@@ -1,3 +1,4 @@
+use Rattle.resting.proofs.Bytes.{collect-is-value}
 use mir.Val.{toZ, ofZ, SFits}
 use mathlib.Core.Path.{_≡_, refl, sym, ap, _∙_, subst}
 use mathlib.Core.Bool.{Bool, true, false}
@@ -42,7 +43,7 @@ same-length-2 c = search needs
 
 -- src/lib.rt:77:9
 returns : tie.Need-returns
-returns c = let f : SFits w64 (c .before .before .before .before .before .before .before .tessla-collect .last .1 .1 .1 .0) = search needs in rw (collected-event (c .before .before .before .before .before .before .before .before .before .before .before .before .before .args .stream) (c .before .before .before .before .before .before .before .before .before .before .before .before .before .args .busy) (reply (collecting (c .before .before .before .before .before .before .before .before .before .before .before .before .before .args .stream)) (now (c .before .before .before .before .before .before .before .before .before .before .before .before .before .args .state))) (sym (c .before .before .before .before .before .before .before .tessla-collect .ensures .0) ∙ c .before .before .before .before .if1 .taken)) (record { place = refl; put = rw (sym (c .before .before .before .before .before .before .before .tessla-collect .ensures .1 .0), sym (c .before .before .before .before .before .before .before .tessla-collect .ensures .1 .1 .0)) (rw (toZ-ofZ f) at (c .before .before .put-event .ensures)); state = c .before .before .before .before .before .before .before .tessla-collect .ensures .1 .1 .1 })
+returns c = let f : SFits w64 (c .before .before .before .before .before .before .before .tessla-collect .last .1 .1 .1 .0) = record { sfits = rw (c .before .before .before .before .before .before .before .tessla-collect .ensures .1 .1 .0) (collect-is-value (now (c .before .before .before .before .before .before .before .before .before .before .before .before .before .args .state)) (λ j. omega (arith, c .before .before .before .before .before .before .before .before .before .before .before .before .slice-known .given j)) (c .before .before .before .before .before .before .before .before .before .before .before .before .before .args .stream)) } in rw (collected-event (c .before .before .before .before .before .before .before .before .before .before .before .before .before .args .stream) (c .before .before .before .before .before .before .before .before .before .before .before .before .before .args .busy) (reply (collecting (c .before .before .before .before .before .before .before .before .before .before .before .before .before .args .stream)) (now (c .before .before .before .before .before .before .before .before .before .before .before .before .before .args .state))) (sym (c .before .before .before .before .before .before .before .tessla-collect .ensures .0) ∙ c .before .before .before .before .if1 .taken)) (record { place = refl; put = rw (sym (c .before .before .before .before .before .before .before .tessla-collect .ensures .1 .0), sym (c .before .before .before .before .before .before .before .tessla-collect .ensures .1 .1 .0)) (rw (toZ-ofZ f) at (c .before .before .put-event .ensures)); state = c .before .before .before .before .before .before .before .tessla-collect .ensures .1 .1 .1 })
 
 -- src/lib.rt:83:16
 after-output-requires : tie.Need-after-output-requires
