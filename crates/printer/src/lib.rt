@@ -6,6 +6,11 @@ ghost use lib.ListN.{length};
 ghost use Rattle.render.specs.Render.{digits, decimal, valueText};
 ghost use Rattle.printer.specs.Print.{Put, eventText, refusedText, eventRoom, refusedRoom};
 
+// As much room as is asked for to put the line of an event, and of a refusal.
+pub const EVENT_ROOM: usize = 67;
+
+pub const REFUSED_ROOM: usize = 28;
+
 // Puts one byte, and answers the position past it.
 fn put_byte(out: &mut [u8], at: usize, byte: u8) -> usize
     requires { ⌜ at < length (now out) ⌝ }

@@ -1,18 +1,15 @@
 -- One call of a replay, case by case.
 use Prim.Native.Nat.{ℕ, zero, suc, _+_, _<_, _≤_}
-use mathlib.Core.Path.{_≡_, refl, sym, ap, _∙_}
-use mathlib.Core.Bool.{Bool, true, false}
-use mathlib.Core.List.{List, []}
-use native.Mathlib.Omega.{arith}
-use lib.Dec.{eqb, ltb}
+use mathlib.Core.Path.{_≡_, refl, ap}
+use mathlib.Core.Bool.{Bool, true, false, cond}
+use mathlib.Core.List.{[]}
+use lib.Dec.{eqb}
 use borrow.Author.Tests.{eq-eqb, ne-eqb, lt-ltb, le-ltb}
 use Rattle.operators.specs.Limits.{streamLimit}
 use Rattle.engine.specs.Reply.{Reply}
-use Rattle.printer.specs.Print.{Put, eventText, refusedText}
-use Rattle.printer.proofs.Puts.{put-none}
-use Rattle.replaying.specs.declared.Place.the-variants.{Run, Collect, Rest}
-use Rattle.replaying.specs.declared.Stand.{Stand}
-use Rattle.replaying.specs.Replay.{refusal, turn, afterOutput, roundAfter, collected, Turned}
+use Rattle.printer.specs.Print.{eventText, refusedText}
+use Rattle.replaying.specs.declared.Place.the-variants.{Run, Collect}
+use Rattle.replaying.specs.Replay.{refusal, turn, ran, afterOutput, roundAfter, collected}
 
 -- ## Offers
 
@@ -42,3 +39,19 @@ collected-event i busy r e = rw (eq-eqb (r .number) 0 e)
 pub collected-none : (i : ℕ) (busy : Bool) (r : Reply) → (r .number ≡ 0 → ⊥) → collected i busy r ≡ turn (afterOutput i busy) [] (r .buffer)
 unfolding collected
 collected-none i busy r e = rw (ne-eqb (r .number) 0 e)
+
+-- ## A run
+
+pub ran-rest : (busy : Bool) (r : Reply) → r .moves ≡ 0 → ran busy r ≡ turn (Collect 0 busy) [] (r .buffer)
+ran-rest busy r e = rw (eq-eqb (r .moves) 0 e)
+
+pub ran-moved : (busy : Bool) (r : Reply) → (r .moves ≡ 0 → ⊥) → ran busy r ≡ turn (Run true) [] (r .buffer)
+ran-moved busy r e = rw (ne-eqb (r .moves) 0 e)
+
+-- whether something moved or not, the state is the run's
+pub ran-state : (busy : Bool) (r : Reply) → (ran busy r .state ≡ r .buffer) × (ran busy r .printed ≡ [])
+ran-state busy r = go (eqb (r .moves) 0)
+  where
+    go : (b : Bool) → (cond b (turn (Collect 0 busy) [] (r .buffer)) (turn (Run true) [] (r .buffer)) .state ≡ r .buffer) × (cond b (turn (Collect 0 busy) [] (r .buffer)) (turn (Run true) [] (r .buffer)) .printed ≡ [])
+    go true = (refl, refl)
+    go false = (refl, refl)

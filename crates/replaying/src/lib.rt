@@ -1,11 +1,13 @@
 // Replaying, step by step: a record is offered, and then the state is run to rest and its outputs are collected, again and again.
 ghost use mathlib.Core.Path.{_≡_};
 ghost use Prim.Native.Nat.{_+_, _<_, _≤_};
-ghost use lib.ListN.{length};
+ghost use mathlib.Core.Bool.{false};
+ghost use lib.ListN.{length, take};
 ghost use Rattle.printer.specs.Print.{Put, eventRoom, refusedRoom};
-ghost use Rattle.replaying.specs.Replay.{Turned, callOf, refusal, afterOutput, collected};
+ghost use Rattle.replaying.specs.Replay.{Turned, Prints, callOf, refusal, allMoves, ran, afterOutput, collected, step};
+ghost use Rattle.replaying.specs.Rank.{isRest, rank};
 ghost use Rattle.engine.specs.Reply.{reply};
-ghost use Rattle.machine.specs.Calls.{collecting};
+ghost use Rattle.machine.specs.Calls.{running, collecting};
 use operators::Plan;
 use trace::Record;
 
@@ -91,4 +93,67 @@ fn collect(state: &mut [u8], stream: u32, busy: bool, out: &mut [u8], at: usize)
         place: after_output(stream, busy),
         end: at,
     }
+}
+
+// Runs, and goes on to collect once nothing moves.
+fn run(state: &mut [u8], busy: bool) -> Place
+    ensures place { λ r. ⌜ r ≡ ran busy (reply (running allMoves) (now (state .entry))) .place ⌝ }
+    ensures state { λ _. ⌜ now (state .exit) ≡ reply (running allMoves) (now (state .entry)) .buffer ⌝ }
+{
+    let mut moves: u32 = 0;
+    engine::tessla_run(state, u32::MAX, &mut moves);
+    if moves == 0 {
+        return Place::Collect { stream: 0, busy };
+    }
+    Place::Run { busy: true }
+}
+
+// Makes the one call that is due at a place.
+fn turn(state: &mut [u8], place: Place, out: &mut [u8], at: usize) -> Stand
+    requires { ⌜ at + eventRoom ≤ length (now out) ⌝ }
+    ensures { λ r. ⌜ Turned (step place (now (state .entry))) (now (out .entry)) at r (now (out .exit)) (now (state .exit)) ⌝ }
+{
+    match place {
+        Place::Run { busy } => Stand {
+            place: run(state, busy),
+            end: at,
+        },
+        Place::Collect { stream, busy } => collect(state, stream, busy, out, at),
+        Place::Rest => Stand {
+            place: Place::Rest,
+            end: at,
+        },
+    }
+}
+
+// Whether nothing moves or waits any more.
+pub fn is_rest(place: Place) -> bool
+    ensures { λ r. ⌜ r ≡ isRest place ⌝ }
+{
+    match place {
+        Place::Run { busy: _ } => false,
+        Place::Collect { stream: _, busy: _ } => false,
+        Place::Rest => true,
+    }
+}
+
+// Goes on from a place until the buffer has no room for one more event or nothing moves or waits. The buffer then starts with
+// what is to be printed.
+pub fn fill(state: &mut [u8], place: Place, out: &mut [u8]) -> Stand
+    requires { ⌜ eventRoom ≤ length (now out) ⌝ }
+    ensures fits { λ r. ⌜ r .end ≤ length (now (out .exit)) ⌝ }
+    ensures prints { λ r. ⌜ Prints place (now (state .entry)) (take (r .end) (now (out .exit))) (r .place) (now (state .exit)) ⌝ }
+    ensures nearer { λ r. ⌜ (isRest (r .place) ≡ false → rank (r .place) (now (state .exit)) < rank place (now (state .entry))) ⌝ }
+{
+    let mut p = place;
+    let mut end: usize = 0;
+    while printer::EVENT_ROOM <= out.len() - end {
+        if is_rest(p) {
+            return Stand { place: p, end };
+        }
+        let next = turn(state, p, out, end);
+        p = next.place;
+        end = next.end;
+    }
+    Stand { place: p, end }
 }

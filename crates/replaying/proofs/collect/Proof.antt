@@ -1,59 +1,41 @@
+-- `replaying::collect` meets its contract.
+use Rattle.replaying.proofs.Steps.{collected-event, collected-none}
 use Rattle.resting.proofs.Bytes.{collect-is-value}
-use mir.Val.{toZ, ofZ, SFits}
-use mathlib.Core.Path.{_≡_, refl, sym, ap, _∙_, subst}
-use mathlib.Core.Bool.{Bool, true, false}
-use mathlib.Core.List.{List, [], _∷_, _++_}
-use Prim.Native.Nat.{ℕ, _+_, _-_, _<_, _≤_}
+use mir.Val.{SFits}
+use mathlib.Core.Path.{refl, sym, _∙_}
+use Prim.Native.Nat.{_-_}
 use denote.Ref.{now}
 use mir.Syntax.{w64}
-use mir.Val.{toZ, ofZ}
 use mir.Facts.{toZ-ofZ}
-use Rattle.machine.specs.Calls.{reading, progress, running, collecting}
+use Rattle.machine.specs.Calls.{collecting}
 use Rattle.engine.specs.Reply.{reply}
-use Rattle.printer.specs.Print.{Put, eventText}
-use Rattle.printer.proofs.Puts.{put-none, put-length}
-use Rattle.replaying.specs.declared.Place.the-variants.{Run, Collect, Rest}
-use Rattle.replaying.specs.Replay.{callOf, refusal, turn, afterOutput, roundAfter, collected, Turned}
-use Rattle.replaying.proofs.Steps.{refusal-none, refusal-some, after-next, after-last, collected-event, collected-none}
+use Rattle.printer.proofs.Puts.{put-none}
 use borrow.Author.Needs.{needs}
 use native.Mathlib.Omega.{arith}
 use Rattle.replaying.proofs.collect.Statement.{statement}
 use Rattle.replaying.proofs.collect.Tie as tie
-use Rattle.replaying.proofs.collect.Reads as reads
-use Rattle.replaying.proofs.collect.Lts as lts
-use Rattle.engine.proofs.tessla_collect.Reads as tessla-collect-reads
-use Rattle.printer.proofs.put_event.Reads as put-event-reads
-use Rattle.replaying.proofs.after_output.Reads as after-output-reads
 
--- src/lib.rt:74:9
 tessla-collect-requires : tie.Need-tessla-collect-requires
 tessla-collect-requires c κs = search needs
 
--- src/lib.rt:76:13
 put-event-requires : tie.Need-put-event-requires
 put-event-requires c κs = search needs
 
--- src/lib.rt:77:9
 same-length : tie.Need-same-length
 same-length c = search needs
 
--- src/lib.rt:77:9
 same-length-2 : tie.Need-same-length-2
 same-length-2 c = search needs
 
--- src/lib.rt:77:9
 returns : tie.Need-returns
 returns c = let f : SFits w64 (c .before .before .before .before .before .before .before .tessla-collect .last .1 .1 .1 .0) = record { sfits = rw (c .before .before .before .before .before .before .before .tessla-collect .ensures .1 .1 .0) (collect-is-value (now (c .before .before .before .before .before .before .before .before .before .before .before .before .before .args .state)) (λ j. omega (arith, c .before .before .before .before .before .before .before .before .before .before .before .before .slice-known .given j)) (c .before .before .before .before .before .before .before .before .before .before .before .before .before .args .stream)) } in rw (collected-event (c .before .before .before .before .before .before .before .before .before .before .before .before .before .args .stream) (c .before .before .before .before .before .before .before .before .before .before .before .before .before .args .busy) (reply (collecting (c .before .before .before .before .before .before .before .before .before .before .before .before .before .args .stream)) (now (c .before .before .before .before .before .before .before .before .before .before .before .before .before .args .state))) (sym (c .before .before .before .before .before .before .before .tessla-collect .ensures .0) ∙ c .before .before .before .before .if1 .taken)) (record { place = refl; put = rw (sym (c .before .before .before .before .before .before .before .tessla-collect .ensures .1 .0), sym (c .before .before .before .before .before .before .before .tessla-collect .ensures .1 .1 .0)) (rw (toZ-ofZ f) at (c .before .before .put-event .ensures)); state = c .before .before .before .before .before .before .before .tessla-collect .ensures .1 .1 .1 })
 
--- src/lib.rt:83:16
 after-output-requires : tie.Need-after-output-requires
 after-output-requires c κs = search needs
 
--- src/lib.rt:68:1
 same-length-3 : tie.Need-same-length-3
 same-length-3 c = search needs
 
--- src/lib.rt:68:1
 returns-2 : tie.Need-returns-2
 returns-2 c = rw (collected-none (c .before .before .before .before .before .before .before .before .before .before .args .stream) (c .before .before .before .before .before .before .before .before .before .before .args .busy) (reply (collecting (c .before .before .before .before .before .before .before .before .before .before .args .stream)) (now (c .before .before .before .before .before .before .before .before .before .before .args .state))) (λ e. c .before .if1 .left (c .before .before .before .before .tessla-collect .ensures .0 ∙ e))) (record { place = c .after-output .ensures; put = put-none _ _; state = c .before .before .before .before .tessla-collect .ensures .1 .1 .1 })
 
