@@ -2,6 +2,7 @@
 use Prim.Native.Nat.{ℕ, _+_, _*_, _-_, _<_, _≤_}
 use mathlib.Core.Path.{_≡_, sym}
 use mathlib.Core.Bool.{Bool, true, false, true≢false}
+use mathlib.Core.Logic.{_⊎_, inl, inr}
 use mathlib.Core.List.{List}
 use native.Mathlib.Omega.{arith}
 use native.Mathlib.Decide.{decLt, ℕ-discrete}
@@ -75,3 +76,13 @@ module _ (s : List ℕ) (b : Bytes s) where
 
 pub turn-nearer : (q : Place) (t : List ℕ) → Bytes t → isRest q ≡ false → {o : List ℕ} {end : ℕ} {r : Stand} {o′ t′ : List ℕ} → Turned (step q t) o end r o′ t′ → rank (r .place) t′ < rank q t
 turn-nearer q t b e x = rw (x .place, x .state) (step-falls t b q e)
+
+-- ## A loop of turns: nothing was done yet, or the replay is nearer to rest
+
+pub began : {A B : Type 0} → A ⊎ B → (B → ⊥) → A
+began (inl a) n = a
+began (inr b) n = absurd (n b)
+
+pub further : {p q : Place} {s t : List ℕ} {end m : ℕ} → (rank q t < rank p s) ⊎ ((end ≡ 0) × (q ≡ p) × (t ≡ s)) → m < rank q t → m < rank p s
+further (inl h) k = omega arith
+further (inr h) k = rw (sym (h .1), sym (h .2)) k

@@ -143,7 +143,7 @@ pub fn fill(state: &mut [u8], place: Place, out: &mut [u8]) -> Stand
     requires { ⌜ eventRoom ≤ length (now out) ⌝ }
     ensures fits { λ r. ⌜ r .end ≤ length (now (out .exit)) ⌝ }
     ensures prints { λ r. ⌜ Prints place (now (state .entry)) (take (r .end) (now (out .exit))) (r .place) (now (state .exit)) ⌝ }
-    ensures nearer { λ r. ⌜ (isRest (r .place) ≡ false → rank (r .place) (now (state .exit)) < rank place (now (state .entry))) ⌝ }
+    ensures nearer { λ r. ⌜ (isRest place ≡ false → rank (r .place) (now (state .exit)) < rank place (now (state .entry))) ⌝ }
 {
     let mut p = place;
     let mut end: usize = 0;
