@@ -156,7 +156,7 @@ cleared n h =
 
 -- ---- the whole text
 
-many : (ds : List Declared) → length (loaded ds) ≡ length ds
+pub many : (ds : List Declared) → length (loaded ds) ≡ length ds
 unfolding loaded
 many ds = length-map ds fresh
 
