@@ -1,9 +1,9 @@
 // Replays a trace on a plan: reads plan.txt and trace.txt of the working folder, or of the folder that the first argument
 // names, and prints every event of every output.
-ghost use Prim.Native.Nat.{_<_, _≤_};
+ghost use Prim.Native.Nat.{_-_, _<_, _≤_};
 ghost use mathlib.Core.Path.{_≡_};
 ghost use mathlib.Core.Bool.{false};
-ghost use lib.ListN.{length};
+ghost use lib.ListN.{length, take, drop};
 ghost use Rattle.replaying.specs.Rank.{isRest, rank};
 ghost use Rattle.replay.specs.Within.{within};
 use libc::STDOUT_FILENO;
@@ -77,7 +77,8 @@ fn replay_line(state: &mut [u8], text: &[u8], at: usize) -> After
 // Sees that a whole line is in the buffer, if the trace has one more: moves what is left to the start and reads on behind it.
 fn ready(fd: i32, buffer: &mut [u8], from: usize, end: usize) -> Window
     requires { ⌜ (from ≤ end) × (end ≤ length (now buffer)) ⌝ }
-    ensures { λ r. ⌜ (r .from ≤ r .end) × (r .end ≤ length (now (buffer .exit))) ⌝ }
+    ensures inside { λ r. ⌜ (r .from ≤ r .end) × (r .end ≤ length (now (buffer .exit))) ⌝ }
+    ensures kept { λ r. ⌜ take (end - from) (drop (r .from) (now (buffer .exit))) ≡ take (end - from) (drop from (now (buffer .entry))) ⌝ }
 {
     let left = end - from;
     if LINE <= left {

@@ -60,7 +60,7 @@ loop-less : tie.Need-loop-less Inv-loop μ-loop
 loop-less c = omega arith
 
 loop-again : tie.Need-loop-again Inv-loop μ-loop
-loop-again c = let w : c .before .next .given .0 .0 ≤ length (take (c .before .before .before .before .before .before .before .before .before .before .ready .result .end) (c .before .before .before .before .before .before .before .before .before .before .ready .last .1 .0)) = rw (c .before .next .given .1) at (c .before .before .before .before .before .replay-line .ensures) in let l = length-take-le (c .before .before .before .before .before .before .before .before .before .before .ready .result .end) (c .before .before .before .before .before .before .before .before .before .before .ready .last .1 .0) (omega arith) in (omega arith, c .before .before .before .before .before .before .before .before .before .before .ready .ensures .1, c .before .before .before .before .before .before .before .before .before .before .before .before .before .loop .inv .2 ∙ sym (c .before .before .before .before .before .before .before .before .before .before .ready .kept .1 .0), c .before .before .before .before .before .replay-line .kept .0 ∙ c .before .before .before .before .before .before .before .before .before .before .before .before .before .loop .inv .3)
+loop-again c = let w : c .before .next .given .0 .0 ≤ length (take (c .before .before .before .before .before .before .before .before .before .before .ready .result .end) (c .before .before .before .before .before .before .before .before .before .before .ready .last .1 .0)) = rw (c .before .next .given .1) at (c .before .before .before .before .before .replay-line .ensures) in let l = length-take-le (c .before .before .before .before .before .before .before .before .before .before .ready .result .end) (c .before .before .before .before .before .before .before .before .before .before .ready .last .1 .0) (omega arith) in (omega arith, c .before .before .before .before .before .before .before .before .before .before .ready .ensures .0 .1, c .before .before .before .before .before .before .before .before .before .before .before .before .before .loop .inv .2 ∙ sym (c .before .before .before .before .before .before .before .before .before .before .ready .kept .1 .0), c .before .before .before .before .before .replay-line .kept .0 ∙ c .before .before .before .before .before .before .before .before .before .before .before .before .before .loop .inv .3)
 
 same-length-3 : tie.Need-same-length-3 Inv-loop μ-loop
 same-length-3 c = c .before .loop .inv .3
