@@ -22,7 +22,7 @@ frame-then M N O f g = record {
   nexts = λ i. g .nexts i ∙ f .nexts i;
 }
 
-absorbed-frame : (s : ℕ) (M : State) → s < length M → Frame M (absorbed s M)
+pub absorbed-frame : (s : ℕ) (M : State) → s < length M → Frame M (absorbed s M)
 unfolding absorbed
 absorbed-frame s M l = record {
   size = length-set M s c;
@@ -35,7 +35,7 @@ absorbed-frame s M l = record {
     c : Cell
     c = let o = cellAt M s in withKept (absorb (o .eqn) o (cellAt M (argA (o .eqn))) (cellAt M (argB (o .eqn)))) o
 
-tell-frame : (s : ℕ) (es : List Event) (M : State) → Frame M (tell s es M)
+pub tell-frame : (s : ℕ) (es : List Event) (M : State) → Frame M (tell s es M)
 unfolding tell told
 tell-frame s [] M = record { size = refl; eqns = λ i. refl; outs = λ i. refl; bounds = λ i. refl; nexts = λ i. refl }
 tell-frame s (e ∷ es) M = record {

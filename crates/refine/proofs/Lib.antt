@@ -3,3 +3,4 @@ pub mod Queues
 pub mod Whole
 pub mod Calls
 pub mod Collects
+pub mod Moves

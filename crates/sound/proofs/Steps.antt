@@ -187,11 +187,11 @@ pub data Comes (y : ℕ) (c : Cell) : List Event → Type 0 where
   silence : Comes y c []
   one-event : (t : ℕ) (v : ℤ) → c .bound ≤ t → y ≡ suc t → IsValue v → length (c .held) < room → Comes y c (ev t v ∷ [])
 
-comes-values : {y : ℕ} {c : Cell} {new : List Event} → Comes y c new → Values new
+pub comes-values : {y : ℕ} {c : Cell} {new : List Event} → Comes y c new → Values new
 comes-values silence = tt
 comes-values (one-event t v l e h k) = (h, tt)
 
-advance-sound : (n y : ℕ) (c : Cell) (new : List Event) → SoundCell n c → c .bound < y → y ≤ horizon → Comes y c new → SoundCell n (advance y new c)
+pub advance-sound : (n y : ℕ) (c : Cell) (new : List Event) → SoundCell n c → c .bound < y → y ≤ horizon → Comes y c new → SoundCell n (advance y new c)
 advance-sound n y c new ok l h cm =
     record {
       arguments = ok .arguments;
@@ -237,7 +237,7 @@ absorb-kept (delay _ _) o a b z ok ha =
 absent-holds : Holds absent
 absent-holds t = tt
 
-cell-holds : (M : State) → Sound M → (i : ℕ) → Holds (cellAt M i)
+pub cell-holds : (M : State) → Sound M → (i : ℕ) → Holds (cellAt M i)
 cell-holds M ok i = go (decLt i (length M))
   where
     go : Dec (i < length M) → Holds (cellAt M i)

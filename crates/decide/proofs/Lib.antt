@@ -1,0 +1,3 @@
+pub mod Sparse
+pub mod Steps
+pub mod Searches

@@ -1,0 +1,127 @@
+-- What is brought up to date keeps within the widths of the record's fields.
+use Prim.Native.Nat.{ℕ, zero, suc, pred, _+_, _-_, _^_, _<_, _≤_, min, max}
+use mathlib.Core.Path.{_≡_, refl, sym, ap, _∙_}
+use mathlib.Core.Bool.{Bool, true, false, cond}
+use mathlib.Core.Option.{Option, none, some}
+use mathlib.Core.List.{List, [], _∷_, map}
+use native.Mathlib.Omega.{arith}
+use lib.Dec.{eqb, lit<, lit≤}
+use lib.IntN.{ℤ}
+use lib.ListN.{length, take}
+use mir.Syntax.{w64}
+use mir.Val.{toZ}
+use mir.Facts.{sfits-toZ}
+use Rattle.meaning.specs.Plan.{Eqn, input, nil, unit, one, two, last, delay}
+use Rattle.meaning.specs.Events.{Event, Stream, found, orElse, horizon}
+use Rattle.meaning.specs.Table.{latest}
+use Rattle.machine.specs.State.{Cell, Kept, room, noKept}
+use Rattle.machine.specs.Reach.{view, pastLatest, valueAt}
+use Rattle.machine.specs.Step.{later, absorb}
+use Rattle.machine.proofs.Window.{past-le}
+use Rattle.le.proofs.RoundTrip.{All}
+use Rattle.layout.specs.Record.{Slot, Raw, num, opF, countF, flagF, priorFlagF, boundF, keptF, valueF, priorF}
+use Rattle.layout.proofs.Laws.{RawOk, SlotOk, num-small, num-ok}
+use Rattle.cells.specs.View.{flagOf, bitsOf}
+use Rattle.cells.specs.Back.{optional, eventOf, heldOf, keptOf, toCell}
+use Rattle.cells.specs.Sound.{IsValue, IsOptional}
+use Rattle.cells.proofs.Widths.{bits-below}
+use Rattle.sound.proofs.Values.{or-value, cond-value, latest-value, Holds}
+use Rattle.look.specs.Look.{lookOf}
+use Rattle.absorb.specs.Keep.{keptRow}
+use Rattle.absorb.proofs.Laws.{kept-last, kept-delay, kept-else, last-ok, value-ok, prior-ok}
+use Rattle.absorb.specs.Keep.{lastKept, valueKept, priorKept, delayKept}
+use Rattle.step.proofs.Leaves.{cond-ok}
+
+-- ---- values read from a record
+
+bits-value : (u : ℕ) → u < 2 ^ 64 → IsValue (toZ w64 u)
+bits-value u h = sfits-toZ {w = w64} {n = u} (record { fits = h }) .sfits
+
+optional-value : (h u : ℕ) → u < 2 ^ 64 → IsOptional (optional h u)
+optional-value h u l = cond-value (eqb h 0) none (some (toZ w64 u)) tt (bits-value u l)
+
+slots-value : (c : ℕ) (l : List Slot) → All SlotOk l → (t : ℕ) → IsOptional (found (map eventOf (take c l)) t)
+slots-value zero l h t = tt
+slots-value (suc c) [] h t = tt
+slots-value (suc c) (e ∷ l) h t =
+    cond-value (eqb (e .stamp) t) (some (toZ w64 (e .value))) (found (map eventOf (take c l)) t) (bits-value (e .value) (h .0 .1)) (slots-value c l (h .1) t)
+
+pub look-holds : (r : Raw) → RawOk r → Holds (lookOf r)
+unfolding lookOf toCell heldOf
+look-holds r ok = slots-value (min (num countF r) room) (r .slots) (ok .good)
+
+-- what may be stored as kept data
+pub record KeptFits (k : Kept) : Type 0 where
+  pub prev : IsOptional (k .prev)
+  pub since : k .since ≤ horizon
+  pub value : IsOptional (k .value)
+  pub prior : IsOptional (k .prior)
+
+kept-of : (r : Raw) → RawOk r → IsOptional (keptOf r .prev) × IsOptional (keptOf r .value) × IsOptional (keptOf r .prior)
+unfolding keptOf
+kept-of r ok = go (eqb (num opF r) 18) (eqb (num opF r) 19)
+  where
+    p : ℕ
+    p = num keptF r
+
+    go : (x y : Bool)
+        → (let k = cond x (record { prev = optional (num flagF r) (num keptF r); since = 0; value = none; prior = none }) (cond y (record { prev = none; since = num keptF r; value = optional (num flagF r) (num valueF r); prior = optional (num priorFlagF r) (num priorF r) }) noKept) in
+        IsOptional (k .prev) × IsOptional (k .value) × IsOptional (k .prior))
+    go true y = (optional-value (num flagF r) (num keptF r) (num-small r keptF ok (lit< tt)), tt, tt)
+    go false true = (tt, optional-value (num flagF r) (num valueF r) (num-small r valueF ok (lit< tt)), optional-value (num priorFlagF r) (num priorF r) (num-small r priorF ok (lit< tt)))
+    go false false = (tt, tt, tt)
+
+look-kept : (r : Raw) → RawOk r → KeptFits (lookOf r .kept)
+unfolding lookOf toCell
+look-kept r ok = let k = kept-of r ok in record { prev = k .0; since = omega arith; value = k .1; prior = k .2 }
+
+look-bound : (r : Raw) → lookOf r .bound ≤ horizon
+unfolding lookOf
+look-bound r = omega arith
+
+absorb-fits : (e : Eqn) (o a b : Cell) → o .bound ≤ horizon → KeptFits (o .kept) → Holds a → KeptFits (absorb e o a b)
+absorb-fits input o a b h k ha = k
+absorb-fits nil o a b h k ha = k
+absorb-fits unit o a b h k ha = k
+absorb-fits (one f _) o a b h k ha = k
+absorb-fits (two g _ _) o a b h k ha = k
+absorb-fits (last _ _) o a b h k ha =
+    record { prev = or-value (latest (view a) (o .bound)) (o .kept .prev) (latest-value (view a) ha (o .bound)) (k .prev); since = k .since; value = k .value; prior = k .prior }
+absorb-fits (delay _ _) o a b h k ha =
+    let s = k .since in
+    let p = past-le (view b) (o .bound) in
+    let q = past-le (view o) (o .bound) in
+    record {
+      prev = k .prev;
+      since = omega arith;
+      value = cond-value (eqb (later o b) 0) none (valueAt o a (later o b)) tt
+          (or-value (view a (pred (later o b))) (cond (eqb (later o b) (o .kept .since)) (o .kept .value) none) (ha (pred (later o b))) (cond-value (eqb (later o b) (o .kept .since)) (o .kept .value) none (k .value) tt));
+      prior = ha (pred (o .bound));
+    }
+
+pub absorbed-fits : (r ra rb : Raw) → RawOk r → RawOk ra → KeptFits (absorb (lookOf r .eqn) (lookOf r) (lookOf ra) (lookOf rb))
+absorbed-fits r ra rb ok oka = absorb-fits (lookOf r .eqn) (lookOf r) (lookOf ra) (lookOf rb) (look-bound r) (look-kept r ok) (look-holds ra oka)
+
+-- ---- stored
+
+flag-below : (o : Option ℤ) → flagOf o < 256
+flag-below none = lit< tt
+flag-below (some v) = lit< tt
+
+bits-small : (o : Option ℤ) → IsOptional o → bitsOf o < 2 ^ 64
+bits-small none h = lit< tt
+bits-small (some v) h = bits-below v h
+
+pub kept-ok : (k : Kept) (r : Raw) → KeptFits k → RawOk r → RawOk (keptRow k r)
+unfolding keptRow delayKept
+kept-ok k r f ok =
+    let s = f .since in
+    let r₁ = Rattle.layout.specs.Record.withNum keptF (k .since) r in
+    let r₂ = valueKept (flagOf (k .value)) (bitsOf (k .value)) r₁ in
+    let last′ = lastKept (flagOf (k .prev)) (bitsOf (k .prev)) r in
+    let delay′ = priorKept (flagOf (k .prior)) (bitsOf (k .prior)) r₂ in
+    cond-ok (eqb (num opF r) 18) last′ (cond (eqb (num opF r) 19) delay′ r)
+    (last-ok (flagOf (k .prev)) (bitsOf (k .prev)) r (flag-below (k .prev)) (bits-small (k .prev) (f .prev)) ok)
+    (cond-ok (eqb (num opF r) 19) delay′ r
+    (prior-ok (flagOf (k .prior)) (bitsOf (k .prior)) r₂ (flag-below (k .prior)) (bits-small (k .prior) (f .prior))
+    (value-ok (flagOf (k .value)) (bitsOf (k .value)) r₁ (flag-below (k .value)) (bits-small (k .value) (f .value)) (num-ok r keptF (k .since) ok (omega arith)))) ok)

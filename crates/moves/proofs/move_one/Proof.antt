@@ -1,0 +1,158 @@
+use Prim.Native.Nat.{ℕ, suc, _+_, _-_, _*_, _<_, _≤_, min}
+use mathlib.Core.Path.{_≡_, refl, sym, ap, ap₂, _∙_}
+use mathlib.Core.Bool.{Bool, true, false, cond, not, _&&_}
+use mathlib.Core.List.{List}
+use borrow.Author.Tests.{lt-ltb, le-ltb, eq-eqb, ne-eqb, le-leb, lt-leb}
+use borrow.Rule.Slice.PartMut.{midOf, putMid}
+use lib.Dec.{ltb, leb, eqb}
+use denote.Ref.{now}
+use mir.Syntax.{w64}
+use mir.Val.{ofZ, toZ}
+use mir.Facts.{toZ-ofZ}
+use Rattle.meaning.specs.Events.{horizon}
+use Rattle.machine.specs.State.{room, Cell, Kept}
+use Rattle.machine.specs.Reach as reach
+use Rattle.machine.specs.Step as machine
+use Rattle.layout.specs.Record.{Raw, Raws, decRaw, encRaw, encode, decode, num, withNum, rowAt, change, changeAll, opF, aF, bF, countF, boundF}
+use Rattle.layout.proofs.Laws.{row-mid, lent, leaf-none, encode-decode}
+use Rattle.layout.proofs.Loops.{row-len}
+use Rattle.look.specs.Look.{lookOf, keptIn}
+use Rattle.decide.specs.declared.Next as code
+use Rattle.decide.specs.Near.{toNext, knownTo}
+use Rattle.absorb.specs.Keep.{keptRow}
+use Rattle.step.specs.Step.{pushed, toldRow, releasedRow}
+use Rattle.moves.specs.Move.{argIn, ownIn, firstIn, secondIn, aheadRaw, boundRaw, canRaw, absorbedRaw, releasedArgs, releasedAll, silentRaw, eventRaw, stepRaw, movedRaw}
+use Rattle.moves.proofs.Steps
+use Rattle.moves.proofs.Decides
+use borrow.Author.Needs.{needs}
+use native.Mathlib.Omega.{arith}
+use Rattle.moves.proofs.move_one.Statement.{statement}
+use Rattle.moves.proofs.move_one.Tie as tie
+use Rattle.moves.proofs.move_one.Reads as reads
+use Rattle.moves.proofs.move_one.Lts as lts
+use Rattle.layout.proofs.byte_at.Reads as byte-at-reads
+use Rattle.layout.proofs.word_at.Reads as word-at-reads
+use Rattle.moves.proofs.ahead.Reads as ahead-reads
+use Rattle.moves.proofs.bound_after.Reads as bound-after-reads
+use Rattle.moves.proofs.make.Reads as make-reads
+
+-- src/lib.rt:161:14
+mul-at : tie.Need-mul-at
+mul-at c = search needs
+
+-- src/lib.rt:162:15
+add-end : tie.Need-add-end
+add-end c = search needs
+
+-- src/lib.rt:163:30
+sub-byte-at : tie.Need-sub-byte-at
+sub-byte-at c = search needs
+
+-- src/lib.rt:163:30
+part-byte-at-start : tie.Need-part-byte-at-start
+part-byte-at-start c = search needs
+
+-- src/lib.rt:163:30
+part-byte-at-end : tie.Need-part-byte-at-end
+part-byte-at-end c = search needs
+
+-- src/lib.rt:163:9
+byte-at-requires : tie.Need-byte-at-requires
+byte-at-requires c κs = search needs
+
+-- src/lib.rt:165:9
+same-length : tie.Need-same-length
+same-length c = search needs
+
+-- src/lib.rt:165:9
+returns : tie.Need-returns
+returns c = let a = c .before .before .before .before .before .args in let s = now (a .state) in let i = a .i in let k = i * 256 + 256 - i * 256 in let mid : rowAt (decode (a .n) s) i ≡ decRaw (midOf (i * 256) k s) = row-mid (a .n) s i k (omega arith) (omega arith) in let r = rowAt (decode (a .n) s) i in let st = decode (a .n) s in let o : c .before .byte-at .result ≡ num opF r = c .before .byte-at .ensures .0 ∙ ap (num opF) (sym mid) in let e = Decides.can-input (a .n) i st (sym o ∙ c .if1 .taken) in (sym e, sym (rw e))
+
+-- src/lib.rt:167:32
+sub-byte-at-2 : tie.Need-sub-byte-at-2
+sub-byte-at-2 c = search needs
+
+-- src/lib.rt:167:32
+part-byte-at-start-2 : tie.Need-part-byte-at-start-2
+part-byte-at-start-2 c = search needs
+
+-- src/lib.rt:167:32
+part-byte-at-end-2 : tie.Need-part-byte-at-end-2
+part-byte-at-end-2 c = search needs
+
+-- src/lib.rt:167:9
+byte-at-requires-2 : tie.Need-byte-at-requires-2
+byte-at-requires-2 c κs = search needs
+
+-- src/lib.rt:168:33
+sub-word-at : tie.Need-sub-word-at
+sub-word-at c = search needs
+
+-- src/lib.rt:168:33
+part-word-at-start : tie.Need-part-word-at-start
+part-word-at-start c = search needs
+
+-- src/lib.rt:168:33
+part-word-at-end : tie.Need-part-word-at-end
+part-word-at-end c = search needs
+
+-- src/lib.rt:168:9
+word-at-requires : tie.Need-word-at-requires
+word-at-requires c κs = search needs
+
+-- src/lib.rt:169:9
+ahead-requires : tie.Need-ahead-requires
+ahead-requires c κs = search needs
+
+-- src/lib.rt:170:8
+bound-after-requires : tie.Need-bound-after-requires
+bound-after-requires c κs = search needs
+
+-- src/lib.rt:171:9
+same-length-2 : tie.Need-same-length-2
+same-length-2 c = search needs
+
+-- src/lib.rt:171:9
+returns-2 : tie.Need-returns-2
+returns-2 c = let a = c .before .before .before .before .before .before .before .before .before .before .before .before .before .before .before .args in let s = now (a .state) in let i = a .i in let k = i * 256 + 256 - i * 256 in let mid : rowAt (decode (a .n) s) i ≡ decRaw (midOf (i * 256) k s) = row-mid (a .n) s i k (omega arith) (omega arith) in let r = rowAt (decode (a .n) s) i in let st = decode (a .n) s in let o : c .before .before .before .before .before .before .before .before .before .before .before .byte-at .result ≡ num opF r = c .before .before .before .before .before .before .before .before .before .before .before .byte-at .ensures .0 ∙ ap (num opF) (sym mid) in let h : c .before .before .before .before .before .before .before .byte-at2 .result ≡ num countF r = c .before .before .before .before .before .before .before .byte-at2 .ensures .0 ∙ ap (num countF) (sym mid) in let y : c .before .before .before .before .word-at .result ≡ num boundF r = c .before .before .before .before .word-at .ensures ∙ ap (num boundF) (sym mid) in let u : c .before .bound-after .result ≡ boundRaw (aheadRaw (a .n) i st) (num countF r) = c .before .bound-after .ensures .0 ∙ ap₂ boundRaw (c .before .before .ahead .ensures .0) h in let e = Decides.can-stays (a .n) i st (sym u ∙ c .if2 .taken ∙ y) in (sym e, sym (rw e))
+
+-- src/lib.rt:173:5
+make-requires : tie.Need-make-requires
+make-requires c κs = search needs
+
+-- src/lib.rt:156:1
+same-length-3 : tie.Need-same-length-3
+same-length-3 c = search needs
+
+-- src/lib.rt:156:1
+returns-3 : tie.Need-returns-3
+unfolding movedRaw
+returns-3 c = let a = c .before .before .before .before .before .before .before .before .before .before .before .before .before .before .before .before .before .before .before .args in let s = now (a .state) in let i = a .i in let k = i * 256 + 256 - i * 256 in let mid : rowAt (decode (a .n) s) i ≡ decRaw (midOf (i * 256) k s) = row-mid (a .n) s i k (omega arith) (omega arith) in let r = rowAt (decode (a .n) s) i in let st = decode (a .n) s in let o : c .before .before .before .before .before .before .before .before .before .before .before .before .before .before .before .byte-at .result ≡ num opF r = c .before .before .before .before .before .before .before .before .before .before .before .before .before .before .before .byte-at .ensures .0 ∙ ap (num opF) (sym mid) in let h : c .before .before .before .before .before .before .before .before .before .before .before .byte-at2 .result ≡ num countF r = c .before .before .before .before .before .before .before .before .before .before .before .byte-at2 .ensures .0 ∙ ap (num countF) (sym mid) in let y : c .before .before .before .before .before .before .before .before .word-at .result ≡ num boundF r = c .before .before .before .before .before .before .before .before .word-at .ensures ∙ ap (num boundF) (sym mid) in let u : c .before .before .before .before .before .bound-after .result ≡ boundRaw (aheadRaw (a .n) i st) (num countF r) = c .before .before .before .before .before .bound-after .ensures .0 ∙ ap₂ boundRaw (c .before .before .before .before .before .before .ahead .ensures .0) h in let e = Decides.can-moves (a .n) i st (λ q. c .before .before .before .before .before .before .before .before .before .before .before .before .before .before .if1 .left (o ∙ q)) (λ q. c .before .before .before .before .if2 .left (u ∙ q ∙ sym y)) in (sym e, c .before .before .make .ensures ∙ ap (encode (a .n)) (ap₂ (λ (x : reach.Next) (m : ℕ). stepRaw (a .n) i x m st) (c .before .before .before .before .before .before .ahead .ensures .0) h) ∙ sym (rw e))
+
+pub move-one-spec : {M : Type 1} → statement M
+move-one-spec =
+    tie.close
+    (tie.spec
+    mul-at
+    add-end
+    sub-byte-at
+    part-byte-at-start
+    part-byte-at-end
+    byte-at-requires
+    same-length
+    returns
+    sub-byte-at-2
+    part-byte-at-start-2
+    part-byte-at-end-2
+    byte-at-requires-2
+    sub-word-at
+    part-word-at-start
+    part-word-at-end
+    word-at-requires
+    ahead-requires
+    bound-after-requires
+    same-length-2
+    returns-2
+    make-requires
+    same-length-3
+    returns-3)
