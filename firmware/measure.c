@@ -1,0 +1,172 @@
+/*
+ * What the calls cost on the board: each measured call stands between gauge_begin and gauge_end, which a plugin of the
+ * emulator looks for, and is counted by SysTick as well. One line each: plan, what, number returned, instructions.
+ */
+#include <string.h>
+
+#include "board.h"
+#include "plans.h"
+#include "tessla.h"
+
+static uint8_t state[TESSLA_STATE_LENGTH] __attribute__((aligned(8)));
+static uint8_t text[TESSLA_TEXT_LIMIT];
+static uint32_t own; /* instructions of the gauge itself */
+
+static void put_number(uint64_t x) {
+    uint8_t bytes[24];
+    struct text t = { bytes, 0 };
+    add_number(&t, (int64_t)x);
+    bytes[t.length] = 0;
+    put((const char *)bytes);
+}
+
+static const char *plan, *what;
+static uint32_t before;
+__attribute__((noinline)) void gauge_begin(void) { before = count_read(); }
+__attribute__((noinline)) uint32_t gauge_end(void) { return count_between(before, count_read()); }
+
+static void say(const char *kind, uint32_t number, uint32_t count) {
+    put(kind);
+    put(plan);
+    put("|");
+    put(what);
+    put("|");
+    put_number(number);
+    put("|");
+    put_number(count);
+    put("\n");
+}
+
+#define MEASURE(name, call)                \
+    do {                                   \
+        uint32_t number, count;            \
+        what = name;                       \
+        gauge_begin();                     \
+        number = (call);                   \
+        count = gauge_end();               \
+        say("zone|", number, count - own); \
+    } while (0)
+
+#define S state, TESSLA_STATE_LENGTH
+
+/* offer, run to rest and all collecting, each call with its own validation */
+static uint32_t to_rest(const struct row *rows, uint32_t n, uint32_t input, uint32_t t, int64_t v) {
+    uint32_t moves, stamp, events = 0;
+    int64_t value;
+    if (tessla_offer_reading(S, input, t, v) != 0) return 99;
+    do {
+        if (tessla_run(S, 100000, &moves) != 0) return 98;
+        for (uint32_t i = 0; i < n; i++)
+            if (rows[i].out)
+                while (tessla_collect(S, i, &stamp, &value) == 0) events++;
+    } while (moves == 100000);
+    return events;
+}
+
+static void progress_others(const struct row *rows, uint32_t n, uint32_t input, uint64_t bound) {
+    for (uint32_t i = 0; i < n; i++)
+        if (rows[i].op == IN && i != input) tessla_offer_progress(S, i, bound);
+}
+
+static void measure(const char *name, const struct row *rows, uint32_t n) {
+    uint32_t moves, stamp, first = 0, last = 0, length = write_plan(text, rows, n);
+    int64_t value;
+    for (uint32_t i = 0; i < n; i++) {
+        if (rows[i].op != IN && first == 0) first = i;
+        if (rows[i].out) last = i;
+    }
+    plan = name;
+    MEASURE("load", tessla_load(S, text, length));
+    MEASURE("validation, fresh", tessla_move(S, 99));
+    for (uint32_t t = 10; t < 50; t += 10) {
+        progress_others(rows, n, 0, t + 1);
+        to_rest(rows, n, 0, t, 5);
+    }
+    MEASURE("validation", tessla_move(S, 99));
+    MEASURE("run at rest", tessla_run(S, 100000, &moves));
+    MEASURE("progress", tessla_offer_progress(S, 0, 60));
+    tessla_run(S, 100000, &moves);
+    progress_others(rows, n, 0, 100);
+    tessla_run(S, 100000, &moves);
+    MEASURE("offer", tessla_offer_reading(S, 0, 70, 7));
+    MEASURE("one move", tessla_run(S, 1, &moves));
+    MEASURE("run to rest", tessla_run(S, 100000, &moves));
+    what = "moves";
+    say("moves|", moves + 1, 0);
+    MEASURE("collect", tessla_collect(S, last, &stamp, &value));
+    MEASURE("collect, nothing", tessla_collect(S, last, &stamp, &value));
+    progress_others(rows, n, 0, 150);
+    tessla_run(S, 100000, &moves);
+    MEASURE("a reading to rest, with collecting", to_rest(rows, n, 0, 140, 9));
+    MEASURE("move, cannot", tessla_move(S, first));
+}
+
+/* the visits of one nest box, six streams from s on */
+static uint32_t box(struct row *r, uint32_t s) {
+    uint8_t b = (uint8_t)s;
+    r[s + 0] = (struct row){ .op = IN };
+    r[s + 1] = (struct row){ .op = UNIT };
+    r[s + 2] = (struct row){ .op = SET, .a = b + 1 };
+    r[s + 3] = (struct row){ .op = LAST, .a = b + 5, .b = b };
+    r[s + 4] = (struct row){ .op = PLUS, .a = b + 3, .k = 1 };
+    r[s + 5] = (struct row){ .op = MERGE, .a = b + 4, .b = b + 2, .out = 1 };
+    return s + 6;
+}
+
+static void chain(struct row *r, uint32_t n, int up) {
+    memset(r, 0, n * sizeof *r);
+    if (up) {
+        r[0].op = IN;
+        for (uint32_t i = 1; i < n; i++) r[i] = (struct row){ .op = NEG, .a = (uint8_t)(i - 1) };
+        r[n - 1].out = 1;
+    } else {
+        for (uint32_t i = 1; i + 1 < n; i++) r[i] = (struct row){ .op = NEG, .a = (uint8_t)(i + 1) };
+        r[n - 1] = (struct row){ .op = NEG, .a = 0 };
+        r[1].out = 1;
+        r[0].op = IN;
+    }
+}
+
+static struct row rows[TESSLA_STREAM_LIMIT];
+
+/* boxes, then sums of their counts */
+static uint32_t boxes(uint32_t n, uint32_t streams) {
+    uint32_t s = 0, b = 0;
+    for (uint32_t i = 0; i < n; i++) s = box(rows, s);
+    while (s < streams) {
+        rows[s] = (struct row){ .op = MERGE, .a = (uint8_t)(6 * b + 5), .b = (uint8_t)(6 * (b + 1) + 5), .out = s + 1 == streams };
+        s++;
+        b = (b + 1) % (n - 1);
+    }
+    return s;
+}
+
+int main(void) {
+    uint32_t sp, deep;
+    count_start();
+    gauge_begin();
+    own = gauge_end();
+    __asm__ volatile("mov %0, sp" : "=r"(sp));
+    stack_paint();
+    box(rows, 0);
+    measure("6 streams, one box", rows, 6);
+    boxes(2, 16);
+    measure("16 streams, two boxes", rows, 16);
+    boxes(5, 32);
+    measure("32 streams, five boxes", rows, 32);
+    chain(rows, 16, 1);
+    measure("16 streams, a chain", rows, 16);
+    chain(rows, 32, 1);
+    measure("32 streams, a chain", rows, 32);
+    chain(rows, 32, 0);
+    measure("32 streams, a chain downward", rows, 32);
+    rows[0].op = IN;
+    rows[31].out = 1;
+    for (uint32_t i = 1; i < 32; i++) rows[i] = (struct row){ .op = PLUS, .k = i, .out = i == 31 };
+    measure("32 streams, 31 readers", rows, 32);
+    deep = sp - stack_mark();
+    put("stack|");
+    put_number(deep);
+    put("\n");
+    return 0;
+}
