@@ -12,8 +12,7 @@ void quit(int status);
 void stack_paint(void);
 uint32_t stack_mark(void);
 
-/* instructions, counted by SysTick under -icount shift=10; two readings may lie 1.3 million instructions apart */
+/* instructions since the start, counted by SysTick under -icount shift=10, up to 2.6 million */
 void count_start(void);
 uint32_t count_read(void);
-uint32_t count_between(uint32_t before, uint32_t after);
 #endif

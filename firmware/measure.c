@@ -9,6 +9,7 @@
 #include "tessla.h"
 
 static uint8_t state[TESSLA_STATE_LENGTH] __attribute__((aligned(8)));
+static uint8_t copy[TESSLA_STATE_LENGTH];
 static uint8_t text[TESSLA_TEXT_LIMIT];
 static uint32_t own; /* instructions of the gauge itself */
 
@@ -21,9 +22,8 @@ static void put_number(uint64_t x) {
 }
 
 static const char *plan, *what;
-static uint32_t before;
-__attribute__((noinline)) void gauge_begin(void) { before = count_read(); }
-__attribute__((noinline)) uint32_t gauge_end(void) { return count_between(before, count_read()); }
+__attribute__((noinline)) void gauge_begin(void) { count_start(); }
+__attribute__((noinline)) uint32_t gauge_end(void) { return count_read(); }
 
 static void say(const char *kind, uint32_t number, uint32_t count) {
     put(kind);
@@ -49,56 +49,71 @@ static void say(const char *kind, uint32_t number, uint32_t count) {
 
 #define S state, TESSLA_STATE_LENGTH
 
-/* offer, run to rest and all collecting, each call with its own validation */
-static uint32_t to_rest(const struct row *rows, uint32_t n, uint32_t input, uint32_t t, int64_t v) {
-    uint32_t moves, stamp, events = 0;
+/* one reading to rest: the offer, and a run until nothing moves */
+static uint32_t to_rest(uint32_t input, uint32_t t, int64_t v) {
+    uint32_t moves = 0;
+    if (tessla_offer_reading(S, input, t, v) != 0) return 0;
+    tessla_run(S, 100000, &moves);
+    return moves;
+}
+
+static uint32_t collect_all(const struct row *rows, uint32_t n) {
+    uint32_t stamp, events = 0;
     int64_t value;
-    if (tessla_offer_reading(S, input, t, v) != 0) return 99;
-    do {
-        if (tessla_run(S, 100000, &moves) != 0) return 98;
-        for (uint32_t i = 0; i < n; i++)
-            if (rows[i].out)
-                while (tessla_collect(S, i, &stamp, &value) == 0) events++;
-    } while (moves == 100000);
+    for (uint32_t i = 0; i < n; i++)
+        if (rows[i].out)
+            while (tessla_collect(S, i, &stamp, &value) == 0) events++;
     return events;
 }
 
-static void progress_others(const struct row *rows, uint32_t n, uint32_t input, uint64_t bound) {
-    for (uint32_t i = 0; i < n; i++)
-        if (rows[i].op == IN && i != input) tessla_offer_progress(S, i, bound);
+/* all other inputs are known up to this bound, and nothing can move or waits */
+static void others_known(const struct row *rows, uint32_t n, uint64_t bound) {
+    uint32_t moves;
+    for (uint32_t i = 1; i < n; i++)
+        if (rows[i].op == IN) tessla_offer_progress(S, i, bound);
+    do tessla_run(S, 100000, &moves);
+    while (collect_all(rows, n) != 0 || moves != 0);
 }
 
 static void measure(const char *name, const struct row *rows, uint32_t n) {
-    uint32_t moves, stamp, first = 0, last = 0, length = write_plan(text, rows, n);
+    uint32_t moves, stamp, mover = 0, last = 0, length = write_plan(text, rows, n);
     int64_t value;
-    for (uint32_t i = 0; i < n; i++) {
-        if (rows[i].op != IN && first == 0) first = i;
+    for (uint32_t i = 0; i < n; i++)
         if (rows[i].out) last = i;
-    }
     plan = name;
     MEASURE("load", tessla_load(S, text, length));
-    MEASURE("validation, fresh", tessla_move(S, 99));
     for (uint32_t t = 10; t < 50; t += 10) {
-        progress_others(rows, n, 0, t + 1);
-        to_rest(rows, n, 0, t, 5);
+        others_known(rows, n, t + 1);
+        to_rest(0, t, 5);
+        collect_all(rows, n);
     }
+    others_known(rows, n, 200);
     MEASURE("validation", tessla_move(S, 99));
     MEASURE("run at rest", tessla_run(S, 100000, &moves));
+    memcpy(copy, state, sizeof state);
     MEASURE("progress", tessla_offer_progress(S, 0, 60));
-    tessla_run(S, 100000, &moves);
-    progress_others(rows, n, 0, 100);
-    tessla_run(S, 100000, &moves);
+    memcpy(state, copy, sizeof state);
     MEASURE("offer", tessla_offer_reading(S, 0, 70, 7));
-    MEASURE("one move", tessla_run(S, 1, &moves));
-    MEASURE("run to rest", tessla_run(S, 100000, &moves));
-    what = "moves";
-    say("moves|", moves + 1, 0);
+    while (mover < n && tessla_move(S, mover) != 0) mover++;
+    memcpy(state, copy, sizeof state);
+    tessla_offer_reading(S, 0, 70, 7);
+    MEASURE("move", tessla_move(S, mover));
+    memcpy(state, copy, sizeof state);
+    MEASURE("a reading to rest", to_rest(0, 70, 7));
     MEASURE("collect", tessla_collect(S, last, &stamp, &value));
-    MEASURE("collect, nothing", tessla_collect(S, last, &stamp, &value));
-    progress_others(rows, n, 0, 150);
-    tessla_run(S, 100000, &moves);
-    MEASURE("a reading to rest, with collecting", to_rest(rows, n, 0, 140, 9));
-    MEASURE("move, cannot", tessla_move(S, first));
+}
+
+/* every stream holds 16 events that nobody collects */
+static void full(const struct row *rows, uint32_t n) {
+    uint32_t moves;
+    plan = "32 streams, all full";
+    tessla_load(S, text, write_plan(text, rows, n));
+    for (uint32_t t = 0; t < TESSLA_ROOM; t++) to_rest(0, 3 * t, 5);
+    MEASURE("validation", tessla_move(S, 99));
+    MEASURE("run at rest", tessla_run(S, 100000, &moves));
+    MEASURE("a reading to rest", to_rest(0, 70, 7));
+    MEASURE("run, all wait", tessla_run(S, 100000, &moves));
+    MEASURE("collecting all", collect_all(rows, n));
 }
 
 /* the visits of one nest box, six streams from s on */
@@ -113,23 +128,15 @@ static uint32_t box(struct row *r, uint32_t s) {
     return s + 6;
 }
 
-static void chain(struct row *r, uint32_t n, int up) {
-    memset(r, 0, n * sizeof *r);
-    if (up) {
-        r[0].op = IN;
-        for (uint32_t i = 1; i < n; i++) r[i] = (struct row){ .op = NEG, .a = (uint8_t)(i - 1) };
-        r[n - 1].out = 1;
-    } else {
-        for (uint32_t i = 1; i + 1 < n; i++) r[i] = (struct row){ .op = NEG, .a = (uint8_t)(i + 1) };
-        r[n - 1] = (struct row){ .op = NEG, .a = 0 };
-        r[1].out = 1;
-        r[0].op = IN;
-    }
+/* each stream reads the one before it */
+static void chain(struct row *r, uint32_t n) {
+    r[0] = (struct row){ .op = IN };
+    for (uint32_t i = 1; i < n; i++) r[i] = (struct row){ .op = NEG, .a = (uint8_t)(i - 1), .out = i + 1 == n };
 }
 
 static struct row rows[TESSLA_STREAM_LIMIT];
 
-/* boxes, then sums of their counts */
+/* boxes, then merges of their counts */
 static uint32_t boxes(uint32_t n, uint32_t streams) {
     uint32_t s = 0, b = 0;
     for (uint32_t i = 0; i < n; i++) s = box(rows, s);
@@ -143,7 +150,6 @@ static uint32_t boxes(uint32_t n, uint32_t streams) {
 
 int main(void) {
     uint32_t sp, deep;
-    count_start();
     gauge_begin();
     own = gauge_end();
     __asm__ volatile("mov %0, sp" : "=r"(sp));
@@ -154,16 +160,14 @@ int main(void) {
     measure("16 streams, two boxes", rows, 16);
     boxes(5, 32);
     measure("32 streams, five boxes", rows, 32);
-    chain(rows, 16, 1);
+    chain(rows, 16);
     measure("16 streams, a chain", rows, 16);
-    chain(rows, 32, 1);
+    chain(rows, 32);
     measure("32 streams, a chain", rows, 32);
-    chain(rows, 32, 0);
-    measure("32 streams, a chain downward", rows, 32);
-    rows[0].op = IN;
-    rows[31].out = 1;
     for (uint32_t i = 1; i < 32; i++) rows[i] = (struct row){ .op = PLUS, .k = i, .out = i == 31 };
     measure("32 streams, 31 readers", rows, 32);
+    for (uint32_t i = 1; i < 32; i++) rows[i].out = 1;
+    full(rows, 32);
     deep = sp - stack_mark();
     put("stack|");
     put_number(deep);

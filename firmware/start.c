@@ -25,16 +25,18 @@ void quit(int status) {
 
 /*
  * SysTick counts the core clock down, 80 ns a tick after reset on this board. Under -icount shift=10 an instruction takes
- * 1024 ns, 12.8 ticks: ticks * 5 / 64, rounded, is exact.
+ * 1024 ns, 12.8 ticks: ticks * 5 / 64, rounded, is exact. Its flag says that the 24 bits were passed, once.
  */
 #define SYSTICK ((volatile uint32_t *)0xE000E010)
 void count_start(void) {
     SYSTICK[1] = 0xFFFFFF;
-    SYSTICK[2] = 0;
     SYSTICK[0] = 5;
+    SYSTICK[2] = 0;
 }
-uint32_t count_read(void) { return SYSTICK[2]; }
-uint32_t count_between(uint32_t before, uint32_t after) { return (((before - after) & 0xFFFFFF) * 5 + 32) >> 6; }
+uint32_t count_read(void) {
+    uint32_t now = SYSTICK[2], passed = SYSTICK[0] >> 16 & 1;
+    return ((0xFFFFFF - now + (passed << 24)) * 5 + 32) >> 6;
+}
 
 #define PAINT 0x5AA5C33Cu
 __attribute__((noinline)) void stack_paint(void) {
