@@ -1,10 +1,11 @@
 -- The graph of a plan in bytes, and the test that follows it.
-use Prim.Native.Nat.{ℕ, zero, suc, _+_, _*_}
+use Prim.Native.Nat.{ℕ, zero, suc, _+_, _*_, _<_}
 use mathlib.Core.Bool.{Bool, true, false, cond, _&&_}
 use mathlib.Core.List.{List, [], _∷_, _++_}
 use lib.Dec.{eqb, leb, ltb}
-use lib.ListN.{length, getD, set}
-use Rattle.meaning.specs.Plan.{Eqn, Plan}
+use lib.ListN.{getD, set}
+use Rattle.meaning.specs.Plan.{Plan}
+use Rattle.operators.specs.Limits.{streamLimit}
 use Rattle.operators.specs.Operators.{numberOf, firstOf, secondOf}
 
 -- Three bytes for each stream: how it stands (0: its arguments are to be followed, 1: found clear, 2: it has no undelayed
@@ -14,7 +15,6 @@ entryOf n a b =
     cond (leb n 3) (2 ∷ 0 ∷ 0 ∷ []) (cond (leb n 7) (0 ∷ a ∷ a ∷ []) (cond (leb n 17) (0 ∷ a ∷ b ∷ []) (0 ∷ b ∷ b ∷ [])))
 
 unfoldable pub graphOf : Plan → List ℕ
-unfolding entryOf numberOf firstOf secondOf
 graphOf [] = []
 graphOf (e ∷ plan) = entryOf (numberOf e) (firstOf e) (secondOf e) ++ graphOf plan
 
@@ -34,15 +34,15 @@ marked i w = cond (w .isClear) (walked true (set (w .graph) (3 * i) 1)) w
 abbrev pub both : ℕ → (ℕ → List ℕ → Walk) → Walk → Walk
 both i follow w = cond (w .isClear) (marked i (follow (getD (w .graph) (3 * i + 2) 0) (w .graph))) w
 
--- whether the graph has stream i
-abbrev pub present : ℕ → List ℕ → Bool
-present i g = ltb (3 * i + 2) (length g)
+-- whether stream i is one that a plan may have
+abbrev pub present : ℕ → Bool
+present i = ltb i streamLimit
 
 -- stream i is followed, with this depth left: at depth 0 only a stream found clear before is clear
 unfoldable pub followed : ℕ → ℕ → List ℕ → Walk
-followed zero i g = walked (present i g && eqb (getD g (3 * i) 0) 1) g
+followed zero i g = walked (present i && eqb (getD g (3 * i) 0) 1) g
 followed (suc d) i g =
-    cond (present i g)
+    cond (present i)
     (cond (eqb (getD g (3 * i) 0) 1)
     (walked true g)
     (cond (eqb (getD g (3 * i) 0) 2)
@@ -56,6 +56,10 @@ rest w others = cond (w .isClear) (others (w .graph)) w
 
 -- the streams below n, from the last on
 unfoldable pub cleared : ℕ → ℕ → List ℕ → Walk
-unfolding followed
 cleared depth zero g = walked true g
 cleared depth (suc n) g = rest (followed depth n g) (cleared depth n)
+
+-- every argument is a stream below n
+abbrev pub AllBelow : ℕ → List ℕ → Type 0
+AllBelow n [] = Unit {0}
+AllBelow n (a ∷ l) = (a < n) × AllBelow n l

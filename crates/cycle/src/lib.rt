@@ -1,10 +1,14 @@
 // The cycle test: follows undelayed arguments from stream to stream over a graph in bytes.
 ghost use mathlib.Core.Path.{_≡_};
-ghost use Prim.Native.Nat.{_+_, _*_, _<_, _≤_};
+ghost use Prim.Native.Nat.{_+_, _*_, _<_};
 ghost use mathlib.Core.List.{[], _∷_};
-ghost use lib.ListN.{length};
 ghost use lib.Seq.{sets};
-ghost use Rattle.cycle.specs.Graph.{Walk, walked, followed, cleared, entryOf};
+ghost use Rattle.operators.specs.Limits.{streamLimit};
+ghost use Rattle.cycle.specs.Graph.{walked, followed, cleared, entryOf};
+use operators::Plan;
+
+// The bytes of a graph: three for each stream that a plan may have.
+pub const GRAPH: usize = 3 * Plan::STREAMS;
 
 // How a stream stands in the graph: its two arguments are to be followed.
 pub const OPEN: u8 = 0;
@@ -14,8 +18,8 @@ pub const CLEAR: u8 = 1;
 pub const BARE: u8 = 2;
 
 // Stores the three bytes of a stream.
-fn store(graph: &mut [u8], at: usize, how: u8, a: u8, b: u8)
-    requires { ⌜ at + 2 < length (now graph) ⌝ }
+fn store(graph: &mut [u8; GRAPH], at: usize, how: u8, a: u8, b: u8)
+    requires { ⌜ at + 2 < 3 * streamLimit ⌝ }
     ensures { λ _. ⌜ now (graph .exit) ≡ sets (now (graph .entry)) at (how ∷ a ∷ b ∷ []) ⌝ }
 {
     graph[at] = how;
@@ -24,8 +28,8 @@ fn store(graph: &mut [u8], at: usize, how: u8, a: u8, b: u8)
 }
 
 // Notes the undelayed arguments of stream i, by its stored number.
-pub fn note(graph: &mut [u8], i: usize, op: u8, a: u8, b: u8)
-    requires { ⌜ (i < 256) × (3 * i + 2 < length (now graph)) ⌝ }
+pub fn note(graph: &mut [u8; GRAPH], i: usize, op: u8, a: u8, b: u8)
+    requires { ⌜ i < streamLimit ⌝ }
     ensures { λ _. ⌜ now (graph .exit) ≡ sets (now (graph .entry)) (3 * i) (entryOf op a b) ⌝ }
 {
     let at = 3 * i;
@@ -37,15 +41,21 @@ pub fn note(graph: &mut [u8], i: usize, op: u8, a: u8, b: u8)
     }
 }
 
+fn wide(x: u8) -> usize
+    ensures { λ r. ⌜ (r ≡ x) × (r < 256) ⌝ }
+{
+    x as usize
+}
+
 // Whether stream i is clear, followed at most this deep. A stream once found clear is not followed again.
-pub fn follow(graph: &mut [u8], i: usize, depth: usize) -> bool
-    requires { ⌜ i < 256 ⌝ }
+pub fn follow(graph: &mut [u8; GRAPH], i: u8, depth: u8) -> bool
     ensures { λ r. ⌜ walked r (now (graph .exit)) ≡ followed depth i (now (graph .entry)) ⌝ }
 {
-    let at = 3 * i;
-    if graph.len() <= at + 2 {
+    let stream = wide(i);
+    if Plan::STREAMS <= stream {
         return false;
     }
+    let at = 3 * stream;
     let how = graph[at];
     if how == CLEAR {
         return true;
@@ -57,11 +67,11 @@ pub fn follow(graph: &mut [u8], i: usize, depth: usize) -> bool
         graph[at] = CLEAR;
         return true;
     }
-    let a = graph[at + 1] as usize;
+    let a = graph[at + 1];
     if !follow(graph, a, depth - 1) {
         return false;
     }
-    let b = graph[at + 2] as usize;
+    let b = graph[at + 2];
     if !follow(graph, b, depth - 1) {
         return false;
     }
@@ -70,8 +80,7 @@ pub fn follow(graph: &mut [u8], i: usize, depth: usize) -> bool
 }
 
 // Whether all streams below n are clear, the last one followed first.
-pub fn clear(graph: &mut [u8], n: usize, depth: usize) -> bool
-    requires { ⌜ n ≤ 256 ⌝ }
+pub fn clear(graph: &mut [u8; GRAPH], n: u8, depth: u8) -> bool
     ensures { λ r. ⌜ walked r (now (graph .exit)) ≡ cleared depth n (now (graph .entry)) ⌝ }
 {
     let mut i = n;

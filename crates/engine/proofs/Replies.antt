@@ -29,7 +29,8 @@ use Rattle.calls.specs.Numbers.{readingRaw, progressRaw, waitingSlot, collectRa
 use Rattle.refine.proofs.Whole.{row-of}
 use Rattle.refine.proofs.Calls.{absent-at, reading-number, progress-number, progress-of, step-of}
 use Rattle.refine.proofs.Collects.{Waiting, nothing, waits, waiting-is, slot-in, collect-number, collect-of}
-use Rattle.engine.specs.Reply.{Reply, notState, replyOf, stateIn, reply}
+use Rattle.state.specs.In.{stateIn}
+use Rattle.engine.specs.Reply.{Reply, notState, replyOf, reply}
 
 -- ---- number 15
 

@@ -3,11 +3,10 @@ use Prim.Native.Nat.{ℕ}
 use mathlib.Core.Bool.{Bool, true, false, cond}
 use mathlib.Core.List.{List}
 use lib.IntN.{ℤ, pos}
-use Rattle.machine.specs.State.{State}
 use Rattle.machine.specs.Calls.{Call, Outcome, call}
 use Rattle.cells.specs.View.{bytesOf}
-use Rattle.cells.specs.Back.{stateOf}
-use Rattle.valid.specs.Valid.{stateLength, count, valid}
+use Rattle.valid.specs.Valid.{stateLength, valid}
+use Rattle.state.specs.In.{stateIn}
 
 -- the number and the results that a call returns, and the buffer that it leaves
 pub record Reply : Type 0 where
@@ -23,10 +22,6 @@ notState s = record { number = 15; moves = 0; stamp = 0; value = pos 0; buffer =
 
 abbrev pub replyOf : Outcome → Reply
 replyOf o = record { number = o .number; moves = o .moves; stamp = o .stamp; value = o .value; buffer = bytesOf stateLength (o .state) }
-
--- the state that valid bytes give
-abbrev pub stateIn : List ℕ → State
-stateIn s = stateOf (count s) s
 
 unfoldable pub reply : Call → List ℕ → Reply
 reply c s = cond (valid s) (replyOf (call c (stateIn s))) (notState s)

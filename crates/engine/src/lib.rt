@@ -70,3 +70,38 @@ pub extern "C" fn tessla_collect(
     calls::collect(state, n, i, j);
     0
 }
+
+// Moves one equation.
+#[no_mangle]
+pub extern "C" fn tessla_move(state: &mut [u8], stream: u32) -> u32
+    ensures number { λ r. ⌜ r ≡ reply (moving stream) (now (state .entry)) .number ⌝ }
+    ensures buffer { λ _. ⌜ now (state .exit) ≡ reply (moving stream) (now (state .entry)) .buffer ⌝ }
+{
+    let n = valid::streams(state);
+    if n == 0 {
+        return 15;
+    }
+    if !running::is_equation(state, n, stream) {
+        return 11;
+    }
+    if !moves::move_one(state, n, stream as usize) {
+        return 12;
+    }
+    0
+}
+
+// Moves the lowest-numbered equation that can, again and again, at most n times; `moves` says how often.
+#[no_mangle]
+pub extern "C" fn tessla_run(state: &mut [u8], n: u32, moves: &mut u32) -> u32
+    ensures number { λ r. ⌜ r ≡ reply (running n) (now (state .entry)) .number ⌝ }
+    ensures moves { λ _. ⌜ now (moves .exit) ≡ reply (running n) (now (state .entry)) .moves ⌝ }
+    ensures buffer { λ _. ⌜ now (state .exit) ≡ reply (running n) (now (state .entry)) .buffer ⌝ }
+{
+    *moves = 0;
+    let streams = valid::streams(state);
+    if streams == 0 {
+        return 15;
+    }
+    *moves = running::run(state, streams, n);
+    0
+}

@@ -58,7 +58,7 @@ input-number (two g a b) = two-input g
 input-number (last a b) = refl
 input-number (delay a b) = refl
 
-op-of : (c : Cell) → eqb (num opF (ofCell c)) 1 ≡ isInput (c .eqn)
+pub op-of : (c : Cell) → eqb (num opF (ofCell c)) 1 ≡ isInput (c .eqn)
 unfolding ofCell
 op-of c = input-number (c .eqn)
 

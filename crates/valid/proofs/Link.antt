@@ -21,8 +21,8 @@ use Rattle.machine.specs.State.{Cell, planOf}
 use Rattle.operators.specs.Operators.{operatorCount, isOperator, usesA, usesB, usesK, delaysA, eqnOf, numberOf, firstOf, secondOf}
 use Rattle.operators.specs.Limits.{streamLimit}
 use Rattle.operators.proofs.Laws.{number-back, first-back, second-back, reads-by-number, undelayed-by-number}
-use Rattle.cycle.specs.Graph.{entryOf, cleared}
-use Rattle.cycle.proofs.Tied.{Below, argsAt, cleared-acyclic}
+use Rattle.cycle.specs.Graph.{AllBelow, entryOf, cleared}
+use Rattle.cycle.proofs.Tied.{argsAt, cleared-acyclic}
 use Rattle.cycle.proofs.Graphs.{entries-tied}
 use Rattle.layout.specs.Record.{Raw, noRaw, num, decRaw, decode, rowAt, opF, aF, bF, kF, outF, countF, boundF}
 use Rattle.layout.proofs.Laws.{row-at, rows-many, byte-get}
@@ -172,11 +172,11 @@ entry-is n r f =
     sym (ap (λ (x : ℕ). entryOf x (firstOf (eqnIn r)) (secondOf (eqnIn r))) o ∙ ap₂ (entryOf op) a b)
 
 -- and its undelayed arguments name streams
-args-below : (n : ℕ) (r : Raw) → PlanFacts n r → Below n (undelayed (eqnIn r))
+args-below : (n : ℕ) (r : Raw) → PlanFacts n r → AllBelow n (undelayed (eqnIn r))
 args-below n r f =
     let op = num opF r in
     let k = toZ w64 (num kF r) in
-    subst (Below n) (sym (undelayed-by-number (num aF r) (num bF r) k op (f .least) (f .most)
+    subst (AllBelow n) (sym (undelayed-by-number (num aF r) (num bF r) k op (f .least) (f .most)
     ∙ ap (cond (delaysA op) (num bF r ∷ [])) (reads-by-number (num aF r) (num bF r) k op (f .least) (f .most))))
     (go (leb 18 op) refl (usesB op) refl (usesA op) refl)
   where
@@ -184,7 +184,7 @@ args-below n r f =
     op = num opF r
 
     go : (d : Bool) → leb 18 op ≡ d → (u : Bool) → usesB op ≡ u → (v : Bool) → usesA op ≡ v
-        → Below n (cond d (num bF r ∷ []) (cond u (num aF r ∷ num bF r ∷ []) (cond v (num aF r ∷ []) [])))
+        → AllBelow n (cond d (num bF r ∷ []) (cond u (num aF r ∷ num bF r ∷ []) (cond v (num aF r ∷ []) [])))
     go true e u eu v ev = (used-below (usesB op) (num bF r) n (f .b-ok) (le-leb 8 op (omega (arith, leb-true 18 op e))), tt)
     go false e true eu v ev = (used-below (usesA op) (num aF r) n (f .a-ok) (le-leb 4 op (omega (arith, leb-true 8 op eu))), (used-below (usesB op) (num bF r) n (f .b-ok) eu, tt))
     go false e false eu true ev = (used-below (usesA op) (num aF r) n (f .a-ok) ev, tt)
@@ -198,13 +198,13 @@ clear-is s n h ok l =
     let pl = plan-length n s in
     let gl : length g ≡ 96 = noted-length n s (replicate 96 0) in
     ap (λ (m : ℕ). cleared streamLimit m g .isClear) (sym pl)
-    ∙ cleared-acyclic plan (λ i k. below i (omega arith)) streamLimit g
+    ∙ cleared-acyclic plan (omega arith) (λ i k. below i (omega arith)) streamLimit g
     (entries-tied plan g (omega arith) (λ i j k m. byte i j (omega arith) m))
   where
     facts : (i : ℕ) → i < n → PlanFacts n (decRaw (part s (i * 256) 256))
     facts i k = plan-facts n (decRaw (part s (i * 256) 256)) (row-plan n (part s (i * 256) 256) (rows-at (rowOk n) n i s ok k))
 
-    below : (i : ℕ) → i < n → Below (length (planIn n s)) (argsAt (planIn n s) i)
+    below : (i : ℕ) → i < n → AllBelow (length (planIn n s)) (argsAt (planIn n s) i)
     below i k = rw (plan-length n s) (rw (eqn-at n s i k) (args-below n (decRaw (part s (i * 256) 256)) (facts i k)))
 
     byte : (i j : ℕ) → i < n → j < 3

@@ -289,7 +289,7 @@ fn clear(state: &[u8], n: usize) -> bool
 {
     let mut graph = [0u8; 96];
     fill_graph(state, n, &mut graph);
-    cycle::clear(&mut graph, n, Plan::STREAMS)
+    cycle::clear(&mut graph, n as u8, Plan::STREAMS as u8)
 }
 
 // How many streams a state has; 0 if the bytes are none.

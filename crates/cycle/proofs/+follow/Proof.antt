@@ -1,17 +1,18 @@
+-- `cycle::follow` meets its contract.
 use mathlib.Core.Path.{_≡_, refl, sym, ap, _∙_}
 use lib.ListN.{length, length-set}
 use denote.Ref.{now}
-use borrow.Author.Tests.{le-leb, lt-leb}
 use Rattle.cycle.specs.Graph.{Walk, walked, followed, cleared, entryOf}
 use Rattle.cycle.proofs.Walks.{absent, seen, stop, bare, first, second, last}
 use borrow.Author.Needs.{needs}
 use native.Mathlib.Omega.{arith}
-use Prim.Native.Nat.{ℕ, _<_, _+_, _*_}
+use Prim.Native.Nat.{ℕ, _<_}
 use borrow.Fn.Kinds.{In}
 use borrow.Fn.PlainCycle.{Measures, is, falls, and}
 use Rattle.cycle.proofs.follow.Reads as follow
 use Rattle.cycle.proofs.follow.Kinds as follow-kinds
 use Rattle.cycle.proofs.+follow.Lts-follow as follow-lts
+use Rattle.cycle.proofs.wide.Reads as wide-reads
 use Rattle.cycle.proofs.+follow.{statement}
 use Rattle.cycle.proofs.+follow.Tie.{close}
 
@@ -24,178 +25,192 @@ follow-at t = and 1 follow-kinds.ps (is 1 follow-kinds.ps μ-follow t) follow.Pr
 abbrev follow-below : ℕ → In 1 follow-kinds.ps
 follow-below t = and 1 follow-kinds.ps (falls 1 follow-kinds.ps _<_ μ-follow t) follow.Pre
 
--- src/lib.rt:45:14
-follow-mul-at :
-    (t : ℕ) → follow-lts.Need-mul-at (follow-below t, follow.Post) (follow-at t) follow.Post
+follow-wide-requires : (t : ℕ) → follow-lts.Need-wide-requires (
+  wide-reads.Asked,
+  wide-reads.Learnt,
+  follow-below t,
+  follow.Post,
+) (follow-at t) follow.Post
+follow-wide-requires t c κs = tt
+
+follow-returns : (t : ℕ) → follow-lts.Need-returns (
+  wide-reads.Asked,
+  wide-reads.Learnt,
+  follow-below t,
+  follow.Post,
+) (follow-at t) follow.Post
+follow-returns t c = absent (c .before .before .args .depth) (c .before .wide .result) (now (c .before .before .args .graph)) (c .if1 .taken) ∙ ap (λ (n : ℕ). followed (c .before .before .args .depth) n (now (c .before .before .args .graph))) (c .before .wide .ensures .0)
+
+follow-mul-at : (t : ℕ) → follow-lts.Need-mul-at (
+  wide-reads.Asked,
+  wide-reads.Learnt,
+  follow-below t,
+  follow.Post,
+) (follow-at t) follow.Post
 follow-mul-at t c = omega arith
 
--- src/lib.rt:46:23
-follow-add-if1 :
-    (t : ℕ) → follow-lts.Need-add-if1 (follow-below t, follow.Post) (follow-at t) follow.Post
-follow-add-if1 t c = omega arith
-
--- src/lib.rt:47:9
-follow-returns :
-    (t : ℕ) → follow-lts.Need-returns (follow-below t, follow.Post) (follow-at t) follow.Post
-follow-returns t c = absent (c .before .before .args .depth) (c .before .before .args .i) (now (c .before .before .args .graph)) (c .if1 .taken)
-
--- src/lib.rt:49:15
-follow-slice-read-how :
-    (t : ℕ) →
-    follow-lts.Need-slice-read-how (follow-below t, follow.Post) (follow-at t) follow.Post
-follow-slice-read-how t c = omega arith
-
--- src/lib.rt:51:9
-follow-returns-2 :
-    (t : ℕ) → follow-lts.Need-returns-2 (follow-below t, follow.Post) (follow-at t) follow.Post
-follow-returns-2 t c = seen (c .before .before .before .before .args .depth) (c .before .before .before .before .args .i) (now (c .before .before .before .before .args .graph)) (omega arith) (c .if2 .taken)
-
--- src/lib.rt:54:9
-follow-returns-3 :
-    (t : ℕ) → follow-lts.Need-returns-3 (follow-below t, follow.Post) (follow-at t) follow.Post
-follow-returns-3 t c = stop (c .before .before .before .before .before .args .depth) (c .before .before .before .before .before .args .i) (now (c .before .before .before .before .before .args .graph)) (omega arith) (c .before .if2 .left) (c .if3 .taken)
-
--- src/lib.rt:57:9
-follow-slice-write-graph : (t : ℕ) → follow-lts.Need-slice-write-graph (
+follow-element-copy-out-how : (t : ℕ) → follow-lts.Need-element-copy-out-how (
+  wide-reads.Asked,
+  wide-reads.Learnt,
   follow-below t,
   follow.Post,
 ) (follow-at t) follow.Post
-follow-slice-write-graph t c = omega arith
+follow-element-copy-out-how t c = omega arith
 
--- src/lib.rt:58:9
-follow-same-length :
-    (t : ℕ) → follow-lts.Need-same-length (follow-below t, follow.Post) (follow-at t) follow.Post
-follow-same-length t c = simp length-set
+follow-returns-2 : (t : ℕ) → follow-lts.Need-returns-2 (
+  wide-reads.Asked,
+  wide-reads.Learnt,
+  follow-below t,
+  follow.Post,
+) (follow-at t) follow.Post
+follow-returns-2 t c = seen (c .before .before .before .before .args .depth) (c .before .before .before .wide .result) (now (c .before .before .before .before .args .graph)) (omega arith) (c .if2 .taken) ∙ ap (λ (n : ℕ). followed (c .before .before .before .before .args .depth) n (now (c .before .before .before .before .args .graph))) (c .before .before .before .wide .ensures .0)
 
--- src/lib.rt:58:9
-follow-returns-4 :
-    (t : ℕ) → follow-lts.Need-returns-4 (follow-below t, follow.Post) (follow-at t) follow.Post
-follow-returns-4 t c = bare (c .before .before .before .before .before .before .args .depth) (c .before .before .before .before .before .before .args .i) (now (c .before .before .before .before .before .before .args .graph)) (omega arith) (c .before .before .if2 .left) (c .before .if3 .left) (c .if4 .taken)
+follow-returns-3 : (t : ℕ) → follow-lts.Need-returns-3 (
+  wide-reads.Asked,
+  wide-reads.Learnt,
+  follow-below t,
+  follow.Post,
+) (follow-at t) follow.Post
+follow-returns-3 t c = stop (c .before .before .before .before .before .args .depth) (c .before .before .before .before .wide .result) (now (c .before .before .before .before .before .args .graph)) (omega arith) (c .before .if2 .left) (c .if3 .taken) ∙ ap (λ (n : ℕ). followed (c .before .before .before .before .before .args .depth) n (now (c .before .before .before .before .before .args .graph))) (c .before .before .before .before .wide .ensures .0)
 
--- src/lib.rt:60:19
-follow-add-a :
-    (t : ℕ) → follow-lts.Need-add-a (follow-below t, follow.Post) (follow-at t) follow.Post
+follow-element-write-graph : (t : ℕ) → follow-lts.Need-element-write-graph (
+  wide-reads.Asked,
+  wide-reads.Learnt,
+  follow-below t,
+  follow.Post,
+) (follow-at t) follow.Post
+follow-element-write-graph t c = omega arith
+
+follow-returns-4 : (t : ℕ) → follow-lts.Need-returns-4 (
+  wide-reads.Asked,
+  wide-reads.Learnt,
+  follow-below t,
+  follow.Post,
+) (follow-at t) follow.Post
+follow-returns-4 t c = bare (c .before .before .before .before .before .before .args .depth) (c .before .before .before .before .before .wide .result) (now (c .before .before .before .before .before .before .args .graph)) (omega arith) (c .before .before .if2 .left) (c .before .if3 .left) (c .if4 .taken) ∙ ap (λ (n : ℕ). followed (c .before .before .before .before .before .before .args .depth) n (now (c .before .before .before .before .before .before .args .graph))) (c .before .before .before .before .before .wide .ensures .0)
+
+follow-add-a : (t : ℕ) → follow-lts.Need-add-a (
+  wide-reads.Asked,
+  wide-reads.Learnt,
+  follow-below t,
+  follow.Post,
+) (follow-at t) follow.Post
 follow-add-a t c = omega arith
 
--- src/lib.rt:60:13
-follow-slice-read-a :
-    (t : ℕ) → follow-lts.Need-slice-read-a (follow-below t, follow.Post) (follow-at t) follow.Post
-follow-slice-read-a t c = omega arith
+follow-element-copy-out-a : (t : ℕ) → follow-lts.Need-element-copy-out-a (
+  wide-reads.Asked,
+  wide-reads.Learnt,
+  follow-below t,
+  follow.Post,
+) (follow-at t) follow.Post
+follow-element-copy-out-a t c = omega arith
 
--- src/lib.rt:60:13
-follow-cast-a :
-    (t : ℕ) → follow-lts.Need-cast-a (follow-below t, follow.Post) (follow-at t) follow.Post
-follow-cast-a t c = omega (arith, c .slice-known3 .given (3 * c .before .before .before .before .before .before .before .args .i + 1))
-
--- src/lib.rt:61:26
-follow-sub-follow :
-    (t : ℕ) → follow-lts.Need-sub-follow (follow-below t, follow.Post) (follow-at t) follow.Post
+follow-sub-follow : (t : ℕ) → follow-lts.Need-sub-follow (
+  wide-reads.Asked,
+  wide-reads.Learnt,
+  follow-below t,
+  follow.Post,
+) (follow-at t) follow.Post
 follow-sub-follow t c = omega arith
 
--- src/lib.rt:61:9
-follow-follow-requires :
-    (t : ℕ) →
-    follow-lts.Need-follow-requires (follow-below t, follow.Post) (follow-at t) follow.Post
-follow-follow-requires t c κs = omega (arith, c .before .slice-known3 .given (3 * c .before .before .before .before .before .before .before .before .args .i + 1))
+follow-follow-requires : (t : ℕ) → follow-lts.Need-follow-requires (
+  wide-reads.Asked,
+  wide-reads.Learnt,
+  follow-below t,
+  follow.Post,
+) (follow-at t) follow.Post
+follow-follow-requires t c κs = omega arith
 
--- src/lib.rt:62:9
-follow-same-length-2 :
-    (t : ℕ) →
-    follow-lts.Need-same-length-2 (follow-below t, follow.Post) (follow-at t) follow.Post
-follow-same-length-2 t c = c .before .before .before .follow .kept .0
+follow-returns-5 : (t : ℕ) → follow-lts.Need-returns-5 (
+  wide-reads.Asked,
+  wide-reads.Learnt,
+  follow-below t,
+  follow.Post,
+) (follow-at t) follow.Post
+follow-returns-5 t c = first (c .before .before .before .before .before .before .before .before .before .before .args .depth) (c .before .before .before .before .before .before .before .before .before .wide .result) (now (c .before .before .before .before .before .before .before .before .before .before .args .graph)) (omega arith) (c .before .before .before .before .before .before .if2 .left) (c .before .before .before .before .before .if3 .left) (c .before .before .before .before .if4 .left) (c .before .follow .result) (c .before .follow .last .0) (c .before .follow .ensures) (c .if5 .taken) ∙ ap (λ (n : ℕ). followed (c .before .before .before .before .before .before .before .before .before .before .args .depth) n (now (c .before .before .before .before .before .before .before .before .before .before .args .graph))) (c .before .before .before .before .before .before .before .before .before .wide .ensures .0)
 
--- src/lib.rt:62:9
-follow-returns-5 :
-    (t : ℕ) → follow-lts.Need-returns-5 (follow-below t, follow.Post) (follow-at t) follow.Post
-follow-returns-5 t c = first (c .before .before .before .before .before .before .before .before .before .before .before .before .args .depth) (c .before .before .before .before .before .before .before .before .before .before .before .before .args .i) (now (c .before .before .before .before .before .before .before .before .before .before .before .before .args .graph)) (omega arith) (c .before .before .before .before .before .before .before .before .if2 .left) (c .before .before .before .before .before .before .before .if3 .left) (c .before .before .before .before .before .before .if4 .left) (c .before .before .before .follow .result) (c .before .before .before .follow .last .0) (c .before .before .before .follow .ensures) (c .if5 .taken)
-
--- src/lib.rt:64:19
-follow-add-b :
-    (t : ℕ) → follow-lts.Need-add-b (follow-below t, follow.Post) (follow-at t) follow.Post
+follow-add-b : (t : ℕ) → follow-lts.Need-add-b (
+  wide-reads.Asked,
+  wide-reads.Learnt,
+  follow-below t,
+  follow.Post,
+) (follow-at t) follow.Post
 follow-add-b t c = omega arith
 
--- src/lib.rt:64:13
-follow-slice-read-b :
-    (t : ℕ) → follow-lts.Need-slice-read-b (follow-below t, follow.Post) (follow-at t) follow.Post
-follow-slice-read-b t c = omega (arith, c .before .before .before .before .follow .kept .0)
+follow-element-copy-out-b : (t : ℕ) → follow-lts.Need-element-copy-out-b (
+  wide-reads.Asked,
+  wide-reads.Learnt,
+  follow-below t,
+  follow.Post,
+) (follow-at t) follow.Post
+follow-element-copy-out-b t c = omega arith
 
--- src/lib.rt:64:13
-follow-cast-b :
-    (t : ℕ) → follow-lts.Need-cast-b (follow-below t, follow.Post) (follow-at t) follow.Post
-follow-cast-b t c = omega (arith, c .slice-known5 .given (3 * c .before .before .before .before .before .before .before .before .before .before .before .before .before .args .i + 2))
-
--- src/lib.rt:65:26
-follow-sub-follow-2 :
-    (t : ℕ) → follow-lts.Need-sub-follow-2 (follow-below t, follow.Post) (follow-at t) follow.Post
+follow-sub-follow-2 : (t : ℕ) → follow-lts.Need-sub-follow-2 (
+  wide-reads.Asked,
+  wide-reads.Learnt,
+  follow-below t,
+  follow.Post,
+) (follow-at t) follow.Post
 follow-sub-follow-2 t c = omega arith
 
--- src/lib.rt:65:9
 follow-follow-requires-2 : (t : ℕ) → follow-lts.Need-follow-requires-2 (
+  wide-reads.Asked,
+  wide-reads.Learnt,
   follow-below t,
   follow.Post,
 ) (follow-at t) follow.Post
-follow-follow-requires-2 t c κs = omega (arith, c .before .slice-known5 .given (3 * c .before .before .before .before .before .before .before .before .before .before .before .before .before .before .args .i + 2))
+follow-follow-requires-2 t c κs = omega arith
 
--- src/lib.rt:66:9
-follow-same-length-3 :
-    (t : ℕ) →
-    follow-lts.Need-same-length-3 (follow-below t, follow.Post) (follow-at t) follow.Post
-follow-same-length-3 t c = c .before .before .before .follow2 .kept .0 ∙ c .before .before .before .before .before .before .before .before .before .follow .kept .0
-
--- src/lib.rt:66:9
-follow-returns-6 :
-    (t : ℕ) → follow-lts.Need-returns-6 (follow-below t, follow.Post) (follow-at t) follow.Post
-follow-returns-6 t c = second (c .before .before .before .before .before .before .before .before .before .before .before .before .before .before .before .before .before .before .args .depth) (c .before .before .before .before .before .before .before .before .before .before .before .before .before .before .before .before .before .before .args .i) (now (c .before .before .before .before .before .before .before .before .before .before .before .before .before .before .before .before .before .before .args .graph)) (omega arith) (c .before .before .before .before .before .before .before .before .before .before .before .before .before .before .if2 .left) (c .before .before .before .before .before .before .before .before .before .before .before .before .before .if3 .left) (c .before .before .before .before .before .before .before .before .before .before .before .before .if4 .left) (c .before .before .before .before .before .before .before .before .before .follow .result) (c .before .before .before .before .before .before .before .before .before .follow .last .0) (c .before .before .before .before .before .before .before .before .before .follow .ensures) (c .before .before .before .before .before .before .if5 .left) (c .before .before .before .follow2 .result) (c .before .before .before .follow2 .last .0) (c .before .before .before .follow2 .ensures) (c .if6 .taken)
-
--- src/lib.rt:68:5
-follow-slice-write-graph-2 : (t : ℕ) → follow-lts.Need-slice-write-graph-2 (
+follow-returns-6 : (t : ℕ) → follow-lts.Need-returns-6 (
+  wide-reads.Asked,
+  wide-reads.Learnt,
   follow-below t,
   follow.Post,
 ) (follow-at t) follow.Post
-follow-slice-write-graph-2 t c = omega (arith, c .before .before .before .before .before .before .before .before .before .follow .kept .0, c .before .before .before .follow2 .kept .0)
+follow-returns-6 t c = second (c .before .before .before .before .before .before .before .before .before .before .before .before .before .before .args .depth) (c .before .before .before .before .before .before .before .before .before .before .before .before .before .wide .result) (now (c .before .before .before .before .before .before .before .before .before .before .before .before .before .before .args .graph)) (omega arith) (c .before .before .before .before .before .before .before .before .before .before .if2 .left) (c .before .before .before .before .before .before .before .before .before .if3 .left) (c .before .before .before .before .before .before .before .before .if4 .left) (c .before .before .before .before .before .follow .result) (c .before .before .before .before .before .follow .last .0) (c .before .before .before .before .before .follow .ensures) (c .before .before .before .before .if5 .left) (c .before .follow2 .result) (c .before .follow2 .last .0) (c .before .follow2 .ensures) (c .if6 .taken) ∙ ap (λ (n : ℕ). followed (c .before .before .before .before .before .before .before .before .before .before .before .before .before .before .args .depth) n (now (c .before .before .before .before .before .before .before .before .before .before .before .before .before .before .args .graph))) (c .before .before .before .before .before .before .before .before .before .before .before .before .before .wide .ensures .0)
 
--- src/lib.rt:41:1
-follow-same-length-4 :
-    (t : ℕ) →
-    follow-lts.Need-same-length-4 (follow-below t, follow.Post) (follow-at t) follow.Post
-follow-same-length-4 t c = simp length-set (c .before .before .before .follow2 .kept .0 ∙ c .before .before .before .before .before .before .before .before .before .follow .kept .0)
+follow-element-write-graph-2 : (t : ℕ) → follow-lts.Need-element-write-graph-2 (
+  wide-reads.Asked,
+  wide-reads.Learnt,
+  follow-below t,
+  follow.Post,
+) (follow-at t) follow.Post
+follow-element-write-graph-2 t c = omega arith
 
--- src/lib.rt:41:1
-follow-returns-7 :
-    (t : ℕ) → follow-lts.Need-returns-7 (follow-below t, follow.Post) (follow-at t) follow.Post
-follow-returns-7 t c = last (c .before .before .before .before .before .before .before .before .before .before .before .before .before .before .before .before .before .before .args .depth) (c .before .before .before .before .before .before .before .before .before .before .before .before .before .before .before .before .before .before .args .i) (now (c .before .before .before .before .before .before .before .before .before .before .before .before .before .before .before .before .before .before .args .graph)) (omega arith) (c .before .before .before .before .before .before .before .before .before .before .before .before .before .before .if2 .left) (c .before .before .before .before .before .before .before .before .before .before .before .before .before .if3 .left) (c .before .before .before .before .before .before .before .before .before .before .before .before .if4 .left) (c .before .before .before .before .before .before .before .before .before .follow .result) (c .before .before .before .before .before .before .before .before .before .follow .last .0) (c .before .before .before .before .before .before .before .before .before .follow .ensures) (c .before .before .before .before .before .before .if5 .left) (c .before .before .before .follow2 .result) (c .before .before .before .follow2 .last .0) (c .before .before .before .follow2 .ensures) (c .if6 .left)
+follow-returns-7 : (t : ℕ) → follow-lts.Need-returns-7 (
+  wide-reads.Asked,
+  wide-reads.Learnt,
+  follow-below t,
+  follow.Post,
+) (follow-at t) follow.Post
+follow-returns-7 t c = last (c .before .before .before .before .before .before .before .before .before .before .before .before .before .before .args .depth) (c .before .before .before .before .before .before .before .before .before .before .before .before .before .wide .result) (now (c .before .before .before .before .before .before .before .before .before .before .before .before .before .before .args .graph)) (omega arith) (c .before .before .before .before .before .before .before .before .before .before .if2 .left) (c .before .before .before .before .before .before .before .before .before .if3 .left) (c .before .before .before .before .before .before .before .before .if4 .left) (c .before .before .before .before .before .follow .result) (c .before .before .before .before .before .follow .last .0) (c .before .before .before .before .before .follow .ensures) (c .before .before .before .before .if5 .left) (c .before .follow2 .result) (c .before .follow2 .last .0) (c .before .follow2 .ensures) (c .if6 .left) ∙ ap (λ (n : ℕ). followed (c .before .before .before .before .before .before .before .before .before .before .before .before .before .before .args .depth) n (now (c .before .before .before .before .before .before .before .before .before .before .before .before .before .before .args .graph))) (c .before .before .before .before .before .before .before .before .before .before .before .before .before .wide .ensures .0)
 
 pub +follow-spec : {M : Type 1} → statement M
-+follow-spec =
-    close
-    μ-follow
-    λ t. follow-lts.spec
-    (follow-below t, follow.Post)
++follow-spec = close μ-follow λ t. follow-lts.spec (
+  wide-reads.Asked,
+  wide-reads.Learnt,
+  follow-below t,
+  follow.Post,
+)
     (follow-at t)
     follow.Post
-    (follow-mul-at t)
-    (follow-add-if1 t)
+    (follow-wide-requires t)
     (follow-returns t)
-    (follow-slice-read-how t)
+    (follow-mul-at t)
+    (follow-element-copy-out-how t)
     (follow-returns-2 t)
     (follow-returns-3 t)
-    (follow-slice-write-graph t)
-    (follow-same-length t)
+    (follow-element-write-graph t)
     (follow-returns-4 t)
     (follow-add-a t)
-    (follow-slice-read-a t)
-    (follow-cast-a t)
+    (follow-element-copy-out-a t)
     (follow-sub-follow t)
     (follow-follow-requires t)
-    (follow-same-length-2 t)
     (follow-returns-5 t)
     (follow-add-b t)
-    (follow-slice-read-b t)
-    (follow-cast-b t)
+    (follow-element-copy-out-b t)
     (follow-sub-follow-2 t)
     (follow-follow-requires-2 t)
-    (follow-same-length-3 t)
     (follow-returns-6 t)
-    (follow-slice-write-graph-2 t)
-    (follow-same-length-4 t)
+    (follow-element-write-graph-2 t)
     (follow-returns-7 t)

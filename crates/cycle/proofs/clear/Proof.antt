@@ -1,6 +1,6 @@
+-- `cycle::clear` meets its contract.
 use Prim.Native.Nat.{_≤_, _-_}
 use mathlib.Core.Path.{_≡_, refl, sym, ap, _∙_}
-use lib.ListN.{length}
 use denote.Ref.{now}
 use Rattle.cycle.specs.Graph.{cleared}
 use Rattle.cycle.proofs.Walks.{blocked, going, done}
@@ -13,46 +13,31 @@ use Rattle.cycle.proofs.clear.Lts as lts
 use Rattle.cycle.proofs.follow.Reads as follow-reads
 
 abbrev Inv-loop : tie.InvT-loop
-Inv-loop graph₀ n depth i₀ graph i = (i ≤ n) × (length graph ≡ length graph₀) × (cleared depth i graph ≡ cleared depth n graph₀)
+Inv-loop graph₀ n depth i₀ graph i = (i ≤ n) × (cleared depth i graph ≡ cleared depth n graph₀)
 
 abbrev μ-loop : tie.MeasureT-loop
 μ-loop graph₀ n depth i₀ graph i = i
 
--- src/lib.rt:78:5
 loop-holds : tie.Need-loop-holds Inv-loop μ-loop
-loop-holds c = (omega arith, refl, refl)
+loop-holds c = (omega arith, refl)
 
--- src/lib.rt:79:9
 sub-i : tie.Need-sub-i Inv-loop μ-loop
 sub-i c = omega arith
 
--- src/lib.rt:80:13
 follow-requires : tie.Need-follow-requires Inv-loop μ-loop
 follow-requires c κs = omega arith
 
--- src/lib.rt:81:13
-same-length : tie.Need-same-length Inv-loop μ-loop
-same-length c = c .before .before .before .follow .kept .0 ∙ c .before .before .before .before .before .before .loop .inv .1
-
--- src/lib.rt:81:13
 returns : tie.Need-returns Inv-loop μ-loop
-returns c = blocked (c .before .before .before .before .before .before .before .before .args .depth) (c .before .before .before .before .before .before .loop .i) (c .before .before .before .before .before .before .loop .i - 1) (c .before .before .before .before .before .before .loop .graph) (c .before .before .before .follow .result) (c .before .before .before .follow .last .0) (omega arith) refl (c .before .before .before .follow .ensures) (c .if1 .taken) ∙ c .before .before .before .before .before .before .loop .inv .2
+returns c = blocked (c .before .before .before .before .before .args .depth) (c .before .before .before .before .loop .i) (c .before .before .before .before .loop .i - 1) (c .before .before .before .before .loop .graph) (c .before .follow .result) (c .before .follow .last .0) (omega arith) refl (c .before .follow .ensures) (c .if1 .taken) ∙ c .before .before .before .before .loop .inv .1
 
--- src/lib.rt:78:5
 loop-less : tie.Need-loop-less Inv-loop μ-loop
 loop-less c = omega arith
 
--- src/lib.rt:78:5
 loop-again : tie.Need-loop-again Inv-loop μ-loop
-loop-again c = (omega arith, c .before .before .before .follow .kept .0 ∙ c .before .before .before .before .before .before .loop .inv .1, going (c .before .before .before .before .before .before .before .before .args .depth) (c .before .before .before .before .before .before .loop .i) (c .before .before .before .before .before .before .loop .i - 1) (c .before .before .before .before .before .before .loop .graph) (c .before .before .before .follow .result) (c .before .before .before .follow .last .0) (omega arith) refl (c .before .before .before .follow .ensures) (c .if1 .left) ∙ c .before .before .before .before .before .before .loop .inv .2)
+loop-again c = (omega arith, going (c .before .before .before .before .before .args .depth) (c .before .before .before .before .loop .i) (c .before .before .before .before .loop .i - 1) (c .before .before .before .before .loop .graph) (c .before .follow .result) (c .before .follow .last .0) (omega arith) refl (c .before .follow .ensures) (c .if1 .left) ∙ c .before .before .before .before .loop .inv .1)
 
--- src/lib.rt:73:1
-same-length-2 : tie.Need-same-length-2 Inv-loop μ-loop
-same-length-2 c = c .before .loop .inv .1
-
--- src/lib.rt:73:1
 returns-2 : tie.Need-returns-2 Inv-loop μ-loop
-returns-2 c = done (c .before .before .before .args .depth) (c .before .loop .i) (c .before .loop .graph) (omega arith) ∙ c .before .loop .inv .2
+returns-2 c = done (c .before .before .args .depth) (c .before .loop .i) (c .before .loop .graph) (omega arith) ∙ c .before .loop .inv .1
 
 pub clear-spec : {M : Type 1} → statement M
 clear-spec =
@@ -63,9 +48,7 @@ clear-spec =
     loop-holds
     sub-i
     follow-requires
-    same-length
     returns
     loop-less
     loop-again
-    same-length-2
     returns-2)

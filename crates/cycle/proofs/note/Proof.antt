@@ -1,3 +1,4 @@
+-- `cycle::note` meets its contract.
 use mathlib.Core.Path.{_≡_, refl, sym, ap, _∙_}
 use borrow.Author.Tests.{le-leb, lt-leb}
 use Rattle.cycle.specs.Graph.{entryOf}
@@ -9,61 +10,36 @@ use Rattle.cycle.proofs.note.Reads as reads
 use Rattle.cycle.proofs.note.Lts as lts
 use Rattle.cycle.proofs.store.Reads as store-reads
 
--- src/lib.rt:31:14
 mul-at : tie.Need-mul-at
 mul-at c = search needs
 
--- src/lib.rt:33:18
 store-requires : tie.Need-store-requires
 store-requires c κs = search needs
 
--- src/lib.rt:34:18
 store-requires-2 : tie.Need-store-requires-2
 store-requires-2 c κs = search needs
 
--- src/lib.rt:35:19
 store-requires-3 : tie.Need-store-requires-3
 store-requires-3 c κs = search needs
 
--- src/lib.rt:36:14
 store-requires-4 : tie.Need-store-requires-4
 store-requires-4 c κs = search needs
 
--- src/lib.rt:27:1
-same-length : tie.Need-same-length
-same-length c = search needs
-
--- src/lib.rt:27:1
 returns : tie.Need-returns
 unfolding entryOf
-returns c = c .before .before .store .ensures ∙ sym (simp (le-leb (c .before .before .before .before .before .before .args .op) 3 (omega arith)))
+returns c = c .store .ensures ∙ sym (simp (le-leb (c .before .before .before .args .op) 3 (omega arith)))
 
--- src/lib.rt:27:1
-same-length-2 : tie.Need-same-length-2
-same-length-2 c = search needs
-
--- src/lib.rt:27:1
 returns-2 : tie.Need-returns-2
 unfolding entryOf
-returns-2 c = c .before .before .store2 .ensures ∙ sym (simp (lt-leb (c .before .before .before .before .before .before .before .args .op) 3 (omega arith), le-leb (c .before .before .before .before .before .before .before .args .op) 7 (omega arith)))
+returns-2 c = c .store2 .ensures ∙ sym (simp (lt-leb (c .before .before .before .before .args .op) 3 (omega arith), le-leb (c .before .before .before .before .args .op) 7 (omega arith)))
 
--- src/lib.rt:27:1
-same-length-3 : tie.Need-same-length-3
-same-length-3 c = search needs
-
--- src/lib.rt:27:1
 returns-3 : tie.Need-returns-3
 unfolding entryOf
-returns-3 c = c .before .before .store3 .ensures ∙ sym (simp (lt-leb (c .before .before .before .before .before .before .before .before .args .op) 3 (omega arith), lt-leb (c .before .before .before .before .before .before .before .before .args .op) 7 (omega arith), le-leb (c .before .before .before .before .before .before .before .before .args .op) 17 (omega arith)))
+returns-3 c = c .store3 .ensures ∙ sym (simp (lt-leb (c .before .before .before .before .before .args .op) 3 (omega arith), lt-leb (c .before .before .before .before .before .args .op) 7 (omega arith), le-leb (c .before .before .before .before .before .args .op) 17 (omega arith)))
 
--- src/lib.rt:27:1
-same-length-4 : tie.Need-same-length-4
-same-length-4 c = search needs
-
--- src/lib.rt:27:1
 returns-4 : tie.Need-returns-4
 unfolding entryOf
-returns-4 c = c .before .before .store4 .ensures ∙ sym (simp (lt-leb (c .before .before .before .before .before .before .before .before .args .op) 3 (omega arith), lt-leb (c .before .before .before .before .before .before .before .before .args .op) 7 (omega arith), lt-leb (c .before .before .before .before .before .before .before .before .args .op) 17 (omega arith)))
+returns-4 c = c .store4 .ensures ∙ sym (simp (lt-leb (c .before .before .before .before .before .args .op) 3 (omega arith), lt-leb (c .before .before .before .before .before .args .op) 7 (omega arith), lt-leb (c .before .before .before .before .before .args .op) 17 (omega arith)))
 
 pub note-spec : {M : Type 1} → statement M
 note-spec =
@@ -74,11 +50,7 @@ note-spec =
     store-requires-2
     store-requires-3
     store-requires-4
-    same-length
     returns
-    same-length-2
     returns-2
-    same-length-3
     returns-3
-    same-length-4
     returns-4)

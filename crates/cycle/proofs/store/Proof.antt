@@ -1,8 +1,4 @@
-use lib.ListN.{length, length-set}
-use native.Mathlib.Numerals.{add-one}
-use mathlib.Core.Path.{_≡_, refl, sym, ap, _∙_}
-use Prim.Native.Nat.{ℕ, suc, _+_}
-use lib.Seq.{sets}
+-- `cycle::store` meets its contract.
 use denote.Ref.{now}
 use Rattle.cycle.proofs.Walks.{stored}
 use borrow.Author.Needs.{needs}
@@ -12,31 +8,21 @@ use Rattle.cycle.proofs.store.Tie as tie
 use Rattle.cycle.proofs.store.Reads as reads
 use Rattle.cycle.proofs.store.Lts as lts
 
--- src/lib.rt:21:5
-slice-write-graph : tie.Need-slice-write-graph
-slice-write-graph c = search needs
+element-write-graph : tie.Need-element-write-graph
+element-write-graph c = search needs
 
--- src/lib.rt:22:11
 add-graph : tie.Need-add-graph
 add-graph c = search needs
 
--- src/lib.rt:22:5
-slice-write-graph-2 : tie.Need-slice-write-graph-2
-slice-write-graph-2 c = simp length-set (omega arith)
+element-write-graph-2 : tie.Need-element-write-graph-2
+element-write-graph-2 c = search needs
 
--- src/lib.rt:23:11
 add-graph-2 : tie.Need-add-graph-2
 add-graph-2 c = search needs
 
--- src/lib.rt:23:5
-slice-write-graph-3 : tie.Need-slice-write-graph-3
-slice-write-graph-3 c = search needs
+element-write-graph-3 : tie.Need-element-write-graph-3
+element-write-graph-3 c = search needs
 
--- src/lib.rt:17:1
-same-length : tie.Need-same-length
-same-length c = search needs
-
--- src/lib.rt:17:1
 returns : tie.Need-returns
 returns c = stored (now (c .args .graph)) (c .args .at) (c .args .how) (c .args .a) (c .args .b)
 
@@ -44,10 +30,9 @@ pub store-spec : {M : Type 1} → statement M
 store-spec =
     tie.close
     (tie.spec
-    slice-write-graph
+    element-write-graph
     add-graph
-    slice-write-graph-2
+    element-write-graph-2
     add-graph-2
-    slice-write-graph-3
-    same-length
+    element-write-graph-3
     returns)

@@ -33,9 +33,13 @@ use Rattle.valid.proofs.fill_graph.Reads as fill-graph-reads
 fill-graph-requires : tie.Need-fill-graph-requires
 fill-graph-requires c κs = search needs
 
--- src/lib.rt:292:18
-slice-aggregate-clear : tie.Need-slice-aggregate-clear
-slice-aggregate-clear c = sym (ap length (c .before .fill-graph .ensures) ∙ Graph.noted-length (c .before .before .before .before .args .n) (now (c .before .before .before .before .args .state)) (replicate {A = ℕ} 96 0))
+-- src/lib.rt:292:30
+cast-clear : tie.Need-cast-clear
+cast-clear c = search needs
+
+-- src/lib.rt:292:39
+cast-clear-2 : tie.Need-cast-clear-2
+cast-clear-2 c = search needs
 
 -- src/lib.rt:292:5
 clear-requires : tie.Need-clear-requires
@@ -44,7 +48,8 @@ clear-requires c κs = search needs
 -- src/lib.rt:286:1
 returns : tie.Need-returns
 unfolding clearIn
-returns c = let a = c .before .before .before .before .before .before .args in ap (λ (w : Walk). w .isClear) (c .before .clear .ensures) ∙ ap (λ (g : List ℕ). cleared streamLimit (a .n) g .isClear) (c .before .before .before .fill-graph .ensures)
+returns c = let a = c .before .before .before .before .before .args in ap (λ (w : Walk). w .isClear) (c .clear .ensures) ∙ ap (λ (g : List ℕ). cleared streamLimit (a .n) g .isClear) (c .before .before .fill-graph .ensures)
 
 pub clear-spec : {M : Type 1} → statement M
-clear-spec = tie.close (tie.spec fill-graph-requires slice-aggregate-clear clear-requires returns)
+clear-spec =
+    tie.close (tie.spec fill-graph-requires cast-clear cast-clear-2 clear-requires returns)

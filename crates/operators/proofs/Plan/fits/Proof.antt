@@ -1,16 +1,11 @@
+-- `operators::Plan::fits` meets its contract.
 use borrow.Author.Tests.{le-leb, lt-leb}
-use borrow.Author.Needs.{needs}
-use native.Mathlib.Omega.{arith}
 use Rattle.operators.proofs.Plan.fits.Statement.{statement}
 use Rattle.operators.proofs.Plan.fits.Tie as tie
-use Rattle.operators.proofs.Plan.fits.Reads as reads
-use Rattle.operators.proofs.Plan.fits.Lts as lts
 
--- src/lib.rt:23:5
 returns : tie.Need-returns
 returns c = simp (le-leb _ _ (c .before .if1 .taken))
 
--- src/lib.rt:23:5
 returns-2 : tie.Need-returns-2
 returns-2 c = simp (lt-leb _ _ (c .if1 .left))
 

@@ -1,0 +1,142 @@
+-- The pass over all streams: one stream after the other, and what the whole leaves.
+use Prim.Native.Nat.{ℕ, zero, suc, _+_, _*_, _-_, _<_, _≤_}
+use mathlib.Core.Path.{_≡_, refl, sym, ap}
+use mathlib.Core.Bool.{Bool, true, false, _&&_, and-assoc, and-true, true≢false}
+use mathlib.Core.List.{List, [], _∷_}
+use native.Mathlib.Omega.{arith}
+use Rattle.operators.proofs.Tests.{left, right}
+use lib.Seq.{sets}
+use borrow.Author.Tests.{eq-eqb, ne-eqb, eqb-true, ltb-true}
+use Rattle.operators.specs.Operators.{usesA, usesB}
+use Rattle.cycle.specs.Graph.{entryOf}
+use Rattle.text.specs.declared.Fields.{Fields}
+use Rattle.text.specs.declared.Lines.{Lines}
+use Rattle.text.specs.declared.Lines.the-variants as Lines
+use Rattle.text.specs.Grammar.{stream}
+use Rattle.plan.specs.declared.Checked.{Checked}
+use Rattle.plan.specs.declared.Checked.the-variants as Checked
+use Rattle.plan.specs.declared.Turn.{Turn}
+use Rattle.plan.specs.declared.Turn.the-variants as Turn
+use Rattle.plan.specs.Rules.{argumentFits, argumentsFit, valueFits, outFits, keeps, allKeep, Form, refused, formed, put, others, streams}
+use Rattle.plan.specs.Pass.{notedAll, notedStream, notedLines, turn, Pass, halted, through, passOf, checkedOf, Noted}
+
+-- ## What rule 5 says of each field
+
+module _ (n : ℕ) (f : Fields) (e : keeps n f ≡ true) where
+  pub out-kept : outFits (f .op) (f .out) ≡ true
+  unfolding keeps
+  out-kept = left (outFits (f .op) (f .out)) (valueFits (f .op) (f .k) && argumentsFit n (f .op) (f .a) (f .b)) e
+
+  rest-kept : (valueFits (f .op) (f .k) && argumentsFit n (f .op) (f .a) (f .b)) ≡ true
+  unfolding keeps
+  rest-kept = right (outFits (f .op) (f .out)) (valueFits (f .op) (f .k) && argumentsFit n (f .op) (f .a) (f .b)) e
+
+  pub value-kept : valueFits (f .op) (f .k) ≡ true
+  value-kept = left (valueFits (f .op) (f .k)) (argumentsFit n (f .op) (f .a) (f .b)) rest-kept
+
+  arguments-kept : argumentsFit n (f .op) (f .a) (f .b) ≡ true
+  arguments-kept = right (valueFits (f .op) (f .k)) (argumentsFit n (f .op) (f .a) (f .b)) rest-kept
+
+  pub first-kept : argumentFits (usesA (f .op)) n (f .a) ≡ true
+  first-kept = left (argumentFits (usesA (f .op)) n (f .a)) (argumentFits (usesB (f .op)) n (f .b)) arguments-kept
+
+  pub second-kept : argumentFits (usesB (f .op)) n (f .b) ≡ true
+  second-kept = right (argumentFits (usesA (f .op)) n (f .a)) (argumentFits (usesB (f .op)) n (f .b)) arguments-kept
+
+-- an argument that is used is below n, one that is not is 0
+pub small : (used : Bool) (n a : ℕ) → argumentFits used n a ≡ true → n ≤ 256 → a < 256
+small true n a e h = omega (arith, ltb-true a n e)
+small false n a e h = omega (arith, eqb-true a 0 e)
+
+-- ## One stream
+
+pub noted-kept : (n i : ℕ) (f : Fields) (g : List ℕ) → keeps n f ≡ true → sets g (3 * i) (entryOf (f .op) (f .a) (f .b)) ≡ notedStream n i f g
+unfolding notedStream
+noted-kept n i f g e = sym (rw e)
+
+pub noted-broken : (n i : ℕ) (f : Fields) (g : List ℕ) → keeps n f ≡ false → sets g (3 * i) (entryOf 0 0 0) ≡ notedStream n i f g
+unfolding notedStream
+noted-broken n i f g e = sym (rw e)
+
+abbrev keptOf : Turn → Bool
+keptOf (Turn.Next kept q) = kept
+keptOf (Turn.Refused r) = false
+
+abbrev nextOf : Turn → ℕ
+nextOf (Turn.Next kept q) = q
+nextOf (Turn.Refused r) = 0
+
+abbrev refusal : Turn → ℕ
+refusal (Turn.Next kept q) = 0
+refusal (Turn.Refused r) = r
+
+abbrev isNext : Turn → Bool
+isNext (Turn.Next kept q) = true
+isNext (Turn.Refused r) = false
+
+clash : {kept : Bool} {q r : ℕ} → Turn.Next kept q ≡ Turn.Refused r → ⊥
+clash e = true≢false (ap isNext e)
+
+passed-none : (n : ℕ) (ok : Bool) (i : ℕ) (g : List ℕ) (p : ℕ) → passOf n ok i g (formed [] p) ≡ through ok g p
+unfolding passOf allKeep notedAll
+passed-none n ok i g p = rw (and-true ok)
+
+pub turn-streams : (s : List ℕ) (m p : ℕ) → 0 < m → streams s p m ≡ others (stream s p) (λ f. streams s (f .next) (m - 1))
+unfolding streams
+turn-streams s zero p h = absurd (omega arith)
+turn-streams s (suc m) p h =
+    let e : suc m - 1 ≡ m = omega arith in
+    rw e
+
+no-streams : (s : List ℕ) (m p : ℕ) → m ≡ 0 → streams s p m ≡ formed [] p
+unfolding streams
+no-streams s zero p e = refl
+no-streams s (suc m) p e = absurd (omega arith)
+
+module _ (s : List ℕ) (n : ℕ) where
+  put-pass : (ok : Bool) (i : ℕ) (g : List ℕ) (f : Fields) (r : Form) → passOf n (ok && keeps n f) (i + 1) (notedStream n i f g) r ≡ passOf n ok i g (put f r)
+  unfolding passOf allKeep notedAll
+  put-pass ok i g f (refused r) = refl
+  put-pass ok i g f (formed fs end) = rw (and-assoc ok (keeps n f) (allKeep n fs))
+
+  module _ (ok : Bool) (i : ℕ) (g : List ℕ) (p : ℕ) where
+    halt : (l : Lines) (rest : Fields → Form) (r : ℕ) → turn n l ≡ Turn.Refused r → passOf n ok i g (others l rest) ≡ halted r
+    unfolding turn passOf
+    halt (Lines.Stream f) rest r e = absurd (clash e)
+    halt (Lines.Refused q) rest r e = ap halted (ap refusal e)
+
+    go : (l : Lines) (m : ℕ) (kept : Bool) (q : ℕ) → turn n l ≡ Turn.Next kept q → passOf n (ok && kept) (i + 1) (notedLines n i l g) (streams s q m) ≡ passOf n ok i g (others l (λ f. streams s (f .next) m))
+    unfolding turn
+    go (Lines.Stream f) m kept q e =
+        let k : kept ≡ keeps n f = sym (ap keptOf e) in
+        let t : q ≡ f .next = sym (ap nextOf e) in
+        rw (k, t) (put-pass ok i g f (streams s (f .next) m))
+    go (Lines.Refused r) m kept q e = absurd (clash (sym e))
+
+    pub pass-halt : i < n → (r : ℕ) → turn n (stream s p) ≡ Turn.Refused r → passOf n ok i g (streams s p (n - i)) ≡ halted r
+    pass-halt h r e = rw (turn-streams s (n - i) p (omega arith)) (halt (stream s p) (λ f. streams s (f .next) (n - i - 1)) r e)
+
+    pub pass-go : i < n → (kept : Bool) (q : ℕ) (g₁ : List ℕ) → turn n (stream s p) ≡ Turn.Next kept q → g₁ ≡ notedLines n i (stream s p) g → passOf n (ok && kept) (i + 1) g₁ (streams s q (n - (i + 1))) ≡ passOf n ok i g (streams s p (n - i))
+    pass-go h kept q g₁ e l =
+        let m : n - (i + 1) ≡ n - i - 1 = omega arith in
+        rw (m, l, turn-streams s (n - i) p (omega arith)) (go (stream s p) (n - i - 1) kept q e)
+
+    pub pass-end : n ≤ i → passOf n ok i g (streams s p (n - i)) ≡ through ok g p
+    pass-end h = rw (no-streams s (n - i) p (omega arith)) (passed-none n ok i g p)
+
+-- ## What the code answers
+
+pub answer-halted : (size : ℕ) (g : List ℕ) (x : Pass) (r : ℕ) → x ≡ halted r → (Checked.Refused r ≡ checkedOf size x) × Noted g x
+answer-halted size g x r e = rw e (refl, tt)
+
+module _ (size : ℕ) (g : List ℕ) (x : Pass) (ok : Bool) (p : ℕ) (e : x ≡ through ok g p) where
+  pub answer-formed : p ≡ size → (Checked.Formed ok ≡ checkedOf size x) × Noted g x
+  answer-formed h = rw (e, eq-eqb p size h) (refl, refl)
+
+  pub answer-left-over : (p ≡ size → ⊥) → (Checked.Refused 2 ≡ checkedOf size x) × Noted g x
+  answer-left-over h = rw (e, ne-eqb p size h) (refl, refl)
+
+-- one stream more before those that were read
+pub put-streams : (s : List ℕ) (at n : ℕ) (f : Fields) → stream s at ≡ Lines.Stream f → (fs : List Fields) (end : ℕ) → streams s (f .next) n ≡ formed fs end → streams s at (suc n) ≡ formed (f ∷ fs) end
+unfolding streams
+put-streams s at n f e fs end g = rw (e, g)

@@ -1,0 +1,46 @@
+-- `plan::note_stream` meets its contract.
+use mathlib.Core.Path.{_≡_, refl, sym, ap, _∙_}
+use Prim.Native.Nat.{ℕ, _≤_, _<_, _+_, _*_, _-_, _^_}
+use lib.ListN.{length, getD, drop}
+use denote.Ref.{now}
+use borrow.Author.Tests.{le-leb, lt-leb, lt-ltb, le-ltb, eq-eqb, ne-eqb, not-true, not-false}
+use Rattle.plan.proofs.Pass.{first-kept, second-kept, small, noted-kept, noted-broken, pass-halt, pass-go, pass-end, answer-halted, answer-formed, answer-left-over}
+use Rattle.plan.specs.Rules.{keeps, streams}
+use Rattle.plan.specs.Pass.{turn, passOf, notedStream, notedLines}
+use Rattle.text.specs.Grammar.{stream}
+use mathlib.Core.Bool.{true}
+use Rattle.operators.specs.Operators.{usesA, usesB}
+use borrow.Author.Needs.{needs}
+use native.Mathlib.Omega.{arith}
+use Rattle.plan.proofs.note_stream.Statement.{statement}
+use Rattle.plan.proofs.note_stream.Tie as tie
+use Rattle.plan.proofs.note_stream.Reads as reads
+use Rattle.plan.proofs.note_stream.Lts as lts
+use Rattle.cycle.proofs.note.Reads as note-reads
+use Rattle.plan.proofs.keeps.Reads as keeps-reads
+
+keeps-requires : tie.Need-keeps-requires
+keeps-requires c κs = search needs
+
+note-requires : tie.Need-note-requires
+note-requires c κs = search needs
+
+returns : tie.Need-returns
+returns c = (sym (sym (c .before .before .before .keeps .ensures) ∙ not-true (c .before .before .before .keeps .result) (c .before .before .if1 .taken)), c .note .ensures ∙ noted-broken (c .before .before .before .before .args .n) (c .before .before .before .before .args .i) (c .before .before .before .before .args .f) (now (c .before .before .before .before .args .graph)) (sym (c .before .before .before .keeps .ensures) ∙ not-true (c .before .before .before .keeps .result) (c .before .before .if1 .taken)))
+
+cast-note : tie.Need-cast-note
+cast-note c = omega (arith, small (usesA (c .before .before .before .before .args .f .op)) (c .before .before .before .before .args .n) (c .before .before .before .before .args .f .a) (first-kept (c .before .before .before .before .args .n) (c .before .before .before .before .args .f) (sym (c .before .before .before .keeps .ensures) ∙ not-false (c .before .before .before .keeps .result) (c .before .before .if1 .left))) (omega arith))
+
+cast-note-2 : tie.Need-cast-note-2
+cast-note-2 c = omega (arith, small (usesB (c .before .before .before .before .before .args .f .op)) (c .before .before .before .before .before .args .n) (c .before .before .before .before .before .args .f .b) (second-kept (c .before .before .before .before .before .args .n) (c .before .before .before .before .before .args .f) (sym (c .before .before .before .before .keeps .ensures) ∙ not-false (c .before .before .before .before .keeps .result) (c .before .before .before .if1 .left))) (omega arith))
+
+note-requires-2 : tie.Need-note-requires-2
+note-requires-2 c κs = search needs
+
+returns-2 : tie.Need-returns-2
+returns-2 c = (sym (sym (c .before .before .before .before .before .keeps .ensures) ∙ not-false (c .before .before .before .before .before .keeps .result) (c .before .before .before .before .if1 .left)), c .note2 .ensures ∙ noted-kept (c .before .before .before .before .before .before .args .n) (c .before .before .before .before .before .before .args .i) (c .before .before .before .before .before .before .args .f) (now (c .before .before .before .before .before .before .args .graph)) (sym (c .before .before .before .before .before .keeps .ensures) ∙ not-false (c .before .before .before .before .before .keeps .result) (c .before .before .before .before .if1 .left)))
+
+pub note-stream-spec : {M : Type 1} → statement M
+note-stream-spec =
+    tie.close
+    (tie.spec keeps-requires note-requires returns cast-note cast-note-2 note-requires-2 returns-2)

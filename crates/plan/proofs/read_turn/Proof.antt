@@ -1,0 +1,50 @@
+-- `plan::read_turn` meets its contract.
+use mathlib.Core.Path.{_≡_, refl, sym, ap, _∙_}
+use Prim.Native.Nat.{ℕ, _≤_, _<_, _+_, _*_, _-_, _^_}
+use lib.ListN.{length, getD, drop}
+use denote.Ref.{now}
+use borrow.Author.Tests.{le-leb, lt-leb, lt-ltb, le-ltb, eq-eqb, ne-eqb, not-true, not-false}
+use Rattle.plan.proofs.Pass.{first-kept, second-kept, small, noted-kept, noted-broken, pass-halt, pass-go, pass-end, answer-halted, answer-formed, answer-left-over}
+use Rattle.plan.specs.Rules.{keeps, streams}
+use Rattle.plan.specs.Pass.{turn, passOf, notedStream, notedLines}
+use Rattle.text.specs.Grammar.{stream}
+use mathlib.Core.Bool.{true}
+use borrow.Author.Needs.{needs}
+use native.Mathlib.Omega.{arith}
+use Rattle.plan.proofs.read_turn.Statement.{statement}
+use Rattle.plan.proofs.read_turn.Tie as tie
+use Rattle.plan.proofs.read_turn.Reads as reads
+use Rattle.plan.proofs.read_turn.Lts as lts
+use Rattle.plan.proofs.note_stream.Reads as note-stream-reads
+use Rattle.text.proofs.read_stream.Reads as read-stream-reads
+
+read-stream-requires : tie.Need-read-stream-requires
+read-stream-requires c κs = search needs
+
+enum-known-f : tie.Need-enum-known-f
+enum-known-f c = search needs
+
+note-stream-requires : tie.Need-note-stream-requires
+note-stream-requires c κs = search needs
+
+enum-known-r : tie.Need-enum-known-r
+enum-known-r c = search needs
+
+returns : tie.Need-returns
+unfolding turn
+returns c = (rw (sym (c .before .before .before .before .before .read-stream .ensures) ∙ c .before .before .before .f .given .1, c .note-stream .ensures .0), rw (sym (c .before .before .before .before .before .read-stream .ensures) ∙ c .before .before .before .f .given .1) (c .note-stream .ensures .1))
+
+returns-2 : tie.Need-returns-2
+unfolding turn
+returns-2 c = (rw (sym (c .before .before .before .read-stream .ensures) ∙ c .before .r .given .1), rw (sym (c .before .before .before .read-stream .ensures) ∙ c .before .r .given .1))
+
+pub read-turn-spec : {M : Type 1} → statement M
+read-turn-spec =
+    tie.close
+    (tie.spec
+    read-stream-requires
+    enum-known-f
+    note-stream-requires
+    enum-known-r
+    returns
+    returns-2)

@@ -1,0 +1,67 @@
+-- How the code goes: one pass reads the lines, tests rule 5 and notes the arguments for rule 6.
+use Prim.Native.Nat.{ℕ, zero, suc, _+_, _*_}
+use mathlib.Core.Path.{_≡_}
+use mathlib.Core.Bool.{Bool, true, false, not, cond, _&&_}
+use mathlib.Core.List.{List, [], _∷_, map}
+use lib.Dec.{eqb, ltb}
+use lib.ListN.{length}
+use lib.Seq.{sets}
+use mir.Syntax.{w64}
+use mir.Val.{toZ}
+use Rattle.meaning.specs.Plan.{Eqn, Plan}
+use Rattle.meaning.specs.Cycle.{acyclic}
+use Rattle.machine.specs.State.{Declared}
+use Rattle.operators.specs.Operators.{eqnOf, usesA, usesB, usesK}
+use Rattle.operators.specs.Limits.{streamLimit, textLimit}
+use Rattle.cycle.specs.Graph.{entryOf}
+use Rattle.text.specs.declared.Fields.{Fields}
+use Rattle.text.specs.declared.Lines.{Lines}
+use Rattle.text.specs.declared.Lines.the-variants as Lines
+use Rattle.text.specs.declared.Head.{Head}
+use Rattle.text.specs.declared.Head.the-variants as Head
+use Rattle.text.specs.Grammar.{stream, head}
+use Rattle.plan.specs.declared.Checked.{Checked}
+use Rattle.plan.specs.declared.Checked.the-variants as Checked
+use Rattle.plan.specs.declared.Turn.{Turn}
+use Rattle.plan.specs.declared.Turn.the-variants as Turn
+use Rattle.plan.specs.Rules.{keeps, allKeep, Form, refused, formed}
+
+-- the arguments of stream i; one that breaks rule 5 is noted without any, since the text is refused anyway
+abbrev pub entryIf : Bool → Fields → List ℕ
+entryIf true f = entryOf (f .op) (f .a) (f .b)
+entryIf false f = entryOf 0 0 0
+
+unfoldable pub notedStream : ℕ → ℕ → Fields → List ℕ → List ℕ
+notedStream n i f g = sets g (3 * i) (entryIf (keeps n f) f)
+
+unfoldable pub notedAll : ℕ → ℕ → List Fields → List ℕ → List ℕ
+notedAll n i [] g = g
+notedAll n i (f ∷ fs) g = notedAll n (i + 1) fs (notedStream n i f g)
+
+-- one stream
+unfoldable pub turn : ℕ → Lines → Turn
+turn n (Lines.Stream f) = Turn.Next (keeps n f) (f .next)
+turn n (Lines.Refused r) = Turn.Refused r
+
+abbrev pub notedLines : ℕ → ℕ → Lines → List ℕ → List ℕ
+notedLines n i (Lines.Stream f) g = notedStream n i f g
+notedLines n i (Lines.Refused r) g = g
+
+-- the whole pass: whether all keep rule 5, the graph, and where the lines end
+pub data Pass : Type 0 where
+  halted : ℕ → Pass
+  through : Bool → List ℕ → ℕ → Pass
+
+unfoldable pub passOf : ℕ → Bool → ℕ → List ℕ → Form → Pass
+passOf n ok i g (refused r) = halted r
+passOf n ok i g (formed fs end) = through (ok && allKeep n fs) (notedAll n i fs g) end
+
+-- bytes left over are 2
+abbrev pub checkedOf : ℕ → Pass → Checked
+checkedOf size (halted r) = Checked.Refused r
+checkedOf size (through ok g end) = cond (eqb end size) (Checked.Formed ok) (Checked.Refused 2)
+
+-- the graph that the pass leaves, if it comes through
+abbrev pub Noted : List ℕ → Pass → Type 0
+Noted g (halted r) = Unit {0}
+Noted g (through ok h end) = g ≡ h

@@ -1,0 +1,106 @@
+-- Rules 5 and 6, and the number of a whole plan text.
+use Prim.Native.Nat.{ℕ, zero, suc, _+_, _*_}
+use mathlib.Core.Path.{_≡_}
+use mathlib.Core.Bool.{Bool, true, false, not, cond, _&&_}
+use mathlib.Core.List.{List, [], _∷_, map}
+use lib.Dec.{eqb, ltb}
+use lib.ListN.{length}
+use lib.Seq.{sets}
+use mir.Syntax.{w64}
+use mir.Val.{toZ}
+use Rattle.meaning.specs.Plan.{Eqn, Plan}
+use Rattle.meaning.specs.Cycle.{acyclic}
+use Rattle.machine.specs.State.{Declared}
+use Rattle.operators.specs.Operators.{eqnOf, usesA, usesB, usesK}
+use Rattle.operators.specs.Limits.{streamLimit, textLimit}
+use Rattle.cycle.specs.Graph.{entryOf}
+use Rattle.text.specs.declared.Fields.{Fields}
+use Rattle.text.specs.declared.Lines.{Lines}
+use Rattle.text.specs.declared.Lines.the-variants as Lines
+use Rattle.text.specs.declared.Head.{Head}
+use Rattle.text.specs.declared.Head.the-variants as Head
+use Rattle.text.specs.Grammar.{stream, head}
+use Rattle.plan.specs.declared.Checked.{Checked}
+use Rattle.plan.specs.declared.Checked.the-variants as Checked
+use Rattle.plan.specs.declared.Turn.{Turn}
+use Rattle.plan.specs.declared.Turn.the-variants as Turn
+
+-- ## "Then 5, an unused field not 0, a used argument not below N, or out=1 on in."
+
+abbrev pub argumentFits : Bool → ℕ → ℕ → Bool
+argumentFits used n a = cond used (ltb a n) (eqb a 0)
+
+abbrev pub argumentsFit : ℕ → ℕ → ℕ → ℕ → Bool
+argumentsFit n op a b = argumentFits (usesA op) n a && argumentFits (usesB op) n b
+
+abbrev pub valueFits : ℕ → ℕ → Bool
+valueFits op k = cond (usesK op) true (eqb k 0)
+
+-- in is operator 1
+abbrev pub outFits : ℕ → ℕ → Bool
+outFits op out = cond (eqb op 1) (not (eqb out 1)) true
+
+-- a stream of a plan of n streams keeps the rule
+unfoldable pub keeps : ℕ → Fields → Bool
+keeps n f = outFits (f .op) (f .out) && (valueFits (f .op) (f .k) && argumentsFit n (f .op) (f .a) (f .b))
+
+unfoldable pub allKeep : ℕ → List Fields → Bool
+allKeep n [] = true
+allKeep n (f ∷ fs) = keeps n f && allKeep n fs
+
+-- ## The streams of a text
+
+-- all streams' lines: their fields and where they end, or the refusal of the first faulty line
+pub data Form : Type 0 where
+  refused : ℕ → Form
+  formed : List Fields → ℕ → Form
+
+abbrev pub put : Fields → Form → Form
+put f (refused r) = refused r
+put f (formed fs end) = formed (f ∷ fs) end
+
+abbrev pub others : Lines → (Fields → Form) → Form
+others (Lines.Stream f) rest = put f (rest f)
+others (Lines.Refused r) rest = refused r
+
+unfoldable pub streams : List ℕ → ℕ → ℕ → Form
+streams s at zero = formed [] at
+streams s at (suc n) = others (stream s at) (λ f. streams s (f .next) n)
+
+-- a stream's fields as the stream that they declare
+abbrev pub eqnFrom : Fields → Eqn
+eqnFrom f = eqnOf (f .op) (f .a) (f .b) (toZ w64 (f .k))
+
+abbrev pub declaredFrom : Fields → Declared
+declaredFrom f = record { eqn = eqnFrom f; out = eqb (f .out) 1 }
+
+unfoldable pub planFrom : List Fields → Plan
+planFrom fs = map eqnFrom fs
+
+-- ## The number of a text
+
+-- "bytes left over" are 2, then 5, "Then 6, a cycle without a delayed argument."
+unfoldable pub numberAfter : List ℕ → ℕ → Form → ℕ
+numberAfter s n (refused r) = r
+numberAfter s n (formed fs end) =
+    cond (eqb end (length s)) (cond (allKeep n fs) (cond (acyclic streamLimit (planFrom fs)) 0 6) 5) 2
+
+abbrev pub numberOfHead : List ℕ → Head → ℕ
+numberOfHead s (Head.Streams n at) = numberAfter s n (streams s at n)
+numberOfHead s (Head.Refused r) = r
+
+-- "1 text longer than 2,048 bytes; then the first faulty line decides"
+unfoldable pub number : List ℕ → ℕ
+number s = cond (ltb textLimit (length s)) 1 (numberOfHead s (head s))
+
+-- the streams that a text declares; none if its form is wrong
+abbrev pub declaredOf : Form → List Declared
+declaredOf (refused r) = []
+declaredOf (formed fs end) = map declaredFrom fs
+
+abbrev pub declaredHead : List ℕ → Head → List Declared
+declaredHead s (Head.Streams n at) = declaredOf (streams s at n)
+declaredHead s (Head.Refused r) = []
+
+unfoldable pub declared : List ℕ → List Declared
+declared s = declaredHead s (head s)

@@ -1,0 +1,160 @@
+// The number of a plan text: its form line by line, then rule 5, then rule 6.
+ghost use mathlib.Core.Path.{_≡_};
+ghost use mathlib.Core.Bool.{true, _&&_};
+ghost use Prim.Native.Nat.{_<_, _≤_};
+ghost use lib.ListN.{length};
+ghost use Rattle.text.specs.Grammar.{stream};
+ghost use Rattle.operators.specs.Limits.{streamLimit};
+ghost use Rattle.plan.specs.Rules.{argumentsFit, valueFits, outFits, keeps, streams, numberAfter, number};
+ghost use Rattle.plan.specs.Pass.{notedStream, notedLines, turn, Noted, passOf, checkedOf};
+use cycle::GRAPH;
+use operators::Plan;
+use text::Fields;
+use text::Head;
+use text::Lines;
+
+// What reading all lines of all streams finds: whether each keeps rule 5, or the number of the refusal.
+pub enum Checked {
+    Formed(bool),
+    Refused(u32),
+}
+
+// What reading one stream finds: whether it keeps rule 5, and the position past its lines; or the number of the refusal.
+pub enum Turn {
+    Next(bool, usize),
+    Refused(u32),
+}
+
+fn both(x: bool, y: bool) -> bool
+    ensures { λ r. ⌜ r ≡ (x && y) ⌝ }
+{
+    if x { y } else { false }
+}
+
+fn out_fits(op: u8, out: u64) -> bool
+    ensures { λ r. ⌜ r ≡ outFits op out ⌝ }
+{
+    if op == 1 { out != 1 } else { true }
+}
+
+fn value_fits(op: u8, k: u64) -> bool
+    ensures { λ r. ⌜ r ≡ valueFits op k ⌝ }
+{
+    match op {
+        0..=4 => k == 0,
+        5..=6 => true,
+        _ => k == 0,
+    }
+}
+
+// An argument that is used is below n, one that is not is 0: by the groups of the stored number.
+fn arguments_fit(n: u64, op: u8, a: u64, b: u64) -> bool
+    ensures { λ r. ⌜ r ≡ argumentsFit n op a b ⌝ }
+{
+    match op {
+        0..=3 => both(a == 0, b == 0),
+        4..=7 => both(a < n, b == 0),
+        _ => both(a < n, b < n),
+    }
+}
+
+// Whether a stream of a plan of n streams keeps rule 5.
+fn keeps(n: u64, f: Fields) -> bool
+    ensures { λ r. ⌜ r ≡ keeps n f ⌝ }
+{
+    if !out_fits(f.op, f.out) {
+        return false;
+    }
+    if !value_fits(f.op, f.k) {
+        return false;
+    }
+    arguments_fit(n, f.op, f.a, f.b)
+}
+
+// Tests rule 5 for stream i, and notes its undelayed arguments.
+fn note_stream(graph: &mut [u8; GRAPH], i: usize, n: u64, f: Fields) -> bool
+    requires { ⌜ (i < streamLimit) × (n ≤ 256) ⌝ }
+    ensures { λ r. ⌜ r ≡ keeps n f ⌝ }
+    ensures { λ _. ⌜ now (graph .exit) ≡ notedStream n i f (now (graph .entry)) ⌝ }
+{
+    if !keeps(n, f) {
+        cycle::note(graph, i, 0, 0, 0);
+        return false;
+    }
+    cycle::note(graph, i, f.op, f.a as u8, f.b as u8);
+    true
+}
+
+// Reads stream i at a position.
+fn read_turn(text: &[u8], at: usize, graph: &mut [u8; GRAPH], i: usize, n: u64) -> Turn
+    requires { ⌜ (i < streamLimit) × (n ≤ 256) ⌝ }
+    ensures { λ r. ⌜ r ≡ turn n (stream (now (text .entry)) at) ⌝ }
+    ensures { λ _. ⌜ now (graph .exit) ≡ notedLines n i (stream (now (text .entry)) at) (now (graph .entry)) ⌝ }
+{
+    match text::read_stream(text, at) {
+        Lines::Stream(f) => {
+            let kept = note_stream(graph, i, n, f);
+            Turn::Next(kept, f.next)
+        }
+        Lines::Refused(r) => Turn::Refused(r),
+    }
+}
+
+// Reads all streams' lines. A text whose form is right leaves its graph.
+fn form(text: &[u8], at: usize, n: usize, graph: &mut [u8; GRAPH]) -> Checked
+    requires { ⌜ n ≤ streamLimit ⌝ }
+    ensures { λ r. ⌜ r ≡ checkedOf (length (now (text .entry))) (passOf n true 0 (now (graph .entry)) (streams (now (text .entry)) at n)) ⌝ }
+    ensures { λ _. ⌜ Noted (now (graph .exit)) (passOf n true 0 (now (graph .entry)) (streams (now (text .entry)) at n)) ⌝ }
+{
+    let mut p = at;
+    let mut i = 0;
+    let mut ok = true;
+    while i < n {
+        match read_turn(text, p, graph, i, n as u64) {
+            Turn::Next(kept, q) => {
+                ok = both(ok, kept);
+                p = q;
+                i += 1;
+            }
+            Turn::Refused(r) => return Checked::Refused(r),
+        }
+    }
+    if p == text.len() {
+        Checked::Formed(ok)
+    } else {
+        Checked::Refused(2)
+    }
+}
+
+// The number of a text whose first two lines announce n streams, the first of them at a position.
+fn plan_number(text: &[u8], n: usize, at: usize) -> u32
+    requires { ⌜ n ≤ streamLimit ⌝ }
+    ensures { λ r. ⌜ r ≡ numberAfter (now (text .entry)) n (streams (now (text .entry)) at n) ⌝ }
+{
+    let mut graph = [0u8; GRAPH];
+    match form(text, at, n, &mut graph) {
+        Checked::Refused(r) => r,
+        Checked::Formed(ok) => {
+            if !ok {
+                return 5;
+            }
+            if !cycle::clear(&mut graph, n as u8, Plan::STREAMS as u8) {
+                return 6;
+            }
+            0
+        }
+    }
+}
+
+// The number of a plan text: 0 if it is taken.
+pub fn number(text: &[u8]) -> u32
+    ensures { λ r. ⌜ r ≡ number (now (text .entry)) ⌝ }
+{
+    if Plan::TEXT < text.len() {
+        return 1;
+    }
+    match text::read_head(text) {
+        Head::Streams(n, at) => plan_number(text, n, at),
+        Head::Refused(r) => r,
+    }
+}

@@ -1,0 +1,51 @@
+-- The text of a plan: the lines that load reads.
+use Prim.Native.Nat.{ℕ, zero, suc, _+_, _/_, _%_}
+use mathlib.Core.Bool.{Bool, true, false, cond}
+use mathlib.Core.List.{List, [], _∷_, _++_}
+use lib.Dec.{ltb}
+use lib.ListN.{length}
+use lib.IntN.{ℤ, pos, negsuc}
+use Rattle.machine.specs.State.{Declared}
+use Rattle.operators.specs.Operators.{nameOf, numberOf, firstOf, secondOf, valueOf}
+use Rattle.lines.specs.Form.{ending, valueKey, outKey}
+use Rattle.text.specs.Grammar.{planLine, streamsKey, opKey, firstKey, secondKey}
+
+-- "Numbers are decimal without leading zeros": at most this many digits
+unfoldable pub digits : ℕ → ℕ → List ℕ
+digits zero n = []
+digits (suc f) n = cond (ltb n 10) ((48 + n) ∷ []) (digits f (n / 10) ++ ((48 + n % 10) ∷ []))
+
+-- no number of a plan text has more than nineteen
+abbrev pub decimal : ℕ → List ℕ
+decimal n = digits 19 n
+
+-- "only `k` may have a minus sign"
+abbrev pub valueText : ℤ → List ℕ
+valueText (pos n) = decimal n
+valueText (negsuc n) = 45 ∷ decimal (suc n)
+
+abbrev pub bitText : Bool → List ℕ
+bitText true = 49 ∷ []
+bitText false = 48 ∷ []
+
+-- "Lines of key=value, each ended by byte 10"
+abbrev pub line : List ℕ → List ℕ → List ℕ
+line key value = key ++ (value ++ ending)
+
+-- "the five lines `op`, `a`, `b`, `k`, `out`"
+unfoldable pub streamText : ℕ → ℕ → ℕ → ℤ → Bool → List ℕ
+streamText op a b k out =
+    line opKey (nameOf op)
+    ++ (line firstKey (decimal a) ++ (line secondKey (decimal b) ++ (line valueKey (valueText k) ++ line outKey (bitText out))))
+
+-- "An `a`, `b` or `k` that the operator doesn't use is 0."
+unfoldable pub declaredText : Declared → List ℕ
+declaredText d = streamText (numberOf (d .eqn)) (firstOf (d .eqn)) (secondOf (d .eqn)) (valueOf (d .eqn)) (d .out)
+
+unfoldable pub allText : List Declared → List ℕ
+allText [] = []
+allText (d ∷ ds) = declaredText d ++ allText ds
+
+-- "`plan=1`, `streams=N`, then for streams 0 to N−1 the five lines"
+unfoldable pub render : List Declared → List ℕ
+render ds = planLine ++ (line streamsKey (decimal (length ds)) ++ allText ds)
