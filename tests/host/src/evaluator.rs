@@ -14,6 +14,8 @@ struct Table<'a> {
     readings: &'a [Events],
     /// the events at stamps below the present one
     before: Vec<Events>,
+    /// (s, p) where stream s has at p the value t − p, for the present stamp t
+    due: Vec<(usize, u32)>,
 }
 
 impl Table<'_> {
@@ -60,11 +62,9 @@ impl Table<'_> {
     /// "The delay fires at t exactly if for some set point p < t the stream a has value t − p at p, and b has no event
     /// strictly between p and t."
     fn fires(&self, s: usize, a: usize, b: usize, t: u32) -> bool {
-        // only a p from b's latest event before t on has no event of b between
-        let from = self.before[b].range(..t).next_back().map_or(0, |(p, _)| *p);
-        self.before[a].range(from..t).any(|(p, v)| {
+        self.due.iter().filter(|(stream, _)| *stream == a).any(|(_, p)| {
             let set_point = self.before[b].contains_key(p) || self.before[s].contains_key(p);
-            set_point && *v as i128 == t as i128 - *p as i128
+            set_point && self.before[b].range(p + 1..t).next().is_none()
         })
     }
 }
@@ -94,15 +94,18 @@ fn calculate(op: Op, x: i128, y: i128) -> Option<i64> {
 /// The stamps at which something can happen: 0 (unit), those of the readings, and p + v for an event of a delay's first
 /// argument at p with value v. They are looked at one after the other.
 pub fn evaluate(plan: &[Stream], readings: &[Events], until: u64, most: usize) -> Option<Vec<Events>> {
-    let mut agenda: BTreeSet<u64> = BTreeSet::from([0]);
+    // to each such stamp t the (s, p) where stream s has at p the value t − p
+    let mut agenda: BTreeMap<u64, Vec<(usize, u32)>> = BTreeMap::from([(0, vec![])]);
     for (stream, events) in plan.iter().zip(readings) {
         if stream.op == Op::In {
-            agenda.extend(events.keys().map(|t| *t as u64));
+            agenda.extend(events.keys().map(|t| (*t as u64, vec![])));
         }
     }
-    let mut table = Table { plan, readings, before: vec![Events::new(); plan.len()] };
+    let timers: BTreeSet<usize> = plan.iter().filter(|stream| stream.op == Op::Delay).map(|stream| stream.a).collect();
+    let mut table = Table { plan, readings, before: vec![Events::new(); plan.len()], due: vec![] };
     let mut looked = 0;
-    while let Some(t) = agenda.pop_first() {
+    while let Some((t, due)) = agenda.pop_first() {
+        table.due = due;
         if t >= until {
             break;
         }
@@ -119,10 +122,10 @@ pub fn evaluate(plan: &[Stream], readings: &[Events], until: u64, most: usize) -
                 table.before[s].insert(t as u32, v);
             }
         }
-        for stream in plan.iter().filter(|stream| stream.op == Op::Delay) {
-            if let Some(v) = now[stream.a].unwrap() {
+        for &a in &timers {
+            if let Some(v) = now[a].unwrap() {
                 if v > 0 && t as i128 + v as i128 <= LAST_STAMP as i128 {
-                    agenda.insert(t + v as u64);
+                    agenda.entry(t + v as u64).or_default().push((a, t as u32));
                 }
             }
         }

@@ -8,7 +8,7 @@ use crate::plan::{text_of, Op, Plan};
 use crate::random::seed;
 
 /// Stamps that the evaluator may look at before a check is given up.
-const MOST: usize = 60_000;
+const MOST: usize = 20_000;
 
 #[derive(Clone)]
 pub struct Session {

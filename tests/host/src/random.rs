@@ -59,6 +59,31 @@ impl Random {
     }
 }
 
+/// Three streams in a cycle: a recursion over the past by last, as a count or a sum, or a timer that sets itself again.
+fn recursion(random: &mut Random, plan: &mut Plan, order: &[usize], place: usize) {
+    let lower = |random: &mut Random| order[random.below(place as u64) as usize];
+    let (first, second, third) = (order[place], order[place + 1], order[place + 2]);
+    let trigger = lower(random);
+    let out = |random: &mut Random| random.chance(40);
+    if random.chance(50) {
+        plan[first] = Stream { op: Op::Last, a: third, b: trigger, k: 0, out: out(random) };
+        plan[second] = if random.chance(50) {
+            Stream { op: Op::Plus, a: first, b: 0, k: random.value(), out: out(random) }
+        } else {
+            let op = random.pick(&[Op::Add, Op::Sub, Op::Mul, Op::Add, Op::Rem, Op::Merge, Op::Le]);
+            Stream { op, a: first, b: lower(random), k: 0, out: out(random) }
+        };
+    } else {
+        plan[first] = Stream { op: Op::Delay, a: third, b: trigger, k: 0, out: out(random) };
+        plan[second] = if random.chance(80) {
+            Stream { op: Op::Set, a: first, b: 0, k: 1 + random.below(40) as i64, out: out(random) }
+        } else {
+            Stream { op: Op::Last, a: lower(random), b: first, k: 0, out: out(random) }
+        };
+    }
+    plan[third] = Stream { op: Op::Merge, a: second, b: lower(random), k: 0, out: out(random) };
+}
+
 /// A plan that keeps every rule: undelayed arguments go down a random order of the streams, delayed ones go anywhere.
 pub fn plan(random: &mut Random, most: usize) -> Plan {
     let n = if random.chance(15) { most } else { 1 + random.below(most as u64) as usize };
@@ -68,8 +93,18 @@ pub fn plan(random: &mut Random, most: usize) -> Plan {
     }
     let inputs = random.below(4.min(n as u64 + 1)) as usize;
     let mut plan = vec![Stream::new(Op::Nil); n];
+    let mut skip = 0;
     for place in 0..n {
+        if skip > 0 {
+            skip -= 1;
+            continue;
+        }
         let s = order[place];
+        if place > inputs && n - place >= 3 && random.chance(30) {
+            recursion(random, &mut plan, &order, place);
+            skip = 2;
+            continue;
+        }
         let anywhere = |random: &mut Random| random.below(n as u64) as usize;
         let lower = |random: &mut Random| {
             // often a near one, so that chains come about
@@ -107,7 +142,7 @@ pub fn plan(random: &mut Random, most: usize) -> Plan {
     }
     // a delay's first argument is often a stream that sets times
     for s in 0..n {
-        if plan[s].op == Op::Delay && random.chance(60) {
+        if plan[s].op == Op::Delay && random.chance(30) {
             let timed: Vec<usize> = (0..n).filter(|&i| matches!(plan[i].op, Op::Set | Op::Plus | Op::Merge | Op::In)).collect();
             if !timed.is_empty() {
                 plan[s].a = random.pick(&timed);

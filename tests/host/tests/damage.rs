@@ -163,7 +163,7 @@ fn damage(random: &mut Random, state: &mut [u8], streams: usize) {
 #[test]
 fn damaged_states() {
     let (mut good, mut bad, mut moves, mut done) = (0u64, 0u64, 0u64, [0u64; 5]);
-    for round in 0..rounds(6_000) {
+    for round in 0..rounds(15_000) {
         let mut random = Random::of(11, round);
         let plan = plan(&mut random, 12);
         let mut session = Session::load(&plan);

@@ -2,7 +2,7 @@
 //! back, the order of inputs, and full streams. Both engines make every call.
 
 use host::engine::Call;
-use host::evaluator::HORIZON;
+use host::evaluator::{evaluate, HORIZON};
 use host::history::Session;
 use host::layout;
 use host::model::Model;
@@ -42,11 +42,25 @@ fn any_call(random: &mut Random, session: &Session) -> Call {
     }
 }
 
+/// Arguments lead from one stream to the other.
+fn reaches(plan: &[host::plan::Stream], from: usize, to: usize) -> bool {
+    let (mut met, mut open) = (vec![false; plan.len()], vec![from]);
+    while let Some(s) = open.pop() {
+        if s == to {
+            return true;
+        }
+        if !std::mem::replace(&mut met[s], true) {
+            open.extend(plan[s].reads());
+        }
+    }
+    false
+}
+
 /// Every call's number, results, bounds, held events and marks are those of the model on whole histories.
 #[test]
 fn numbers_and_states_are_those_of_the_model_on_whole_histories() {
     let (mut calls, mut done, mut full) = (0u64, 0u64, 0u64);
-    for round in 0..rounds(1500) {
+    for round in 0..rounds(5000) {
         let mut random = Random::of(2, round);
         let plan = plan(&mut random, 12);
         let mut session = Session::load(&plan);
@@ -74,7 +88,9 @@ fn numbers_and_states_are_those_of_the_model_on_whole_histories() {
 #[test]
 fn handed_out_is_a_beginning_and_complete_at_rest() {
     let (mut checked, mut rested, mut events, mut copies) = (0u64, 0u64, 0u64, 0u64);
-    let all = rounds(2500);
+    // how often the operators that look back had an event, and of those streams how many read themselves through others
+    let (mut firings, mut lasts, mut recursive) = (0u64, 0u64, 0u64);
+    let all = rounds(6000);
     for round in 0..all {
         let mut random = Random::of(3, round);
         let plan = plan(&mut random, 32);
@@ -103,9 +119,21 @@ fn handed_out_is_a_beginning_and_complete_at_rest() {
             rested += session.check_rest() as u64;
         }
         events += session.handed.iter().map(|h| h.len() as u64).sum::<u64>();
+        if let Some(streams) = evaluate(&plan, &session.accepted, session.least_known().min(500), 5_000) {
+            for (s, stream) in plan.iter().enumerate().filter(|(s, _)| !streams[*s].is_empty()) {
+                match stream.op {
+                    Op::Delay => firings += streams[s].len() as u64,
+                    Op::Last => lasts += streams[s].len() as u64,
+                    _ => continue,
+                }
+                recursive += reaches(&plan, stream.a, s) as u64;
+            }
+        }
     }
     println!("seed {}: {all} lists, {checked} checked, {rested} at rest, {events} events handed out, {copies} copies put back", seed());
+    println!("seed {}: {firings} firings, {lasts} events of last, {recursive} of these streams in a cycle", seed());
     assert!(checked * 10 > all * 9 && rested * 2 > all && events > 5 * all && copies > 0);
+    assert!(firings > all && lasts > all && recursive > all / 10);
 }
 
 /// The same accepted readings in another order of inputs, other moves and other collections: the same events handed out,
@@ -113,7 +141,7 @@ fn handed_out_is_a_beginning_and_complete_at_rest() {
 #[test]
 fn the_order_of_inputs_does_not_matter() {
     let (mut compared, mut bytes) = (0u64, 0u64);
-    let all = rounds(600);
+    let all = rounds(1500);
     for round in 0..all {
         let mut random = Random::of(4, round);
         let mut plan = plan(&mut random, 24);
@@ -183,7 +211,7 @@ fn the_order_of_inputs_does_not_matter() {
 #[test]
 fn a_full_stream_keeps_the_next_event_waiting() {
     let mut full = 0u64;
-    for round in 0..rounds(300) {
+    for round in 0..rounds(600) {
         let mut random = Random::of(5, round);
         // a chain of random length from the fast input to a stream that also reads the slow one
         let length = 1 + random.below(5) as usize;
