@@ -47,6 +47,23 @@ static void say(const char *kind, uint32_t number, uint32_t count) {
         say("zone|", number, count - own); \
     } while (0)
 
+/* the same for a single call of the engine, with the stack that it takes below its caller's */
+static uint32_t deep;
+#define MEASURE_CALL(name, call)                          \
+    do {                                                  \
+        uint32_t sp, mark;                                \
+        __asm__ volatile("mov %0, sp" : "=r"(sp));        \
+        stack_paint();                                    \
+        uint32_t number, count;                           \
+        what = name;                                      \
+        gauge_begin();                                    \
+        number = (call);                                  \
+        count = gauge_end();                              \
+        mark = stack_mark();                              \
+        say("zone|", number, count - own);                \
+        if (deep < sp - mark) deep = sp - mark;           \
+    } while (0)
+
 #define S state, TESSLA_STATE_LENGTH
 
 /* one reading to rest: the offer, and a run until nothing moves */
@@ -76,31 +93,35 @@ static void others_known(const struct row *rows, uint32_t n, uint64_t bound) {
 }
 
 static void measure(const char *name, const struct row *rows, uint32_t n) {
-    uint32_t moves, stamp, mover = 0, last = 0, length = write_plan(text, rows, n);
+    uint32_t moves, stamp, mover = 0, output = 0, length = write_plan(text, rows, n);
     int64_t value;
-    for (uint32_t i = 0; i < n; i++)
-        if (rows[i].out) last = i;
     plan = name;
-    MEASURE("load", tessla_load(S, text, length));
+    MEASURE_CALL("load", tessla_load(S, text, length));
     for (uint32_t t = 10; t < 50; t += 10) {
         others_known(rows, n, t + 1);
         to_rest(0, t, 5);
         collect_all(rows, n);
     }
     others_known(rows, n, 200);
-    MEASURE("validation", tessla_move(S, 99));
-    MEASURE("run at rest", tessla_run(S, 100000, &moves));
+    MEASURE_CALL("validation", tessla_move(S, 99));
+    MEASURE_CALL("run at rest", tessla_run(S, 100000, &moves));
     memcpy(copy, state, sizeof state);
-    MEASURE("progress", tessla_offer_progress(S, 0, 60));
+    MEASURE_CALL("progress", tessla_offer_progress(S, 0, 60));
     memcpy(state, copy, sizeof state);
-    MEASURE("offer", tessla_offer_reading(S, 0, 70, 7));
+    MEASURE_CALL("offer", tessla_offer_reading(S, 0, 70, 7));
     while (mover < n && tessla_move(S, mover) != 0) mover++;
     memcpy(state, copy, sizeof state);
     tessla_offer_reading(S, 0, 70, 7);
-    MEASURE("move", tessla_move(S, mover));
+    MEASURE_CALL("move", tessla_move(S, mover));
+    memcpy(state, copy, sizeof state);
+    tessla_offer_reading(S, 0, 70, 7);
+    MEASURE_CALL("run to rest", tessla_run(S, 100000, &moves));
     memcpy(state, copy, sizeof state);
     MEASURE("a reading to rest", to_rest(0, 70, 7));
-    MEASURE("collect", tessla_collect(S, last, &stamp, &value));
+    memcpy(copy, state, sizeof state);
+    while (output < n && tessla_collect(S, output, &stamp, &value) != 0) output++;
+    memcpy(state, copy, sizeof state);
+    MEASURE_CALL("collect", tessla_collect(S, output, &stamp, &value));
 }
 
 /* every stream holds 16 events that nobody collects */
@@ -109,10 +130,10 @@ static void full(const struct row *rows, uint32_t n) {
     plan = "32 streams, all full";
     tessla_load(S, text, write_plan(text, rows, n));
     for (uint32_t t = 0; t < TESSLA_ROOM; t++) to_rest(0, 3 * t, 5);
-    MEASURE("validation", tessla_move(S, 99));
-    MEASURE("run at rest", tessla_run(S, 100000, &moves));
+    MEASURE_CALL("validation", tessla_move(S, 99));
+    MEASURE_CALL("run at rest", tessla_run(S, 100000, &moves));
     MEASURE("a reading to rest", to_rest(0, 70, 7));
-    MEASURE("run, all wait", tessla_run(S, 100000, &moves));
+    MEASURE_CALL("run, all wait", tessla_run(S, 100000, &moves));
     MEASURE("collecting all", collect_all(rows, n));
 }
 
@@ -149,11 +170,8 @@ static uint32_t boxes(uint32_t n, uint32_t streams) {
 }
 
 int main(void) {
-    uint32_t sp, deep;
     gauge_begin();
     own = gauge_end();
-    __asm__ volatile("mov %0, sp" : "=r"(sp));
-    stack_paint();
     box(rows, 0);
     measure("6 streams, one box", rows, 6);
     boxes(2, 16);
@@ -168,7 +186,12 @@ int main(void) {
     measure("32 streams, 31 readers", rows, 32);
     for (uint32_t i = 1; i < 32; i++) rows[i].out = 1;
     full(rows, 32);
-    deep = sp - stack_mark();
+    for (uint8_t i = 0; i < 32; i++) {
+        uint8_t op = i < 2 ? IN : i < 20 ? i : 18 + i % 2;
+        rows[i] = (struct row){ .op = op, .b = op >= ADD, .k = op == SET || op == PLUS ? 3 : 0, .out = op > IN };
+        if (i >= 20) rows[i].a = i - 4;
+    }
+    measure("32 streams, every operator", rows, 32);
     put("stack|");
     put_number(deep);
     put("\n");
