@@ -52,13 +52,13 @@ abbrev pub InRange : Fields → Type 0
 InRange f = (f .k < 2 ^ 64) × (f .out ≤ 1)
 
 module _ (n : ℕ) (f : Fields) (h : Sound f) (e : keeps n f ≡ true) where
-  value-of : valueOf (eqnFrom f) ≡ toZ w64 (f .k)
+  pub value-of : valueOf (eqnFrom f) ≡ toZ w64 (f .k)
   value-of = value-back (f .a) (f .b) (toZ w64 (f .k)) (f .op) (h .0) (h .1) ∙ same-value (usesK (f .op)) (f .k) (value-kept n f e)
 
-  first-of : firstOf (eqnFrom f) ≡ f .a
+  pub first-of : firstOf (eqnFrom f) ≡ f .a
   first-of = first-back (f .a) (f .b) (toZ w64 (f .k)) (f .op) (h .0) (h .1) ∙ same-argument (usesA (f .op)) n (f .a) (first-kept n f e)
 
-  second-of : secondOf (eqnFrom f) ≡ f .b
+  pub second-of : secondOf (eqnFrom f) ≡ f .b
   second-of = second-back (f .a) (f .b) (toZ w64 (f .k)) (f .op) (h .0) (h .1) ∙ same-argument (usesB (f .op)) n (f .b) (second-kept n f e)
 
   -- its lines are those that its declaration is written with

@@ -1,0 +1,72 @@
+-- The state that load fills is sound.
+use Prim.Native.Nat.{ℕ, zero, suc, _<_, _≤_}
+use mathlib.Core.Path.{_≡_, refl, sym, ap, _∙_, subst}
+use mathlib.Core.Bool.{Bool, true, false, _&&_}
+use mathlib.Core.List.{List, [], _∷_, map}
+use native.Mathlib.Omega.{arith}
+use lib.Dec.{T}
+use lib.ListN.{length, getD}
+use Rattle.meaning.specs.Plan.{Eqn, input, nil, unit, one, two, last, delay, isInput, reads, Plan}
+use Rattle.meaning.specs.Cycle.{acyclic}
+use Rattle.machine.specs.State.{Cell, State, Declared, noKept, fresh, loaded, absent, cellAt}
+use Rattle.machine.specs.State as state
+use Rattle.operators.specs.Limits.{streamLimit}
+use Rattle.cycle.specs.Graph as graph
+use Rattle.cells.specs.Sound.{AllBelow, IsNext, IsKept, SoundCell, Sound}
+use Rattle.plan.specs.Taken.{StreamKeeps, Each, planOf, KeepsRules}
+use Rattle.load.proofs.Taken.{many}
+
+below : (n : ℕ) (l : List ℕ) → graph.AllBelow n l → AllBelow n l
+below n [] h = tt
+below n (a ∷ l) h = (h .0, below n l (h .1))
+
+next-fresh : (b : Bool) → IsNext b 0 0
+next-fresh true = omega arith
+next-fresh false = refl
+
+kept-fresh : (e : Eqn) → IsKept e 0 noKept
+kept-fresh input = refl
+kept-fresh nil = refl
+kept-fresh unit = refl
+kept-fresh (one f a) = refl
+kept-fresh (two g a b) = refl
+kept-fresh (last a b) = record { prev = tt; fresh = λ e. refl; since = refl; value = refl; prior = refl }
+kept-fresh (delay a b) = record { prev = refl; since = omega arith; value = tt; prior = tt; unset = λ e. refl; fresh = λ e. refl }
+
+no-output : (x o : Bool) → (x && o) ≡ false → T x → o ≡ false
+no-output true o e t = e
+no-output false o e t = absurd t
+
+cell-fresh : (n : ℕ) (d : Declared) → StreamKeeps n d → SoundCell n (fresh d)
+cell-fresh n d k = record {
+  arguments = below n (reads (d .eqn)) (k .arguments);
+  value = k .value;
+  out = no-output (isInput (d .eqn)) (d .out) (k .output);
+  bound = omega arith;
+  few = omega arith;
+  held = omega arith;
+  next = next-fresh (d .out);
+  kept = kept-fresh (d .eqn);
+}
+
+cell-at : (n : ℕ) (ds : List Declared) → Each n ds → (i : ℕ) → i < length ds → SoundCell n (cellAt (map fresh ds) i)
+cell-at n [] e i h = absurd (omega arith)
+cell-at n (d ∷ ds) e zero h = cell-fresh n d (e .0)
+cell-at n (d ∷ ds) e (suc i) h = cell-at n ds (e .1) i (omega arith)
+
+pub plan-loaded : (ds : List Declared) → state.planOf (loaded ds) ≡ planOf ds
+unfolding loaded
+plan-loaded [] = refl
+plan-loaded (d ∷ ds) = ap (λ (l : Plan). d .eqn ∷ l) (plan-loaded ds)
+
+-- a plan that keeps the rules loads as a sound state
+pub loaded-sound : (ds : List Declared) → KeepsRules ds → Sound (loaded ds)
+loaded-sound ds k = record {
+  some = rw (many ds) (k .some);
+  few = rw (many ds) (k .few);
+  each = λ i h. rw (many ds) (at i (subst (λ (n : ℕ). i < n) (many ds) h));
+  acyclic = ap (acyclic streamLimit) (plan-loaded ds) ∙ k .clear;
+}
+  where
+    at : (i : ℕ) → i < length ds → SoundCell (length ds) (cellAt (loaded ds) i)
+    at i h = unfold loaded in cell-at (length ds) ds (k .each) i h

@@ -1,0 +1,56 @@
+// Fills a state with the streams of a plan text: a second pass over a text whose number is 0.
+ghost use mathlib.Core.Path.{_≡_};
+ghost use Prim.Native.Nat.{_*_, _≤_};
+ghost use lib.ListN.{length};
+ghost use Rattle.layout.specs.Record.{encRaw, decRaw, encode, decode, change};
+ghost use Rattle.load.specs.Filled.{stored, written, filled};
+use text::Fields;
+use text::Head;
+use text::Lines;
+
+// Stores a stream's fields in a record.
+fn store(r: &mut [u8], f: Fields)
+    requires { ⌜ length (now r) ≡ 256 ⌝ }
+    ensures { λ _. ⌜ now (r .exit) ≡ encRaw (stored f (decRaw (now (r .entry)))) ⌝ }
+{
+    layout::put_byte(r, 0, le::wide(f.op));
+    layout::put_byte(r, 1, f.a % 256);
+    layout::put_byte(r, 2, f.b % 256);
+    layout::put_byte(r, 3, f.out % 256);
+    layout::put_word(r, 0, f.k);
+}
+
+// Stores the n streams whose lines begin at a position, each in its record.
+fn write(state: &mut [u8], text: &[u8], n: usize, at: usize)
+    requires { ⌜ n * 256 ≤ length (now state) ⌝ }
+    ensures { λ _. ⌜ now (state .exit) ≡ encode n (written (now (text .entry)) at n 0 (decode n (now (state .entry)))) ⌝ }
+{
+    let mut p = at;
+    let mut i = 0;
+    while i < n {
+        match text::read_stream(text, p) {
+            Lines::Stream(f) => {
+                let start = i * 256;
+                let end = start + 256;
+                store(&mut state[start..end], f);
+                p = f.next;
+                i += 1;
+            }
+            Lines::Refused(_) => return,
+        }
+    }
+}
+
+// Clears the state and stores the streams of a text.
+pub fn fill(state: &mut [u8], text: &[u8])
+    requires { ⌜ length (now state) ≡ 12288 ⌝ }
+    ensures { λ _. ⌜ now (state .exit) ≡ filled (now (text .entry)) (now (state .entry)) ⌝ }
+{
+    match text::read_head(text) {
+        Head::Streams(n, at) => {
+            le::clear(state, 0, 12288);
+            write(state, text, n, at);
+        }
+        Head::Refused(_) => {}
+    }
+}
