@@ -40,26 +40,26 @@ print('| deepest stack in bytes, no call can take more | %s | 4,096 |' % ' | '.j
 print('| deepest stack in bytes, painted | %s | 4,096 |' % ' | '.join(count(painted[c]) for c in names))
 print()
 for c in names:
-    print('%s: %s bytes by `%s`' % (CORES[c], count(max(bound[c])[0]), max(bound[c])[2]))
+    print('Deepest on the %s: `%s`.' % (CORES[c], max(bound[c])[2]))
     print()
 
 plans = list(dict.fromkeys(plan for plan, call in zones[names[0]] if (plan, 'load') in zones[names[0]]))
-for c in names:
-    print('%s, instructions:' % CORES[c])
-    print()
+def table(c, cell):
     print('| plan | %s |' % ' | '.join(CALLS))
     print('|---|%s' % ('---:|' * len(CALLS)))
     for plan in plans:
-        print('| %s | %s |' % (plan, ' | '.join(count(zones[c][plan, call][1]) for call in CALLS)))
+        print('| %s | %s |' % (plan, ' | '.join(cell(zones[c][plan, call]) for call in CALLS)))
     print()
+
+
+for c in names:
+    print('%s, instructions:' % CORES[c])
+    print()
+    table(c, lambda zone: count(zone[1]))
 c = names[0]
-print('%s, milliseconds at %d MHz: one cycle an instruction, then by the cycles of the manual:' % (CORES[c], MHZ))
+print('%s, milliseconds at %d MHz: at one cycle an instruction / by the cycles of the manual:' % (CORES[c], MHZ))
 print()
-print('| plan | %s |' % ' | '.join(CALLS))
-print('|---|%s' % ('---:|' * len(CALLS)))
-for plan in plans:
-    print('| %s | %s |' % (plan, ' | '.join('%s, %s' % (ms(zones[c][plan, call][1]), ms(zones[c][plan, call][2])) for call in CALLS)))
-print()
+table(c, lambda zone: '%s / %s' % (ms(zone[1]), ms(zone[2])))
 print('Where the cycles of a reading to rest go (%s):' % CORES[c])
 print()
 print('| plan | functions |')
