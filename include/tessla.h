@@ -20,8 +20,8 @@
  * A copy of the state. The buffer may be copied anywhere, to flash say, and put back later, at any address. A state put
  * back has had the calls made up to its copy: what was accepted or handed out after the copy does not count for it.
  * Readings offered after the copy are to be offered again, and events collected after the copy are handed out again. A
- * copy that was damaged is refused 15 or is a state of the same plan form; the engine cannot know that it is not the one
- * that was saved, so a checksum beside it is the firmware's business.
+ * copy damaged in storage is refused 15 where its contents are no state; where they happen to be one, no call can know
+ * that it is not the one that was saved. A checksum beside the copy is the firmware's business.
  */
 #ifndef TESSLA_H
 #define TESSLA_H

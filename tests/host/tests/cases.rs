@@ -70,22 +70,8 @@ fn offered(plan: &host::plan::Plan, readings: &[Events], until: u64, order: u64)
             session.call(call);
         }
         let call = *waiting[i].last().unwrap();
-        match session.call(call).number {
-            0 => {
-                waiting[i].pop();
-            }
-            // an input that runs ahead is full: go on with another one
-            9 => {
-                assert!(open.len() > 1, "the input furthest behind is refused 9");
-                let call = *waiting[open[(open.iter().position(|&x| x == i).unwrap() + 1) % open.len()]].last().unwrap();
-                session.rest(10_000);
-                let _ = call;
-                if order < 3 {
-                    panic!("the case has too many readings for this order");
-                }
-            }
-            number => panic!("refused {number}: {call:?}"),
-        }
+        assert_eq!(session.call(call).number, 0, "{call:?} (no case fills an input)");
+        waiting[i].pop();
     }
     assert!(session.rest(200_000), "comes to rest");
     session.handed

@@ -133,7 +133,7 @@ fn handed_out_is_a_beginning_and_complete_at_rest() {
     println!("seed {}: {all} lists, {checked} checked, {rested} at rest, {events} events handed out, {copies} copies put back", seed());
     println!("seed {}: {firings} firings, {lasts} events of last, {recursive} of these streams in a cycle", seed());
     assert!(checked * 10 > all * 9 && rested * 2 > all && events > 5 * all && copies > 0);
-    assert!(firings > all && lasts > all && recursive > all / 10);
+    assert!(firings > all / 2 && lasts > all && recursive > all / 10);
 }
 
 /// The same accepted readings in another order of inputs, other moves and other collections: the same events handed out,
