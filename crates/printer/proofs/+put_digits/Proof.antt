@@ -1,0 +1,153 @@
+-- `printer::put_digits` meets its contract.
+use Rattle.printer.proofs.Puts.{put-length, digits-most, digits-end, digits-last, digits-go}
+use mathlib.Core.Path.{_∙_}
+use Prim.Native.Nat.{ℕ, _+_, _-_, _/_, _<_}
+use denote.Ref.{now}
+use native.Mathlib.Omega.{arith}
+use Prim.Native.Nat.{ℕ, _<_}
+use borrow.Fn.Kinds.{In}
+use borrow.Fn.PlainCycle.{Measures, is, falls, and}
+use Rattle.printer.proofs.put_digits.Reads as put-digits
+use Rattle.printer.proofs.put_digits.Kinds as put-digits-kinds
+use Rattle.printer.proofs.+put_digits.Lts-put_digits as put-digits-lts
+use Rattle.printer.proofs.put_byte.Reads as put-byte-reads
+use Rattle.printer.proofs.+put_digits.{statement}
+use Rattle.printer.proofs.+put_digits.Tie.{close}
+
+abbrev μ-put-digits : Measures 1 put-digits-kinds.ps ℕ
+μ-put-digits κs a = a .1 .1 .1 .0
+
+abbrev put-digits-at : ℕ → In 1 put-digits-kinds.ps
+put-digits-at t =
+    and 1 put-digits-kinds.ps (is 1 put-digits-kinds.ps μ-put-digits t) put-digits.Pre
+
+abbrev put-digits-below : ℕ → In 1 put-digits-kinds.ps
+put-digits-below t =
+    and 1 put-digits-kinds.ps (falls 1 put-digits-kinds.ps _<_ μ-put-digits t) put-digits.Pre
+
+put-digits-returns : (t : ℕ) → put-digits-lts.Need-returns (
+  put-byte-reads.Asked,
+  put-byte-reads.Learnt,
+  put-digits-below t,
+  put-digits.Post,
+) (put-digits-at t) put-digits.Post
+put-digits-returns t c = digits-end (now (c .before .before .args .out)) (c .before .before .args .at) (c .before .before .args .n) (c .before .before .args .most) (omega arith)
+
+put-digits-cast-put-byte : (t : ℕ) → put-digits-lts.Need-cast-put-byte (
+  put-byte-reads.Asked,
+  put-byte-reads.Learnt,
+  put-digits-below t,
+  put-digits.Post,
+) (put-digits-at t) put-digits.Post
+put-digits-cast-put-byte t c = omega arith
+
+put-digits-add-put-byte : (t : ℕ) → put-digits-lts.Need-add-put-byte (
+  put-byte-reads.Asked,
+  put-byte-reads.Learnt,
+  put-digits-below t,
+  put-digits.Post,
+) (put-digits-at t) put-digits.Post
+put-digits-add-put-byte t c = omega arith
+
+put-digits-put-byte-requires : (t : ℕ) → put-digits-lts.Need-put-byte-requires (
+  put-byte-reads.Asked,
+  put-byte-reads.Learnt,
+  put-digits-below t,
+  put-digits.Post,
+) (put-digits-at t) put-digits.Post
+put-digits-put-byte-requires t c κs = omega arith
+
+put-digits-same-length : (t : ℕ) → put-digits-lts.Need-same-length (
+  put-byte-reads.Asked,
+  put-byte-reads.Learnt,
+  put-digits-below t,
+  put-digits.Post,
+) (put-digits-at t) put-digits.Post
+put-digits-same-length t c = put-length (c .before .before .put-byte .ensures)
+
+put-digits-returns-2 : (t : ℕ) → put-digits-lts.Need-returns-2 (
+  put-byte-reads.Asked,
+  put-byte-reads.Learnt,
+  put-digits-below t,
+  put-digits.Post,
+) (put-digits-at t) put-digits.Post
+put-digits-returns-2 t c = digits-last (now (c .before .before .before .before .before .before .before .args .out)) (c .before .before .before .before .before .before .before .args .at) (c .before .before .before .before .before .before .before .args .n) (c .before .before .before .before .before .before .before .args .most) (omega arith) (omega arith) (c .before .before .put-byte .result) (c .before .before .put-byte .last .0) (c .before .before .put-byte .ensures)
+
+put-digits-sub-put-digits : (t : ℕ) → put-digits-lts.Need-sub-put-digits (
+  put-byte-reads.Asked,
+  put-byte-reads.Learnt,
+  put-digits-below t,
+  put-digits.Post,
+) (put-digits-at t) put-digits.Post
+put-digits-sub-put-digits t c = omega arith
+
+put-digits-put-digits-requires : (t : ℕ) → put-digits-lts.Need-put-digits-requires (
+  put-byte-reads.Asked,
+  put-byte-reads.Learnt,
+  put-digits-below t,
+  put-digits.Post,
+) (put-digits-at t) put-digits.Post
+put-digits-put-digits-requires t c κs = omega arith
+
+put-digits-cast-put-byte-2 : (t : ℕ) → put-digits-lts.Need-cast-put-byte-2 (
+  put-byte-reads.Asked,
+  put-byte-reads.Learnt,
+  put-digits-below t,
+  put-digits.Post,
+) (put-digits-at t) put-digits.Post
+put-digits-cast-put-byte-2 t c = omega arith
+
+put-digits-add-put-byte-2 : (t : ℕ) → put-digits-lts.Need-add-put-byte-2 (
+  put-byte-reads.Asked,
+  put-byte-reads.Learnt,
+  put-digits-below t,
+  put-digits.Post,
+) (put-digits-at t) put-digits.Post
+put-digits-add-put-byte-2 t c = omega arith
+
+put-digits-put-byte-requires-2 : (t : ℕ) → put-digits-lts.Need-put-byte-requires-2 (
+  put-byte-reads.Asked,
+  put-byte-reads.Learnt,
+  put-digits-below t,
+  put-digits.Post,
+) (put-digits-at t) put-digits.Post
+put-digits-put-byte-requires-2 t c κs = omega (arith, c .before .before .before .put-digits .ensures .past, digits-most (c .before .before .before .before .before .before .before .before .args .most - 1) (c .before .before .before .before .before .before .before .before .args .n / 10), put-length (c .before .before .before .put-digits .ensures))
+
+put-digits-same-length-2 : (t : ℕ) → put-digits-lts.Need-same-length-2 (
+  put-byte-reads.Asked,
+  put-byte-reads.Learnt,
+  put-digits-below t,
+  put-digits.Post,
+) (put-digits-at t) put-digits.Post
+put-digits-same-length-2 t c = put-length (c .before .before .put-byte2 .ensures) ∙ put-length (c .before .before .before .before .before .before .put-digits .ensures)
+
+put-digits-returns-3 : (t : ℕ) → put-digits-lts.Need-returns-3 (
+  put-byte-reads.Asked,
+  put-byte-reads.Learnt,
+  put-digits-below t,
+  put-digits.Post,
+) (put-digits-at t) put-digits.Post
+put-digits-returns-3 t c = digits-go (now (c .before .before .before .before .before .before .before .before .before .before .before .args .out)) (c .before .before .before .before .before .before .before .before .before .before .before .args .at) (c .before .before .before .before .before .before .before .before .before .before .before .args .n) (c .before .before .before .before .before .before .before .before .before .before .before .args .most) (omega arith) (omega arith) (c .before .before .before .before .before .before .put-digits .result) (c .before .before .before .before .before .before .put-digits .last .0) (c .before .before .before .before .before .before .put-digits .ensures) (c .before .before .put-byte2 .result) (c .before .before .put-byte2 .last .0) (c .before .before .put-byte2 .ensures)
+
+pub +put-digits-spec : {M : Type 1} → statement M
++put-digits-spec = close μ-put-digits λ t. put-digits-lts.spec (
+  put-byte-reads.Asked,
+  put-byte-reads.Learnt,
+  put-digits-below t,
+  put-digits.Post,
+)
+    (put-digits-at t)
+    put-digits.Post
+    (put-digits-returns t)
+    (put-digits-cast-put-byte t)
+    (put-digits-add-put-byte t)
+    (put-digits-put-byte-requires t)
+    (put-digits-same-length t)
+    (put-digits-returns-2 t)
+    (put-digits-sub-put-digits t)
+    (put-digits-put-digits-requires t)
+    (put-digits-cast-put-byte-2 t)
+    (put-digits-add-put-byte-2 t)
+    (put-digits-put-byte-requires-2 t)
+    (put-digits-same-length-2 t)
+    (put-digits-returns-3 t)

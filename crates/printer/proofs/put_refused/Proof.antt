@@ -1,0 +1,38 @@
+-- `printer::put_refused` meets its contract.
+use Prim.Native.Nat.{_-_}
+use Rattle.printer.specs.Print.{refusedText}
+use Rattle.printer.proofs.Puts.{put-then, put-length, digits-most}
+use borrow.Author.Needs.{needs}
+use native.Mathlib.Omega.{arith}
+use Rattle.printer.proofs.put_refused.Statement.{statement}
+use Rattle.printer.proofs.put_refused.Tie as tie
+
+slice-aggregate-put-word : tie.Need-slice-aggregate-put-word
+slice-aggregate-put-word c = search needs
+
+put-word-requires : tie.Need-put-word-requires
+put-word-requires c κs = search needs
+
+put-number-requires : tie.Need-put-number-requires
+put-number-requires c κs = search needs
+
+put-byte-requires : tie.Need-put-byte-requires
+put-byte-requires c κs = omega (arith, c .before .before .before .before .before .before .before .put-word .ensures .past, put-length (c .before .before .before .before .before .before .before .put-word .ensures), c .before .before .before .put-number .ensures .past, put-length (c .before .before .before .put-number .ensures), digits-most 19 (c .before .before .before .before .before .before .before .before .before .before .before .args .number))
+
+same-length : tie.Need-same-length
+same-length c = search needs
+
+returns : tie.Need-returns
+unfolding refusedText
+returns c = put-then (c .before .before .before .before .before .before .before .before .before .before .put-word .ensures) (put-then (c .before .before .before .before .before .before .put-number .ensures) (c .before .before .put-byte .ensures))
+
+pub put-refused-spec : {M : Type 1} → statement M
+put-refused-spec =
+    tie.close
+    (tie.spec
+    slice-aggregate-put-word
+    put-word-requires
+    put-number-requires
+    put-byte-requires
+    same-length
+    returns)

@@ -1,0 +1,57 @@
+-- One call of a replay, case by case.
+use Prim.Native.Nat.{ℕ, zero, suc, _+_, _<_, _≤_}
+use mathlib.Core.Path.{_≡_, refl, ap}
+use mathlib.Core.Bool.{Bool, true, false, cond}
+use mathlib.Core.List.{[]}
+use lib.Dec.{eqb}
+use borrow.Author.Tests.{eq-eqb, ne-eqb, lt-ltb, le-ltb}
+use Rattle.operators.specs.Limits.{streamLimit}
+use Rattle.engine.specs.Reply.{Reply}
+use Rattle.printer.specs.Print.{eventText, refusedText}
+use Rattle.replaying.specs.declared.Place.the-variants.{Run, Collect}
+use Rattle.replaying.specs.Replay.{refusal, turn, ran, afterOutput, roundAfter, collected}
+
+-- ## Offers
+
+pub refusal-none : (n : ℕ) → n ≡ 0 → refusal n ≡ []
+refusal-none n e = ap refusal e
+
+pub refusal-some : (n : ℕ) → (n ≡ 0 → ⊥) → refusal n ≡ refusedText n
+refusal-some zero h = absurd (h refl)
+refusal-some (suc n) h = refl
+
+-- ## What follows a stream
+
+pub after-next : (i : ℕ) (busy : Bool) → i + 1 < streamLimit → Collect (i + 1) busy ≡ afterOutput i busy
+unfolding afterOutput
+after-next i busy h = rw (lt-ltb (i + 1) streamLimit h)
+
+pub after-last : (i : ℕ) (busy : Bool) → streamLimit ≤ i + 1 → roundAfter busy ≡ afterOutput i busy
+unfolding afterOutput
+after-last i busy h = rw (le-ltb (i + 1) streamLimit h)
+
+-- ## A collection
+
+pub collected-event : (i : ℕ) (busy : Bool) (r : Reply) → r .number ≡ 0 → collected i busy r ≡ turn (Collect i true) (eventText i (r .stamp) (r .value)) (r .buffer)
+unfolding collected
+collected-event i busy r e = rw (eq-eqb (r .number) 0 e)
+
+pub collected-none : (i : ℕ) (busy : Bool) (r : Reply) → (r .number ≡ 0 → ⊥) → collected i busy r ≡ turn (afterOutput i busy) [] (r .buffer)
+unfolding collected
+collected-none i busy r e = rw (ne-eqb (r .number) 0 e)
+
+-- ## A run
+
+pub ran-rest : (busy : Bool) (r : Reply) → r .moves ≡ 0 → ran busy r ≡ turn (Collect 0 busy) [] (r .buffer)
+ran-rest busy r e = rw (eq-eqb (r .moves) 0 e)
+
+pub ran-moved : (busy : Bool) (r : Reply) → (r .moves ≡ 0 → ⊥) → ran busy r ≡ turn (Run true) [] (r .buffer)
+ran-moved busy r e = rw (ne-eqb (r .moves) 0 e)
+
+-- whether something moved or not, the state is the run's
+pub ran-state : (busy : Bool) (r : Reply) → (ran busy r .state ≡ r .buffer) × (ran busy r .printed ≡ [])
+ran-state busy r = go (eqb (r .moves) 0)
+  where
+    go : (b : Bool) → (cond b (turn (Collect 0 busy) [] (r .buffer)) (turn (Run true) [] (r .buffer)) .state ≡ r .buffer) × (cond b (turn (Collect 0 busy) [] (r .buffer)) (turn (Run true) [] (r .buffer)) .printed ≡ [])
+    go true = (refl, refl)
+    go false = (refl, refl)

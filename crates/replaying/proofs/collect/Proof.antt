@@ -1,0 +1,71 @@
+use mathlib.Core.Path.{_≡_, refl, sym, ap, _∙_, subst}
+use mathlib.Core.Bool.{Bool, true, false, true≢false}
+use mathlib.Core.List.{List, [], _∷_, _++_}
+use Prim.Native.Nat.{ℕ, _+_, _-_, _<_, _≤_}
+use mir.Val.{toZ, ofZ, SFits}
+use Rattle.machine.specs.Calls.{reading, progress, running, collecting}
+use Rattle.printer.specs.Print.{Put, eventText}
+use Rattle.printer.proofs.Puts.{put-none, put-length}
+use Rattle.replaying.specs.declared.Place.the-variants.{Run, Collect, Rest}
+use Rattle.replaying.specs.Replay.{callOf, refusal, turn, afterOutput, roundAfter, collected, Turned}
+use Rattle.replaying.proofs.Steps.{refusal-none, refusal-some, after-next, after-last, collected-event, collected-none, ran-rest, ran-moved, ran-state}
+use Rattle.replaying.proofs.Going.{turn-fits, turn-prints}
+use Rattle.replaying.proofs.Nearer.{turn-nearer, began, further}
+use mathlib.Core.Logic.{_⊎_, inl, inr}
+use Rattle.le.specs.Bytes.{Bytes}
+use Rattle.replaying.specs.Rank.{isRest, rank}
+use Rattle.replaying.specs.Replay.{allMoves, ran, step, Prints, here}
+use lib.ListN.{length, take}
+-- `replaying::collect` meets its contract.
+use Rattle.replaying.proofs.Steps.{collected-event, collected-none}
+use Rattle.resting.proofs.Bytes.{collect-is-value}
+use mir.Val.{SFits}
+use mathlib.Core.Path.{refl, sym, _∙_}
+use Prim.Native.Nat.{_-_}
+use denote.Ref.{now}
+use mir.Syntax.{w64}
+use mir.Facts.{toZ-ofZ}
+use Rattle.machine.specs.Calls.{collecting}
+use Rattle.engine.specs.Reply.{reply}
+use Rattle.printer.proofs.Puts.{put-none}
+use borrow.Author.Needs.{needs}
+use native.Mathlib.Omega.{arith}
+use Rattle.replaying.proofs.collect.Statement.{statement}
+use Rattle.replaying.proofs.collect.Tie as tie
+
+tessla-collect-requires : tie.Need-tessla-collect-requires
+tessla-collect-requires c κs = search needs
+
+put-event-requires : tie.Need-put-event-requires
+put-event-requires c κs = search needs
+
+same-length : tie.Need-same-length
+same-length c = search needs
+
+same-length-2 : tie.Need-same-length-2
+same-length-2 c = search needs
+
+returns : tie.Need-returns
+returns c = let f : SFits w64 (c .before .before .before .before .before .before .before .tessla-collect .last .1 .1 .1 .0) = record { sfits = rw (c .before .before .before .before .before .before .before .tessla-collect .ensures .1 .1 .0) (collect-is-value (now (c .before .before .before .before .before .before .before .before .before .before .before .before .before .args .state)) (λ j. omega (arith, c .before .before .before .before .before .before .before .before .before .before .before .before .slice-known .given j)) (c .before .before .before .before .before .before .before .before .before .before .before .before .before .args .stream)) } in rw (collected-event (c .before .before .before .before .before .before .before .before .before .before .before .before .before .args .stream) (c .before .before .before .before .before .before .before .before .before .before .before .before .before .args .busy) (reply (collecting (c .before .before .before .before .before .before .before .before .before .before .before .before .before .args .stream)) (now (c .before .before .before .before .before .before .before .before .before .before .before .before .before .args .state))) (sym (c .before .before .before .before .before .before .before .tessla-collect .ensures .0) ∙ c .before .before .before .before .if1 .taken)) (record { place = refl; put = rw (sym (c .before .before .before .before .before .before .before .tessla-collect .ensures .1 .0), sym (c .before .before .before .before .before .before .before .tessla-collect .ensures .1 .1 .0)) (rw (toZ-ofZ f) at (c .before .before .put-event .ensures)); state = c .before .before .before .before .before .before .before .tessla-collect .ensures .1 .1 .1 })
+
+after-output-requires : tie.Need-after-output-requires
+after-output-requires c κs = search needs
+
+same-length-3 : tie.Need-same-length-3
+same-length-3 c = search needs
+
+returns-2 : tie.Need-returns-2
+returns-2 c = rw (collected-none (c .before .before .before .before .before .before .before .before .before .before .args .stream) (c .before .before .before .before .before .before .before .before .before .before .args .busy) (reply (collecting (c .before .before .before .before .before .before .before .before .before .before .args .stream)) (now (c .before .before .before .before .before .before .before .before .before .before .args .state))) (λ e. c .before .if1 .left (c .before .before .before .before .tessla-collect .ensures .0 ∙ e))) (record { place = c .after-output .ensures; put = put-none _ _; state = c .before .before .before .before .tessla-collect .ensures .1 .1 .1 })
+
+pub collect-spec : {M : Type 1} → statement M
+collect-spec =
+    tie.close
+    (tie.spec
+    tessla-collect-requires
+    put-event-requires
+    same-length
+    same-length-2
+    returns
+    after-output-requires
+    same-length-3
+    returns-2)

@@ -1,0 +1,85 @@
+use mathlib.Core.Path.{_≡_, refl, sym, ap, _∙_, subst}
+use mathlib.Core.Bool.{Bool, true, false, true≢false}
+use mathlib.Core.List.{List, [], _∷_, _++_}
+use Prim.Native.Nat.{ℕ, _+_, _-_, _<_, _≤_}
+use mir.Syntax.{w64}
+use mir.Val.{toZ, ofZ, SFits}
+use mir.Facts.{toZ-ofZ}
+use Rattle.machine.specs.Calls.{reading, progress, running, collecting}
+use Rattle.resting.proofs.Bytes.{collect-is-value}
+use Rattle.printer.specs.Print.{Put, eventText}
+use Rattle.printer.proofs.Puts.{put-none, put-length}
+use Rattle.replaying.specs.declared.Place.the-variants.{Run, Collect, Rest}
+use Rattle.replaying.specs.Replay.{callOf, refusal, turn, afterOutput, roundAfter, collected, Turned}
+use Rattle.replaying.proofs.Steps.{refusal-none, refusal-some, after-next, after-last, collected-event, collected-none, ran-rest, ran-moved, ran-state}
+use Rattle.replaying.proofs.Going.{turn-fits, turn-prints}
+use Rattle.replaying.proofs.Nearer.{turn-nearer, began, further}
+use mathlib.Core.Logic.{_⊎_, inl, inr}
+use Rattle.le.specs.Bytes.{Bytes}
+use Rattle.replaying.specs.Rank.{isRest, rank}
+use Rattle.replaying.specs.Replay.{allMoves, ran, step, Prints, here}
+use lib.ListN.{length, take}
+-- `replaying::turn` meets its contract.
+use mathlib.Core.Path.{refl, sym, _∙_}
+use Prim.Native.Nat.{_-_}
+use denote.Ref.{now}
+use Rattle.machine.specs.Calls.{running}
+use Rattle.engine.specs.Reply.{reply}
+use Rattle.printer.proofs.Puts.{put-none}
+use Rattle.replaying.proofs.Steps.{ran-state}
+use Rattle.replaying.specs.Replay.{allMoves, step}
+use borrow.Author.Needs.{needs}
+use Rattle.replaying.proofs.turn.Statement.{statement}
+use Rattle.replaying.proofs.turn.Tie as tie
+
+enum-known-place : tie.Need-enum-known-place
+enum-known-place c = search needs
+
+run-requires : tie.Need-run-requires
+run-requires c κs = search needs
+
+enum-known-place-2 : tie.Need-enum-known-place-2
+enum-known-place-2 c = search needs
+
+collect-requires : tie.Need-collect-requires
+collect-requires c κs = search needs
+
+enum-told : tie.Need-enum-told
+enum-told c = search needs
+
+same-length : tie.Need-same-length
+same-length c = search needs
+
+returns : tie.Need-returns
+unfolding step
+returns c = rw (c .before .before .before .before .before .place .given .1) (let q = ran-state (c .before .before .before .before .before .place .given .0 .0) (reply (running allMoves) (now (c .before .before .before .before .before .before .before .before .before .args .state))) in record { place = c .before .before .run .ensures .0; put = rw (q .1) (put-none _ _); state = c .before .before .run .ensures .1 ∙ sym (q .0) })
+
+same-length-2 : tie.Need-same-length-2
+same-length-2 c = search needs
+
+same-length-3 : tie.Need-same-length-3
+same-length-3 c = search needs
+
+returns-2 : tie.Need-returns-2
+unfolding step
+returns-2 c = rw (c .before .before .before .before .before .before .before .before .place2 .given .1) (c .before .before .before .before .collect .ensures)
+
+returns-3 : tie.Need-returns-3
+unfolding step
+returns-3 c = rw (c .enum-told .given .1) (record { place = refl; put = put-none _ _; state = refl })
+
+pub turn-spec : {M : Type 1} → statement M
+turn-spec =
+    tie.close
+    (tie.spec
+    enum-known-place
+    run-requires
+    enum-known-place-2
+    collect-requires
+    enum-told
+    same-length
+    returns
+    same-length-2
+    same-length-3
+    returns-2
+    returns-3)

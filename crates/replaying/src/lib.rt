@@ -1,0 +1,159 @@
+// Replaying, step by step: a record is offered, and then the state is run to rest and its outputs are collected, again and again.
+ghost use mathlib.Core.Path.{_≡_};
+ghost use Prim.Native.Nat.{_+_, _<_, _≤_};
+ghost use mathlib.Core.Bool.{false};
+ghost use lib.ListN.{length, take};
+ghost use Rattle.printer.specs.Print.{Put, eventRoom, refusedRoom};
+ghost use Rattle.replaying.specs.Replay.{Turned, Prints, callOf, refusal, allMoves, ran, afterOutput, collected, step};
+ghost use Rattle.replaying.specs.Rank.{isRest, rank};
+ghost use Rattle.engine.specs.Reply.{reply};
+ghost use Rattle.machine.specs.Calls.{running, collecting};
+use operators::Plan;
+use trace::Record;
+
+// Where a replay stands. `busy` says that something moved or was handed out in this round.
+pub enum Place {
+    // It is to run.
+    Run { busy: bool },
+    // It is to collect from this stream.
+    Collect { stream: u32, busy: bool },
+    // Nothing moves or waits.
+    Rest,
+}
+
+// Where a replay stands, and the position past what it printed.
+pub struct Stand {
+    pub place: Place,
+    pub end: usize,
+}
+
+// Offers a record.
+fn offered(state: &mut [u8], read: Record) -> u32
+    ensures number { λ r. ⌜ r ≡ reply (callOf read) (now (state .entry)) .number ⌝ }
+    ensures buffer { λ _. ⌜ now (state .exit) ≡ reply (callOf read) (now (state .entry)) .buffer ⌝ }
+{
+    match read {
+        Record::Reading {
+            stream,
+            stamp,
+            value,
+        } => engine::tessla_offer_reading(state, stream, stamp, value),
+        Record::Progress { stream, bound } => {
+            engine::tessla_offer_progress(state, stream, bound)
+        }
+    }
+}
+
+// Offers a record, and puts the line of the refusal if it is refused.
+pub fn offer(state: &mut [u8], read: Record, out: &mut [u8], at: usize) -> usize
+    requires { ⌜ at + refusedRoom ≤ length (now out) ⌝ }
+    ensures put { λ r. ⌜ Put (now (out .entry)) at (refusal (reply (callOf read) (now (state .entry)) .number)) r (now (out .exit)) ⌝ }
+    ensures state { λ _. ⌜ now (state .exit) ≡ reply (callOf read) (now (state .entry)) .buffer ⌝ }
+{
+    let number = offered(state, read);
+    if number == 0 {
+        return at;
+    }
+    printer::put_refused(out, at, number)
+}
+
+// What follows once a stream has nothing more to hand out: the next stream, another round, or rest.
+fn after_output(stream: u32, busy: bool) -> Place
+    ensures { λ r. ⌜ r ≡ afterOutput stream busy ⌝ }
+{
+    let limit = Plan::limit();
+    if (stream as usize) + 1 < limit.streams {
+        return Place::Collect {
+            stream: stream + 1,
+            busy,
+        };
+    }
+    if busy {
+        return Place::Run { busy: false };
+    }
+    Place::Rest
+}
+
+// Collects one event of a stream and puts its line, or goes on to what follows the stream.
+fn collect(state: &mut [u8], stream: u32, busy: bool, out: &mut [u8], at: usize) -> Stand
+    requires { ⌜ at + eventRoom ≤ length (now out) ⌝ }
+    ensures { λ r. ⌜ Turned (collected stream busy (reply (collecting stream) (now (state .entry)))) (now (out .entry)) at r (now (out .exit)) (now (state .exit)) ⌝ }
+{
+    let mut stamp: u32 = 0;
+    let mut value: i64 = 0;
+    let number = engine::tessla_collect(state, stream, &mut stamp, &mut value);
+    if number == 0 {
+        let end = printer::put_event(out, at, stream, stamp, value);
+        return Stand {
+            place: Place::Collect { stream, busy: true },
+            end,
+        };
+    }
+    Stand {
+        place: after_output(stream, busy),
+        end: at,
+    }
+}
+
+// Runs, and goes on to collect once nothing moves.
+fn run(state: &mut [u8], busy: bool) -> Place
+    ensures place { λ r. ⌜ r ≡ ran busy (reply (running allMoves) (now (state .entry))) .place ⌝ }
+    ensures state { λ _. ⌜ now (state .exit) ≡ reply (running allMoves) (now (state .entry)) .buffer ⌝ }
+{
+    let mut moves: u32 = 0;
+    engine::tessla_run(state, u32::MAX, &mut moves);
+    if moves == 0 {
+        return Place::Collect { stream: 0, busy };
+    }
+    Place::Run { busy: true }
+}
+
+// Makes the one call that is due at a place.
+fn turn(state: &mut [u8], place: Place, out: &mut [u8], at: usize) -> Stand
+    requires { ⌜ at + eventRoom ≤ length (now out) ⌝ }
+    ensures { λ r. ⌜ Turned (step place (now (state .entry))) (now (out .entry)) at r (now (out .exit)) (now (state .exit)) ⌝ }
+{
+    match place {
+        Place::Run { busy } => Stand {
+            place: run(state, busy),
+            end: at,
+        },
+        Place::Collect { stream, busy } => collect(state, stream, busy, out, at),
+        Place::Rest => Stand {
+            place: Place::Rest,
+            end: at,
+        },
+    }
+}
+
+// Whether nothing moves or waits any more.
+pub fn is_rest(place: Place) -> bool
+    ensures { λ r. ⌜ r ≡ isRest place ⌝ }
+{
+    match place {
+        Place::Run { busy: _ } => false,
+        Place::Collect { stream: _, busy: _ } => false,
+        Place::Rest => true,
+    }
+}
+
+// Goes on from a place until the buffer has no room for one more event or nothing moves or waits. The buffer then starts with
+// what is to be printed.
+pub fn fill(state: &mut [u8], place: Place, out: &mut [u8]) -> Stand
+    requires { ⌜ eventRoom ≤ length (now out) ⌝ }
+    ensures fits { λ r. ⌜ r .end ≤ length (now (out .exit)) ⌝ }
+    ensures prints { λ r. ⌜ Prints place (now (state .entry)) (take (r .end) (now (out .exit))) (r .place) (now (state .exit)) ⌝ }
+    ensures nearer { λ r. ⌜ (isRest place ≡ false → rank (r .place) (now (state .exit)) < rank place (now (state .entry))) ⌝ }
+{
+    let mut p = place;
+    let mut end: usize = 0;
+    while printer::EVENT_ROOM <= out.len() - end {
+        if is_rest(p) {
+            return Stand { place: p, end };
+        }
+        let next = turn(state, p, out, end);
+        p = next.place;
+        end = next.end;
+    }
+    Stand { place: p, end }
+}

@@ -1,0 +1,85 @@
+-- The same of a state in bytes: what a run or a collection leaves of it.
+use Prim.Native.Nat.{ℕ, _+_, _-_, _<_, _≤_}
+use mathlib.Core.Path.{_≡_, refl, ap, _∙_}
+use mathlib.Core.Bool.{Bool, true, false}
+use mathlib.Core.List.{List}
+use native.Mathlib.Omega.{arith}
+use lib.Dec.{lit<}
+use Rattle.le.specs.Bytes.{Bytes}
+use Rattle.machine.specs.State.{State}
+use Rattle.machine.specs.Calls.{Call, running, collecting, call, run, collect}
+use Rattle.cells.specs.View.{bytesOf}
+use Rattle.cells.specs.Sound.{Sound, IsValue}
+use Rattle.valid.specs.Valid.{stateLength, valid}
+use Rattle.state.specs.In.{stateIn}
+use Rattle.state.proofs.Whole.{valid-sound, bytes-state, bytes-count, bytes-valid}
+use Rattle.sound.proofs.Calls.{call-sound}
+use Rattle.engine.specs.Reply.{reply, replyOf, notState}
+use Rattle.resting.specs.Left.{lack, left}
+use Rattle.resting.proofs.Lack.{run-lack, collect-lack, collect-none, collect-value}
+
+-- a sound state's bytes give the state
+sound-left : (M : State) → Sound M → left (bytesOf stateLength M) ≡ lack M
+unfolding left
+sound-left M ok = rw (bytes-valid M ok, bytes-count M ok, bytes-state M ok)
+
+module _ (s : List ℕ) where
+  valid-left : valid s ≡ true → left s ≡ lack (stateIn s)
+  unfolding left
+  valid-left e = rw e
+
+  reply-valid : (c : Call) → valid s ≡ true → reply c s ≡ replyOf (call c (stateIn s))
+  unfolding reply
+  reply-valid c e = rw e
+
+  reply-not : (c : Call) → valid s ≡ false → reply c s ≡ notState s
+  unfolding reply
+  reply-not c e = rw e
+
+  call-run : (n : ℕ) → call (running n) (stateIn s) ≡ run n (stateIn s)
+  unfolding call
+  call-run n = refl
+
+  call-collect : (i : ℕ) → call (collecting i) (stateIn s) ≡ collect i (stateIn s)
+  unfolding call
+  call-collect i = refl
+
+module _ (s : List ℕ) (b : Bytes s) where
+  -- after a run: less by each move
+  pub run-left : (n : ℕ) → left (reply (running n) s .buffer) + reply (running n) s .moves ≤ left s
+  run-left n = go (valid s) refl
+    where
+      go : (v : Bool) → valid s ≡ v → left (reply (running n) s .buffer) + reply (running n) s .moves ≤ left s
+      go true e =
+          let ok = valid-sound s b e in
+          let fine = call-sound (running n) (stateIn s) tt ok in
+          rw (reply-valid s (running n) e, sound-left (call (running n) (stateIn s) .state) fine, valid-left s e, call-run s n) (run-lack n (stateIn s) ok)
+      go false e = rw (reply-not s (running n) e) (omega arith)
+
+  -- after an event was handed out
+  pub collect-left : (i : ℕ) → reply (collecting i) s .number ≡ 0 → left (reply (collecting i) s .buffer) < left s
+  collect-left i = go (valid s) refl
+    where
+      go : (v : Bool) → valid s ≡ v → reply (collecting i) s .number ≡ 0 → left (reply (collecting i) s .buffer) < left s
+      go true e =
+          let ok = valid-sound s b e in
+          let fine = call-sound (collecting i) (stateIn s) tt ok in
+          rw (reply-valid s (collecting i) e, sound-left (call (collecting i) (stateIn s) .state) fine, valid-left s e, call-collect s i) (collect-lack i (stateIn s) ok)
+      go false e = rw (reply-not s (collecting i) e) (λ z. absurd (omega arith))
+
+  -- after none was
+  pub collect-stays : (i : ℕ) → (reply (collecting i) s .number ≡ 0 → ⊥) → left (reply (collecting i) s .buffer) ≡ left s
+  collect-stays i = go (valid s) refl
+    where
+      go : (v : Bool) → valid s ≡ v → (reply (collecting i) s .number ≡ 0 → ⊥) → left (reply (collecting i) s .buffer) ≡ left s
+      go true e =
+          let ok = valid-sound s b e in
+          rw (reply-valid s (collecting i) e, valid-left s e, call-collect s i) (λ n. ap (λ M. left (bytesOf stateLength M)) (collect-none i (stateIn s) ok n) ∙ sound-left (stateIn s) ok)
+      go false e = rw (reply-not s (collecting i) e) (λ z. refl)
+
+  pub collect-is-value : (i : ℕ) → IsValue (reply (collecting i) s .value)
+  collect-is-value i = go (valid s) refl
+    where
+      go : (v : Bool) → valid s ≡ v → IsValue (reply (collecting i) s .value)
+      go true e = rw (reply-valid s (collecting i) e, call-collect s i) (collect-value i (stateIn s) (valid-sound s b e))
+      go false e = rw (reply-not s (collecting i) e) (lit< tt)
