@@ -12,7 +12,7 @@ use lib.Seq.{sets, length-sets, drop-cons, sets-eq, take-at, length-take-le}
 use Rattle.le.proofs.RoundTrip.{sets-append}
 use Rattle.render.specs.Render.{digits, decimal, valueText}
 use Rattle.render.proofs.Digits.{digit-one, digit-more, small-or}
-use Rattle.printer.specs.Print.{Put, eventText, eventRoom}
+use Rattle.printer.specs.Print.{Put, eventText, eventRoom, refusedText, refusedRoom}
 
 pub put-none : (l : List ℕ) (at : ℕ) → Put l at [] at l
 put-none l at = record { bytes = refl; past = omega arith }
@@ -93,3 +93,7 @@ pub put-take : {l : List ℕ} {at : ℕ} {w : List ℕ} {r : ℕ} {m : List ℕ}
 put-take {l} {at} {w} {r} {m} x h =
     rw (x .past, x .bytes, sets-eq w l at h)
     (take-at (take at l ++ w) (drop (at + length w) l) (at + length w) (length-append (take at l) w ∙ ap (λ n. n + length w) (length-take-le at l (omega arith))))
+
+pub refused-most : (n : ℕ) → length (refusedText n) ≤ refusedRoom
+unfolding refusedText
+refused-most n = rw (length-append (decimal n)) (omega (arith, digits-most 19 n))

@@ -3,11 +3,14 @@ use Prim.Native.Nat.{ℕ, zero, suc, _+_, _<_, _≤_}
 use mathlib.Core.Path.{_≡_, refl, ap}
 use mathlib.Core.Bool.{Bool, true, false, cond}
 use mathlib.Core.List.{[]}
+use native.Mathlib.Omega.{arith}
 use lib.Dec.{eqb}
+use lib.ListN.{length}
 use borrow.Author.Tests.{eq-eqb, ne-eqb, lt-ltb, le-ltb}
 use Rattle.operators.specs.Limits.{streamLimit}
 use Rattle.engine.specs.Reply.{Reply}
-use Rattle.printer.specs.Print.{eventText, refusedText}
+use Rattle.printer.specs.Print.{eventText, refusedText, refusedRoom}
+use Rattle.printer.proofs.Puts.{refused-most}
 use Rattle.replaying.specs.declared.Place.the-variants.{Run, Collect}
 use Rattle.replaying.specs.Replay.{refusal, turn, ran, afterOutput, roundAfter, collected}
 
@@ -55,3 +58,7 @@ ran-state busy r = go (eqb (r .moves) 0)
     go : (b : Bool) → (cond b (turn (Collect 0 busy) [] (r .buffer)) (turn (Run true) [] (r .buffer)) .state ≡ r .buffer) × (cond b (turn (Collect 0 busy) [] (r .buffer)) (turn (Run true) [] (r .buffer)) .printed ≡ [])
     go true = (refl, refl)
     go false = (refl, refl)
+
+pub refusal-most : (n : ℕ) → length (refusal n) ≤ refusedRoom
+refusal-most zero = omega arith
+refusal-most (suc n) = refused-most (suc n)
