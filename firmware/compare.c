@@ -129,6 +129,9 @@ static const int64_t VALUES[] = { 0,           1,           -1,          255,   
 
 static void wrong_lengths(uint64_t text_length) {
     head("lengths");
+    load(text_length - 1);
+    load(text_length + 1);
+    load(text_length + (UINT64_C(1) << 32));
     for (uint32_t i = 0; i < WRONG_LENGTHS; i++) {
         length = WRONG[i];
         load(text_length);
