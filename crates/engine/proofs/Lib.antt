@@ -1,3 +1,4 @@
 pub mod Replies
 pub mod MoveReplies
 pub mod Loads
+pub mod Whole

@@ -1,2 +1,3 @@
 pub mod Reply
 pub mod Load
+pub mod History

@@ -1,0 +1,265 @@
+/*
+ * The benchmark's program, linked once with each engine: for each plan and operation it makes the same calls on many copies
+ * of the same state. Natively it prints the time of a call, under callgrind it dumps the instructions of each operation.
+ */
+#define _POSIX_C_SOURCE 199309L
+#include <stdio.h>
+#include <stdlib.h>
+#include <string.h>
+#include <time.h>
+
+#include <valgrind/callgrind.h>
+
+#include "tessla.h"
+
+enum { COPIES = 256, MOVES = 4096 };
+
+static uint8_t (*copies)[TESSLA_STATE_LENGTH];
+static uint8_t start[TESSLA_STATE_LENGTH];
+static unsigned used; /* of the copies: all, or few under callgrind */
+
+static void fail(const char *what) {
+    fprintf(stderr, "benchmark: %s\n", what);
+    exit(1);
+}
+
+/* ---- plans in short form: "in; set 0 k5; merge 4 2 out" */
+
+struct plan {
+    const char *name;
+    char text[TESSLA_TEXT_LIMIT + 1];
+    unsigned streams, inputs, outputs;
+    uint32_t input[TESSLA_STREAM_LIMIT], output[TESSLA_STREAM_LIMIT];
+};
+
+static void make(struct plan *p, const char *name, const char *form) {
+    char body[TESSLA_TEXT_LIMIT] = "", copy[TESSLA_TEXT_LIMIT];
+    memset(p, 0, sizeof *p);
+    p->name = name;
+    strcpy(copy, form);
+    char *rest = copy, *part, *at;
+    while ((part = strtok_r(rest, ";", &rest))) {
+        char op[8] = "";
+        long long k = 0;
+        long args[2] = { 0, 0 };
+        int n = 0, out = 0;
+        for (char *word = strtok_r(part, " ", &at); word; word = strtok_r(NULL, " ", &at)) {
+            if (!op[0]) strcpy(op, word);
+            else if (strcmp(word, "out") == 0) out = 1;
+            else if (word[0] == 'k') k = atoll(word + 1);
+            else args[n++] = atol(word);
+        }
+        char line[128];
+        snprintf(line, sizeof line, "op=%s\na=%ld\nb=%ld\nk=%lld\nout=%d\n", op, args[0], args[1], k, out);
+        strcat(body, line);
+        if (strcmp(op, "in") == 0) p->input[p->inputs++] = p->streams;
+        if (out) p->output[p->outputs++] = p->streams;
+        p->streams++;
+    }
+    snprintf(p->text, sizeof p->text, "plan=1\nstreams=%u\n%s", p->streams, body);
+}
+
+static void chain(struct plan *p, unsigned n) {
+    static char names[TESSLA_STREAM_LIMIT][16];
+    char form[TESSLA_TEXT_LIMIT] = "in";
+    for (unsigned i = 0; i < n; i++) sprintf(form + strlen(form), "; neg %u%s", i, i + 1 == n ? " out" : "");
+    sprintf(names[n], "CHAIN(%u)", n);
+    make(p, names[n], form);
+}
+
+/* in, 16 neg of it, 15 add that join them */
+static void tree(struct plan *p) {
+    char form[TESSLA_TEXT_LIMIT] = "in";
+    for (unsigned i = 0; i < 16; i++) strcat(form, "; neg 0");
+    for (unsigned i = 0; i < 15; i++) sprintf(form + strlen(form), "; add %u %u%s", 2 * i + 1, 2 * i + 2, i == 14 ? " out" : "");
+    make(p, "TREE(31)", form);
+}
+
+static void readers(struct plan *p) {
+    char form[TESSLA_TEXT_LIMIT] = "in";
+    for (unsigned i = 0; i < 31; i++) sprintf(form + strlen(form), "; plus 0 k%u%s", i, i == 30 ? " out" : "");
+    make(p, "READERS(31)", form);
+}
+
+/* ---- measuring */
+
+static struct timespec begun;
+
+static void begin(void) {
+    CALLGRIND_ZERO_STATS;
+    CALLGRIND_TOGGLE_COLLECT;
+    clock_gettime(CLOCK_MONOTONIC, &begun);
+}
+
+static void end(const char *plan, const char *operation, unsigned long calls, unsigned long unit) {
+    struct timespec ended;
+    clock_gettime(CLOCK_MONOTONIC, &ended);
+    CALLGRIND_TOGGLE_COLLECT;
+    char label[96];
+    snprintf(label, sizeof label, "%s|%s|%lu|%lu", plan, operation, calls, unit);
+    CALLGRIND_DUMP_STATS_AT(label);
+    double ns = 1e9 * (double)(ended.tv_sec - begun.tv_sec) + (double)(ended.tv_nsec - begun.tv_nsec);
+    printf("%s|%.1f\n", label, ns / (double)calls);
+}
+
+static void spread(void) {
+    for (unsigned i = 0; i < used; i++) memcpy(copies[i], start, sizeof start);
+}
+
+static void run_to_rest(uint8_t *s) {
+    uint32_t moves;
+    do
+        if (tessla_run(s, TESSLA_STATE_LENGTH, 1000, &moves) != 0) fail("run");
+    while (moves == 1000);
+}
+
+static void collect_all(const struct plan *p, uint8_t *s) {
+    uint32_t stamp;
+    int64_t value;
+    for (unsigned i = 0; i < p->outputs; i++)
+        while (tessla_collect(s, TESSLA_STATE_LENGTH, p->output[i], &stamp, &value) == 0) {}
+}
+
+/* a state in the middle of things: some readings worked off, all collected, `batch` more offered on each input */
+static void prepare(const struct plan *p, unsigned batch) {
+    uint32_t t = 1;
+    if (tessla_load(start, sizeof start, (const uint8_t *)p->text, strlen(p->text)) != 0) fail(p->name);
+    for (unsigned round = 0; round < 3 + batch; round++) {
+        if (round < 3) {
+            run_to_rest(start);
+            collect_all(p, start);
+        }
+        if (round == 3) {
+            for (unsigned i = 0; i < p->inputs; i++)
+                if (tessla_offer_progress(start, sizeof start, p->input[i], t) != 0) fail("progress");
+            run_to_rest(start);
+            collect_all(p, start);
+        }
+        /* one after the other, and now and then together, as readings come */
+        for (unsigned i = 0; i < p->inputs; i++)
+            if (tessla_offer_reading(start, sizeof start, p->input[i], t + (round % 3 ? i : 0), 1 + (int64_t)t) != 0) fail("offer");
+        t += p->inputs + 2;
+    }
+}
+
+static void operations(const struct plan *p) {
+    uint32_t moves, stamp;
+    int64_t value;
+
+    begin();
+    for (unsigned i = 0; i < used; i++) tessla_load(copies[i], TESSLA_STATE_LENGTH, (const uint8_t *)p->text, strlen(p->text));
+    end(p->name, "load", used, p->streams);
+
+    prepare(p, 0);
+    run_to_rest(start);
+    collect_all(p, start);
+    spread();
+    begin();
+    for (unsigned i = 0; i < used; i++) tessla_run(copies[i], TESSLA_STATE_LENGTH, 0, &moves);
+    end(p->name, "check alone", used, p->streams);
+
+    begin();
+    for (unsigned i = 0; i < used; i++)
+        if (tessla_offer_reading(copies[i], TESSLA_STATE_LENGTH, p->input[0], 1000, 7) != 0) fail("offer");
+    end(p->name, "offer", used, p->streams);
+
+    /* which equations move, one after the other, after a batch of readings */
+    prepare(p, 8);
+    static uint32_t order[MOVES];
+    unsigned made = 0;
+    memcpy(copies[0], start, sizeof start);
+    for (; made < MOVES; made++) {
+        uint8_t before[TESSLA_STATE_LENGTH];
+        memcpy(before, copies[0], sizeof before);
+        tessla_run(copies[0], TESSLA_STATE_LENGTH, 1, &moves);
+        if (moves == 0) break;
+        for (order[made] = 0; order[made] < p->streams; order[made]++) {
+            uint8_t other[TESSLA_STATE_LENGTH];
+            memcpy(other, before, sizeof other);
+            if (tessla_move(other, sizeof other, order[made]) == 0) break;
+        }
+    }
+    spread();
+    begin();
+    for (unsigned i = 0; i < used; i++)
+        for (unsigned j = 0; j < made; j++)
+            if (tessla_move(copies[i], TESSLA_STATE_LENGTH, order[j]) != 0) fail("move");
+    end(p->name, "move", (unsigned long)used * made, p->streams);
+
+    spread();
+    unsigned long total = 0;
+    begin();
+    for (unsigned i = 0; i < used; i++) {
+        tessla_run(copies[i], TESSLA_STATE_LENGTH, 100000, &moves);
+        total += moves;
+    }
+    end(p->name, "run to rest, a move", total, p->streams);
+    if (total != (unsigned long)used * made) fail("run and moves differ");
+
+    unsigned long events = 0;
+    begin();
+    for (unsigned i = 0; i < used; i++)
+        for (unsigned o = 0; o < p->outputs; o++)
+            while (tessla_collect(copies[i], TESSLA_STATE_LENGTH, p->output[o], &stamp, &value) == 0) events++;
+    end(p->name, "collect", events + (unsigned long)used * p->outputs, p->streams);
+}
+
+/* cost against the events held: a sum that waits for its second input */
+static void held(unsigned n) {
+    static struct plan p;
+    static char names[TESSLA_ROOM + 1][16];
+    uint32_t moves;
+    sprintf(names[n], "HELD(%u)", n);
+    make(&p, names[n], "in; in; add 0 1 out");
+    if (tessla_load(start, sizeof start, (const uint8_t *)p.text, strlen(p.text)) != 0) fail(p.name);
+    for (uint32_t t = 0; t < n; t++)
+        if (tessla_offer_reading(start, sizeof start, 0, 2 * t, 5) != 0) fail("offer");
+    run_to_rest(start);
+    spread();
+    begin();
+    for (unsigned i = 0; i < used; i++) tessla_run(copies[i], TESSLA_STATE_LENGTH, 0, &moves);
+    end(p.name, "check alone", used, n);
+    begin();
+    for (unsigned i = 0; i < used; i++)
+        if (tessla_offer_reading(copies[i], TESSLA_STATE_LENGTH, 1, 40, 7) != 0) fail("offer");
+    end(p.name, "offer", used, n);
+    if (tessla_offer_progress(start, sizeof start, 1, 40) != 0) fail("progress");
+    if (n > 0) {
+        spread();
+        begin();
+        for (unsigned i = 0; i < used; i++)
+            if (tessla_move(copies[i], TESSLA_STATE_LENGTH, 2) != 0) fail("move");
+        end(p.name, "move", used, n);
+    }
+}
+
+int main(void) {
+    static struct plan p;
+    used = RUNNING_ON_VALGRIND ? 4 : COPIES;
+    copies = malloc(sizeof *copies * COPIES);
+    if (!copies) fail("no memory");
+    memset(copies, 0, sizeof *copies * COPIES);
+
+    make(&p, "visits", "in; unit; set 1 k0; last 5 0; plus 3 k1; merge 4 2 out");
+    operations(&p);
+    /* document 000, appendix A.1: runtime, with the signal lift of sub and on */
+    make(&p, "runtime", "in; in; time 0; time 1; last 3 2; merge 3 4; last 2 3; merge 2 6; sub 5 7; set 1 k1; keep 8 9 out");
+    operations(&p);
+    /* incdec: inputs setInc, getInc, setDec, getDec; value is stream 10 */
+    make(&p, "incdec", "in; in; in; in; unit; last 10 1; plus 5 k1; last 10 3; plus 7 k-1; last 6 0; merge 9 12 out; last 8 2; merge 11 4");
+    operations(&p);
+    /* resetCount: inputs e, reset; 1 where both, 0 where reset alone, one more where e alone */
+    make(&p, "resetCount", "in; in; unit; last 10 0; plus 3 k1; set 0 k1; set 1 k1; keep 5 6; set 1 k0; merge 8 4; merge 11 2 out; merge 7 9");
+    operations(&p);
+    static const unsigned lengths[] = { 1, 3, 7, 15, 23, 31 };
+    for (unsigned i = 0; i < sizeof lengths / sizeof *lengths; i++) {
+        chain(&p, lengths[i]);
+        operations(&p);
+    }
+    tree(&p);
+    operations(&p);
+    readers(&p);
+    operations(&p);
+    for (unsigned n = 0; n <= TESSLA_ROOM; n += 4) held(n);
+    return 0;
+}

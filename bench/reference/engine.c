@@ -1,0 +1,566 @@
+/*
+ * A plain C engine of the same six calls, written apart from the proved library: the second oracle of the tests and the
+ * measure of the benchmark. It works in place on the lent bytes, makes the same checks and leaves the same bytes.
+ */
+#include "engine.h"
+
+#include <stdbool.h>
+#include <stddef.h>
+#include <string.h>
+
+enum { STREAMS = 32, ROOM = 16, RECORD = 256, EVENTS = 64, SLOT = 12, STATE = 12288, TEXT = 2048 };
+#define HORIZON UINT64_C(4294967296)
+
+enum op { NONE, IN, NIL, UNIT, TIME, SET, PLUS, NEG, ADD, SUB, MUL, DIV, REM, LT, LE, EQ, KEEP, MERGE, LAST, DELAY, OPS };
+
+static const char *const NAMES[OPS] = { "",    "in",  "nil", "unit", "time", "set",  "plus",  "neg",  "add",  "sub",
+                                        "mul", "div", "rem", "lt",   "le",   "eq",   "keep",  "merge", "last", "delay" };
+
+static bool uses_a(unsigned op) { return op >= TIME; }
+static bool uses_b(unsigned op) { return op >= ADD; }
+static bool uses_k(unsigned op) { return op == SET || op == PLUS; }
+/* the first argument of a last or a delay is delayed */
+static bool waits_for_a(unsigned op) { return op >= TIME && op < LAST; }
+
+/* ---- numbers in bytes, least byte first */
+
+static uint32_t get4(const uint8_t *p) {
+    return (uint32_t)p[0] | (uint32_t)p[1] << 8 | (uint32_t)p[2] << 16 | (uint32_t)p[3] << 24;
+}
+
+static uint64_t get8(const uint8_t *p) { return (uint64_t)get4(p) | (uint64_t)get4(p + 4) << 32; }
+
+static void put4(uint8_t *p, uint32_t x) {
+    p[0] = (uint8_t)x;
+    p[1] = (uint8_t)(x >> 8);
+    p[2] = (uint8_t)(x >> 16);
+    p[3] = (uint8_t)(x >> 24);
+}
+
+static void put8(uint8_t *p, uint64_t x) {
+    put4(p, (uint32_t)x);
+    put4(p + 4, (uint32_t)(x >> 32));
+}
+
+static int64_t value_of(uint64_t bits) {
+    int64_t v;
+    memcpy(&v, &bits, sizeof v);
+    return v;
+}
+
+/* ---- one record */
+
+static unsigned op_of(const uint8_t *r) { return r[0]; }
+static unsigned arg_a(const uint8_t *r) { return r[1]; }
+static unsigned arg_b(const uint8_t *r) { return r[2]; }
+static bool is_out(const uint8_t *r) { return r[3] != 0; }
+static unsigned held(const uint8_t *r) { return r[4]; }
+static int64_t k_of(const uint8_t *r) { return value_of(get8(r + 8)); }
+static uint64_t bound_of(const uint8_t *r) { return get8(r + 16); }
+static uint64_t mark_of(const uint8_t *r) { return get8(r + 24); }
+static uint32_t stamp_at(const uint8_t *r, unsigned j) { return get4(r + EVENTS + SLOT * j); }
+static int64_t value_at(const uint8_t *r, unsigned j) { return value_of(get8(r + EVENTS + SLOT * j + 4)); }
+
+struct maybe {
+    bool is;
+    int64_t v;
+};
+
+static const struct maybe NOTHING = { false, 0 };
+
+static struct maybe some(int64_t v) { return (struct maybe){ true, v }; }
+
+static struct maybe kept(const uint8_t *r, unsigned flag, unsigned at) {
+    return r[flag] ? some(value_of(get8(r + at))) : NOTHING;
+}
+
+static void keep(uint8_t *r, unsigned flag, unsigned at, struct maybe m) {
+    r[flag] = m.is;
+    put8(r + at, m.is ? (uint64_t)m.v : 0);
+}
+
+/* of a last: the latest value of a below the bound */
+static struct maybe prev_of(const uint8_t *r) { return kept(r, 5, 32); }
+/* of a delay: one past the latest set point, a's value there, a's value just below the bound */
+static uint64_t since_of(const uint8_t *r) { return get8(r + 32); }
+static struct maybe set_of(const uint8_t *r) { return kept(r, 5, 40); }
+static struct maybe prior_of(const uint8_t *r) { return kept(r, 6, 48); }
+
+/* the number of held events below stamp t: the place of the first one at t or later */
+static unsigned place(const uint8_t *r, uint64_t t) {
+    unsigned j = 0;
+    while (j < held(r) && stamp_at(r, j) < t) j++;
+    return j;
+}
+
+static struct maybe event_at(const uint8_t *r, uint64_t t) {
+    unsigned j = place(r, t);
+    return j < held(r) && stamp_at(r, j) == t ? some(value_at(r, j)) : NOTHING;
+}
+
+/* one past the latest held stamp below t, or 0 */
+static uint64_t past_latest(const uint8_t *r, uint64_t t) {
+    unsigned j = place(r, t);
+    return j > 0 ? (uint64_t)stamp_at(r, j - 1) + 1 : 0;
+}
+
+static struct maybe latest(const uint8_t *r, uint64_t t) {
+    unsigned j = place(r, t);
+    return j > 0 ? some(value_at(r, j - 1)) : NOTHING;
+}
+
+static uint64_t least(uint64_t x, uint64_t y) { return x < y ? x : y; }
+static uint64_t most(uint64_t x, uint64_t y) { return x > y ? x : y; }
+
+/* ---- number 15 */
+
+static bool all_zero(const uint8_t *p, size_t n) {
+    uint64_t any = 0;
+    size_t i = 0;
+    for (; i + 8 <= n; i += 8) {
+        uint64_t w;
+        memcpy(&w, p + i, 8);
+        any |= w;
+    }
+    for (; i < n; i++) any |= p[i];
+    return any == 0;
+}
+
+static bool fields_good(unsigned op, unsigned a, unsigned b, bool k_is_0, unsigned out, unsigned n) {
+    if (uses_a(op) ? a >= n : a != 0) return false;
+    if (uses_b(op) ? b >= n : b != 0) return false;
+    if (!uses_k(op) && !k_is_0) return false;
+    return op != IN || out == 0;
+}
+
+struct edges {
+    uint8_t count[STREAMS];
+    uint8_t to[STREAMS][2];
+};
+
+static void note(struct edges *e, unsigned s, unsigned op, unsigned a, unsigned b) {
+    unsigned c = 0;
+    if (waits_for_a(op)) e->to[s][c++] = (uint8_t)a;
+    if (uses_b(op)) e->to[s][c++] = (uint8_t)b;
+    e->count[s] = (uint8_t)c;
+}
+
+/* colours: 0 not met, 1 being followed, 2 clear */
+static bool clear(const struct edges *e, uint8_t *colour, unsigned s) {
+    if (colour[s] != 0) return colour[s] == 2;
+    colour[s] = 1;
+    for (unsigned i = 0; i < e->count[s]; i++)
+        if (!clear(e, colour, e->to[s][i])) return false;
+    colour[s] = 2;
+    return true;
+}
+
+static bool no_cycle(const struct edges *e, unsigned n) {
+    uint8_t colour[STREAMS] = { 0 };
+    for (unsigned s = 0; s < n; s++)
+        if (!clear(e, colour, s)) return false;
+    return true;
+}
+
+static bool kept_good(const uint8_t *r) {
+    uint64_t bound = bound_of(r);
+    if (op_of(r) == LAST) {
+        if (r[5] > 1 || (r[5] == 0 && get8(r + 32) != 0) || (bound == 0 && r[5] != 0)) return false;
+        return r[6] == 0 && get8(r + 40) == 0 && get8(r + 48) == 0;
+    }
+    if (op_of(r) == DELAY) {
+        if (r[5] > 1 || (r[5] == 0 && get8(r + 40) != 0)) return false;
+        if (r[6] > 1 || (r[6] == 0 && get8(r + 48) != 0)) return false;
+        if (since_of(r) > bound || (since_of(r) == 0 && r[5] != 0)) return false;
+        return bound > 0 || r[6] == 0;
+    }
+    return r[5] == 0 && r[6] == 0 && all_zero(r + 32, 24);
+}
+
+static bool record_good(const uint8_t *r, unsigned n) {
+    if (op_of(r) < IN || op_of(r) >= OPS || r[3] > 1) return false;
+    if (!fields_good(op_of(r), arg_a(r), arg_b(r), get8(r + 8) == 0, r[3], n)) return false;
+    uint64_t bound = bound_of(r);
+    if (held(r) > ROOM || r[7] != 0 || bound > HORIZON || !all_zero(r + 56, 8)) return false;
+    if (is_out(r) ? mark_of(r) > bound : mark_of(r) != 0) return false;
+    uint64_t low = 0;
+    for (unsigned j = 0; j < held(r); j++) {
+        if (stamp_at(r, j) < low) return false;
+        low = (uint64_t)stamp_at(r, j) + 1;
+    }
+    size_t used = EVENTS + SLOT * (size_t)held(r);
+    return low <= bound && kept_good(r) && all_zero(r + used, RECORD - used);
+}
+
+/* the number of streams, or 0 where the state is refused 15 */
+static unsigned streams_of(const uint8_t *state, uint64_t length) {
+    if (length != STATE) return 0;
+    unsigned n = 0;
+    while (n < STREAMS && state[RECORD * n] != 0) n++;
+    struct edges e;
+    for (unsigned s = 0; s < n; s++) {
+        const uint8_t *r = state + RECORD * s;
+        if (!record_good(r, n)) return 0;
+        note(&e, s, op_of(r), arg_a(r), arg_b(r));
+    }
+    if (!all_zero(state + RECORD * n, STATE - RECORD * (size_t)n)) return 0;
+    return no_cycle(&e, n) ? n : 0;
+}
+
+/* ---- load */
+
+struct text {
+    const uint8_t *p;
+    uint64_t length, at;
+};
+
+static bool take(struct text *t, const char *word) {
+    for (; *word; word++, t->at++)
+        if (t->at >= t->length || t->p[t->at] != (uint8_t)*word) return false;
+    return true;
+}
+
+static bool digit_next(const struct text *t) { return t->at < t->length && t->p[t->at] >= '0' && t->p[t->at] <= '9'; }
+
+/* a decimal number without leading zeros, up to the limit */
+static bool number(struct text *t, uint64_t limit, uint64_t *result) {
+    if (!digit_next(t)) return false;
+    if (t->p[t->at] == '0') {
+        t->at++;
+        *result = 0;
+        return !digit_next(t);
+    }
+    uint64_t x = 0;
+    for (; digit_next(t); t->at++) {
+        unsigned d = t->p[t->at] - '0';
+        if (d > limit || x > (limit - d) / 10) return false;
+        x = 10 * x + d;
+    }
+    *result = x;
+    return true;
+}
+
+static bool small_line(struct text *t, const char *key, uint64_t limit, uint64_t *result) {
+    return take(t, key) && number(t, limit, result) && take(t, "\n");
+}
+
+static bool value_line(struct text *t, uint64_t *bits) {
+    if (!take(t, "k=")) return false;
+    bool minus = t->at < t->length && t->p[t->at] == '-';
+    if (minus) t->at++;
+    uint64_t x;
+    if (!number(t, minus ? UINT64_C(1) << 63 : INT64_MAX, &x)) return false;
+    if (minus && x == 0) return false;
+    *bits = minus ? 0 - x : x;
+    return take(t, "\n");
+}
+
+static uint32_t operator_line(struct text *t, unsigned *op) {
+    if (!take(t, "op=")) return 2;
+    char name[6] = { 0 };
+    unsigned n = 0;
+    for (; t->at < t->length && t->p[t->at] >= 'a' && t->p[t->at] <= 'z'; t->at++, n++) {
+        if (n == 5) return 2;
+        name[n] = (char)t->p[t->at];
+    }
+    if (n == 0 || !take(t, "\n")) return 2;
+    for (*op = IN; *op < OPS; ++*op)
+        if (strcmp(name, NAMES[*op]) == 0) return 0;
+    return 4;
+}
+
+struct line {
+    unsigned op;
+    uint64_t a, b, k, out;
+};
+
+uint32_t ref_load(uint8_t *state, uint64_t state_length, const uint8_t *text, uint64_t text_length) {
+    if (state_length != STATE) return 15;
+    if (text_length > TEXT) return 1;
+    struct text t = { text, text_length, 0 };
+    struct line lines[STREAMS];
+    uint64_t n;
+    if (!take(&t, "plan=1\n") || !small_line(&t, "streams=", 999, &n)) return 2;
+    if (n == 0 || n > STREAMS) return 3;
+    for (unsigned s = 0; s < n; s++) {
+        struct line *l = &lines[s];
+        uint32_t fault = operator_line(&t, &l->op);
+        if (fault != 0) return fault;
+        if (!small_line(&t, "a=", 999, &l->a) || !small_line(&t, "b=", 999, &l->b)) return 2;
+        if (!value_line(&t, &l->k) || !small_line(&t, "out=", 1, &l->out)) return 2;
+    }
+    if (t.at != t.length) return 2;
+    struct edges e;
+    for (unsigned s = 0; s < n; s++) {
+        const struct line *l = &lines[s];
+        if (!fields_good(l->op, (unsigned)l->a, (unsigned)l->b, l->k == 0, (unsigned)l->out, (unsigned)n)) return 5;
+        note(&e, s, l->op, (unsigned)l->a, (unsigned)l->b);
+    }
+    if (!no_cycle(&e, (unsigned)n)) return 6;
+    memset(state, 0, STATE);
+    for (unsigned s = 0; s < n; s++) {
+        uint8_t *r = state + RECORD * s;
+        r[0] = (uint8_t)lines[s].op;
+        r[1] = (uint8_t)lines[s].a;
+        r[2] = (uint8_t)lines[s].b;
+        r[3] = (uint8_t)lines[s].out;
+        put8(r + 8, lines[s].k);
+    }
+    return 0;
+}
+
+/* ---- what a move finds: an event (t, v), or silence up to t */
+
+struct next {
+    bool event;
+    uint64_t t;
+    int64_t v;
+};
+
+static struct next found(uint64_t t, int64_t v) { return (struct next){ true, t, v }; }
+static struct next silent(uint64_t t) { return (struct next){ false, t, 0 }; }
+
+static struct maybe one_value(unsigned op, int64_t k, uint64_t t, int64_t x) {
+    int64_t v;
+    switch (op) {
+    case TIME: return some((int64_t)t);
+    case SET: return some(k);
+    case PLUS: return __builtin_add_overflow(x, k, &v) ? NOTHING : some(v);
+    default: return x == INT64_MIN ? NOTHING : some(-x);
+    }
+}
+
+static struct maybe two_values(unsigned op, struct maybe a, struct maybe b) {
+    int64_t v;
+    if (op == MERGE) return a.is ? a : b;
+    if (!a.is || !b.is) return NOTHING;
+    switch (op) {
+    case ADD: return __builtin_add_overflow(a.v, b.v, &v) ? NOTHING : some(v);
+    case SUB: return __builtin_sub_overflow(a.v, b.v, &v) ? NOTHING : some(v);
+    case MUL: return __builtin_mul_overflow(a.v, b.v, &v) ? NOTHING : some(v);
+    case DIV: return b.v == 0 || (a.v == INT64_MIN && b.v == -1) ? NOTHING : some(a.v / b.v);
+    case REM: return b.v == 0 ? NOTHING : some(b.v == -1 ? 0 : a.v % b.v);
+    case LT: return some(a.v < b.v);
+    case LE: return some(a.v <= b.v);
+    case EQ: return some(a.v == b.v);
+    default: return b.v != 0 ? a : NOTHING; /* keep */
+    }
+}
+
+static struct next one_next(const uint8_t *o, const uint8_t *a) {
+    uint64_t y = bound_of(o), reach = most(y, bound_of(a));
+    for (unsigned j = place(a, y); j < held(a); j++) {
+        uint64_t t = stamp_at(a, j);
+        struct maybe v = one_value(op_of(o), k_of(o), t, value_at(a, j));
+        if (v.is) return found(t, v.v);
+    }
+    return silent(reach);
+}
+
+static struct next two_next(const uint8_t *o, const uint8_t *a, const uint8_t *b) {
+    uint64_t y = bound_of(o), reach = most(y, least(bound_of(a), bound_of(b)));
+    unsigned i = place(a, y), j = place(b, y);
+    for (;;) {
+        uint64_t ta = i < held(a) ? stamp_at(a, i) : HORIZON, tb = j < held(b) ? stamp_at(b, j) : HORIZON;
+        uint64_t t = least(ta, tb);
+        if (t >= reach) return silent(reach);
+        struct maybe x = ta == t ? some(value_at(a, i++)) : NOTHING;
+        struct maybe z = tb == t ? some(value_at(b, j++)) : NOTHING;
+        struct maybe v = two_values(op_of(o), x, z);
+        if (v.is) return found(t, v.v);
+    }
+}
+
+static struct next last_next(const uint8_t *o, const uint8_t *a, const uint8_t *b) {
+    uint64_t y = bound_of(o);
+    for (unsigned j = place(b, y); j < held(b); j++) {
+        uint64_t t = stamp_at(b, j);
+        if (t > bound_of(a)) return silent(t);
+        struct maybe v = latest(a, t);
+        if (!v.is) v = prev_of(o);
+        if (v.is) return found(t, v.v);
+    }
+    return silent(most(y, bound_of(b)));
+}
+
+/* a's value one below z, where z is one past a delay's latest set point */
+static struct maybe set_at(const uint8_t *o, const uint8_t *a, uint64_t z) {
+    struct maybe v = event_at(a, z - 1);
+    return !v.is && z == since_of(o) ? set_of(o) : v;
+}
+
+static struct next delay_next(const uint8_t *o, const uint8_t *a, const uint8_t *b) {
+    uint64_t y = bound_of(o), limit = least(bound_of(b) + 1, HORIZON);
+    uint64_t z = most(since_of(o), past_latest(b, y));
+    /* each turn looks at the stamps from `from` on for which the latest set point lies one below z */
+    for (uint64_t from = y; from < limit;) {
+        if (z > bound_of(a)) return silent(from);
+        unsigned j = place(b, from);
+        uint64_t to = j < held(b) ? (uint64_t)stamp_at(b, j) + 1 : limit;
+        if (to > limit) to = limit;
+        if (z > 0) {
+            struct maybe v = set_at(o, a, z);
+            if (v.is && v.v > 0 && (uint64_t)v.v <= HORIZON) {
+                uint64_t t = z - 1 + (uint64_t)v.v;
+                if (t >= from && t < to) return found(t, 0);
+            }
+        }
+        from = to;
+        z = to;
+    }
+    return silent(most(y, limit));
+}
+
+static struct next next_of(const uint8_t *state, const uint8_t *o) {
+    const uint8_t *a = state + RECORD * arg_a(o), *b = state + RECORD * arg_b(o);
+    unsigned op = op_of(o);
+    if (op == NIL || (op == UNIT && bound_of(o) > 0)) return silent(HORIZON);
+    if (op == UNIT) return found(0, 0);
+    if (op == LAST) return last_next(o, a, b);
+    if (op == DELAY) return delay_next(o, a, b);
+    return uses_b(op) ? two_next(o, a, b) : one_next(o, a);
+}
+
+/* ---- a step: write, tell, release */
+
+static bool reads(const uint8_t *r, unsigned s) {
+    return (uses_a(op_of(r)) && arg_a(r) == s) || (uses_b(op_of(r)) && arg_b(r) == s);
+}
+
+static void release(uint8_t *state, unsigned n, unsigned s) {
+    uint8_t *o = state + RECORD * s;
+    uint64_t waiting = is_out(o) ? mark_of(o) : HORIZON;
+    if (held(o) == 0) return;
+    for (unsigned i = 0; i < n; i++) {
+        const uint8_t *r = state + RECORD * i;
+        if (reads(r, s)) waiting = least(waiting, bound_of(r));
+    }
+    unsigned gone = place(o, waiting), left = held(o) - gone;
+    if (gone == 0) return;
+    memmove(o + EVENTS, o + EVENTS + SLOT * gone, SLOT * left);
+    memset(o + EVENTS + SLOT * left, 0, SLOT * gone);
+    o[4] = (uint8_t)left;
+}
+
+static void tell(uint8_t *r, unsigned s, uint64_t t, int64_t v) {
+    uint64_t y = bound_of(r);
+    if (t >= y) return;
+    bool is_a = arg_a(r) == s, is_b = arg_b(r) == s;
+    if (op_of(r) == LAST && is_a) keep(r, 5, 32, some(v));
+    if (op_of(r) == DELAY) {
+        if (is_a && since_of(r) == t + 1) keep(r, 5, 40, some(v));
+        if (is_a && y == t + 1) keep(r, 6, 48, some(v));
+        if (is_b && y == t + 1) {
+            keep(r, 5, 40, prior_of(r));
+            put8(r + 32, y);
+        }
+    }
+}
+
+/* what the stream keeps, from the held events of its arguments and its own; its bound is already the new one */
+static void absorb(uint8_t *o, const uint8_t *a, const uint8_t *b) {
+    uint64_t y = bound_of(o);
+    if (op_of(o) == LAST) {
+        struct maybe v = latest(a, y);
+        if (v.is) keep(o, 5, 32, v);
+    }
+    if (op_of(o) == DELAY) {
+        uint64_t z = most(since_of(o), most(past_latest(b, y), past_latest(o, y)));
+        struct maybe v = z > 0 ? set_at(o, a, z) : NOTHING;
+        keep(o, 5, 40, v);
+        put8(o + 32, z);
+        keep(o, 6, 48, event_at(a, y - 1));
+    }
+}
+
+/* the bound of stream s goes to y, with or without an event (t, v) */
+static void raise(uint8_t *state, unsigned n, unsigned s, uint64_t y, bool event, uint64_t t, int64_t v) {
+    uint8_t *o = state + RECORD * s;
+    put8(o + 16, y);
+    if (event) {
+        uint8_t *slot = o + EVENTS + SLOT * held(o);
+        put4(slot, (uint32_t)t);
+        put8(slot + 4, (uint64_t)v);
+        o[4]++;
+    }
+    absorb(o, state + RECORD * arg_a(o), state + RECORD * arg_b(o));
+    if (event)
+        for (unsigned i = 0; i < n; i++) tell(state + RECORD * i, s, t, v);
+    release(state, n, s);
+    if (uses_a(op_of(o))) release(state, n, arg_a(o));
+    if (uses_b(op_of(o))) release(state, n, arg_b(o));
+}
+
+/* moves equation s if it can */
+static bool moved(uint8_t *state, unsigned n, unsigned s) {
+    const uint8_t *o = state + RECORD * s;
+    if (op_of(o) == IN) return false;
+    struct next x = next_of(state, o);
+    bool event = x.event && held(o) < ROOM;
+    uint64_t y = event ? x.t + 1 : x.t;
+    if (y == bound_of(o)) return false;
+    raise(state, n, s, y, event, x.t, x.v);
+    return true;
+}
+
+/* ---- the other calls */
+
+uint32_t ref_offer_reading(uint8_t *state, uint64_t state_length, uint32_t stream, uint32_t stamp, int64_t value) {
+    unsigned n = streams_of(state, state_length);
+    if (n == 0) return 15;
+    if (stream >= n || state[RECORD * stream] != IN) return 7;
+    const uint8_t *o = state + RECORD * stream;
+    if (stamp < bound_of(o)) return 8;
+    if (held(o) >= ROOM) return 9;
+    raise(state, n, stream, (uint64_t)stamp + 1, true, stamp, value);
+    return 0;
+}
+
+uint32_t ref_offer_progress(uint8_t *state, uint64_t state_length, uint32_t stream, uint64_t bound) {
+    unsigned n = streams_of(state, state_length);
+    if (n == 0) return 15;
+    if (stream >= n || state[RECORD * stream] != IN) return 7;
+    uint8_t *o = state + RECORD * stream;
+    if (bound > HORIZON) return 10;
+    if (bound < bound_of(o)) return 8;
+    put8(o + 16, bound);
+    return 0;
+}
+
+uint32_t ref_move(uint8_t *state, uint64_t state_length, uint32_t stream) {
+    unsigned n = streams_of(state, state_length);
+    if (n == 0) return 15;
+    if (stream >= n || state[RECORD * stream] == IN) return 11;
+    return moved(state, n, stream) ? 0 : 12;
+}
+
+uint32_t ref_run(uint8_t *state, uint64_t state_length, uint32_t n, uint32_t *moves) {
+    *moves = 0;
+    unsigned count = streams_of(state, state_length);
+    if (count == 0) return 15;
+    for (unsigned s = 0; s < count && *moves < n;) {
+        if (moved(state, count, s)) {
+            ++*moves;
+            s = 0;
+        } else {
+            s++;
+        }
+    }
+    return 0;
+}
+
+uint32_t ref_collect(uint8_t *state, uint64_t state_length, uint32_t stream, uint32_t *stamp, int64_t *value) {
+    *stamp = 0;
+    *value = 0;
+    unsigned n = streams_of(state, state_length);
+    if (n == 0) return 15;
+    if (stream >= n || !is_out(state + RECORD * stream)) return 13;
+    uint8_t *o = state + RECORD * stream;
+    unsigned j = place(o, mark_of(o));
+    if (j == held(o)) return 14;
+    *stamp = stamp_at(o, j);
+    *value = value_at(o, j);
+    put8(o + 24, (uint64_t)*stamp + 1);
+    release(state, n, stream);
+    return 0;
+}

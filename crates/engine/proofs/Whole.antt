@@ -1,0 +1,178 @@
+-- The whole theorem, over bytes: any history of loads and calls on a lent buffer.
+use Prim.Native.Nat.{ℕ, zero, suc, _^_, _<_, _≤_}
+use mathlib.Core.Path.{_≡_, refl, sym, ap, ap₂, _∙_, subst}
+use mathlib.Core.Bool.{Bool, true, false, cond}
+use mathlib.Core.Option.{Option, none, some}
+use mathlib.Core.List.{List, [], _∷_, _++_}
+use native.Mathlib.Omega.{arith}
+use lib.Dec.{eqb}
+use lib.ListN.{length}
+use borrow.Author.Tests.{eqb-true, eqb-false, ne-eqb}
+use Rattle.meaning.specs.Plan.{reads, eqnAt}
+use Rattle.meaning.proofs.CycleTest.{test-sound}
+use Rattle.machine.specs.State.{Declared, State, loaded}
+use Rattle.machine.specs.Calls.{Call, reading, progress, moving, running, collecting, Outcome, call}
+use Rattle.runs.specs.History.{Seen, seenOf, Typed, AllTyped, after, log}
+use Rattle.runs.specs.Claim as claim
+use Rattle.runs.specs.Claim.{Keeps}
+use Rattle.runs.proofs.Whole.{whole-runs, rest-reached}
+use Rattle.operators.specs.Limits.{streamLimit}
+use Rattle.cycle.specs.Graph.{AllBelow}
+use Rattle.cells.specs.View.{bytesOf}
+use Rattle.cells.specs.Sound.{Sound}
+use Rattle.sound.proofs.Calls.{Offered, call-sound}
+use Rattle.valid.specs.Valid.{stateLength, valid}
+use Rattle.state.specs.In.{stateIn}
+use Rattle.state.proofs.Whole.{bytes-valid}
+use Rattle.plan.specs.Rules.{number, declared}
+use Rattle.plan.specs.Taken.{StreamKeeps, Each, KeepsRules}
+use Rattle.plan.proofs.Taken.{taken-rendered}
+use Rattle.load.proofs.Fresh.{loaded-sound}
+use Rattle.running.proofs.Turns.{bytes-in}
+use Rattle.engine.specs.Reply.{Reply, notState, replyOf, reply}
+use Rattle.engine.specs.Load.{loadOf, loadReply}
+use Rattle.engine.specs.History.{Act, load, make, answer, left, seenIn, Since, noted, since, TypedAct, AllTypedActs, Holds, HoldsOf}
+
+-- ---- a plan that keeps the written rules is one that the theorem on runs speaks of
+
+below : (n : ℕ) (l : List ℕ) → AllBelow n l → claim.All (λ a. a < n) l
+below n [] h = tt
+below n (a ∷ l) h = (h .0, below n l (h .1))
+
+arguments-at : (n : ℕ) (ds : List Declared) (s : ℕ) → Each n ds → claim.All (λ a. a < n) (reads (eqnAt (claim.planOf ds) s))
+arguments-at n [] s h = tt
+arguments-at n (d ∷ ds) zero h = below n (reads (d .eqn)) (h .0 .arguments)
+arguments-at n (d ∷ ds) (suc s) h = arguments-at n ds s (h .1)
+
+pub rules-keep : (ds : List Declared) → KeepsRules ds → Keeps ds
+rules-keep ds k = record { arguments = λ s. arguments-at (length ds) ds s (k .each); acyclic = test-sound streamLimit (claim.planOf ds) (k .clear) }
+
+-- ---- one call more
+
+after-more : (cs : List Call) (c : Call) (M : State) → after (cs ++ c ∷ []) M ≡ call c (after cs M) .state
+unfolding after
+after-more [] c M = refl
+after-more (d ∷ cs) c M = after-more cs c (call d M .state)
+
+log-more : (cs : List Call) (c : Call) (M : State) → log (cs ++ c ∷ []) M ≡ log cs M ++ seenOf c (call c (after cs M)) ∷ []
+unfolding after log
+log-more [] c M = refl
+log-more (d ∷ cs) c M = ap (λ (l : List Seen). seenOf d (call d M) ∷ l) (log-more cs c (call d M .state))
+
+typed-more : (cs : List Call) (c : Call) → AllTyped cs → Typed c → AllTyped (cs ++ c ∷ [])
+typed-more [] c h t = (t, tt)
+typed-more (d ∷ cs) c h t = (h .0, typed-more cs c (h .1) t)
+
+typed-offered : (c : Call) → Typed c → Offered c
+typed-offered (reading s t v) h = (omega (arith, h .1), h .2)
+typed-offered (progress s y) h = tt
+typed-offered (moving s) h = tt
+typed-offered (running n) h = tt
+typed-offered (collecting s) h = tt
+
+-- the answer on the bytes of a sound state is that of the machine
+reply-machine : (c : Call) (M : State) (b : List ℕ) → Sound M → b ≡ bytesOf stateLength M → reply c b ≡ replyOf (call c M)
+unfolding reply
+reply-machine c M b ok e =
+    let v : valid b ≡ true = ap valid e ∙ bytes-valid M ok in
+    ap (λ (x : Bool). cond x (replyOf (call c (stateIn b))) (notState b)) v ∙ ap (λ (N : State). replyOf (call c N)) (bytes-in M b ok e)
+
+-- ---- a load
+
+load-done : (text s : List ℕ) → loadReply text s .number ≡ 0 → (number text ≡ 0) × (loadReply text s .buffer ≡ bytesOf stateLength (loaded (declared text)))
+unfolding loadReply
+load-done text s = by (eqb (length s) stateLength)
+  where
+    full : (n : ℕ) → n ≡ 0 → (n ≡ 0) × (loadOf n text s .buffer ≡ bytesOf stateLength (loaded (declared text)))
+    full zero e = (refl, refl)
+    full (suc n) e = absurd (omega arith)
+
+    by : (x : Bool) → cond x (loadOf (number text) text s) (notState s) .number ≡ 0 → (number text ≡ 0) × (cond x (loadOf (number text) text s) (notState s) .buffer ≡ bytesOf stateLength (loaded (declared text)))
+    by true e = full (number text) e
+    by false e = absurd (omega arith)
+
+load-refused : (text s : List ℕ) → (loadReply text s .number ≡ 0 → ⊥) → loadReply text s .buffer ≡ s
+unfolding loadReply
+load-refused text s = by (eqb (length s) stateLength)
+  where
+    full : (n : ℕ) → (n ≡ 0 → ⊥) → loadOf n text s .buffer ≡ s
+    full n e = rw (ne-eqb n 0 e)
+
+    by : (x : Bool) → (cond x (loadOf (number text) text s) (notState s) .number ≡ 0 → ⊥) → cond x (loadOf (number text) text s) (notState s) .buffer ≡ s
+    by true e = full (number text) e
+    by false e = refl
+
+-- ---- what every call keeps
+
+record Kept (x : Since) (b : List ℕ) : Type 0 where
+  rules : KeepsRules (x .plan)
+  typed : AllTyped (x .calls)
+  sound : Sound (after (x .calls) (loaded (x .plan)))
+  buffer : b ≡ bytesOf stateLength (after (x .calls) (loaded (x .plan)))
+  seen : x .seen ≡ log (x .calls) (loaded (x .plan))
+
+abbrev KeptOf : Option Since → List ℕ → Type 0
+KeptOf none b = Unit {0}
+KeptOf (some x) b = Kept x b
+
+start : (text b : List ℕ) → number text ≡ 0 → b ≡ bytesOf stateLength (loaded (declared text)) → Kept (record { plan = declared text; calls = []; seen = [] }) b
+unfolding after log
+start text b e q =
+    let k = taken-rendered text e .1 in
+    record { rules = k; typed = tt; sound = loaded-sound (declared text) k; buffer = q; seen = refl }
+
+-- one call more
+further : (x : Since) (b : List ℕ) (c : Call) → Typed c → Kept x b
+    → Kept (record { plan = x .plan; calls = x .calls ++ c ∷ []; seen = x .seen ++ seenIn c (reply c b) ∷ [] }) (reply c b .buffer)
+further x b c t k =
+    let M = after (x .calls) (loaded (x .plan)) in
+    let r = reply-machine c M b (k .sound) (k .buffer) in
+    let m = after-more (x .calls) c (loaded (x .plan)) in
+    record {
+      rules = k .rules;
+      typed = typed-more (x .calls) c (k .typed) t;
+      sound = subst Sound (sym m) (call-sound c M (typed-offered c t) (k .sound));
+      buffer = ap (λ (y : Reply). y .buffer) r ∙ ap (bytesOf stateLength) (sym m);
+      seen = ap₂ (λ (l : List Seen) (y : Reply). l ++ seenIn c y ∷ []) (k .seen) r ∙ sym (log-more (x .calls) c (loaded (x .plan)));
+    }
+
+keeps-one : (a : Act) (s : List ℕ) (o : Option Since) → TypedAct a → KeptOf o s → KeptOf (noted a (answer a s) o) (answer a s .buffer)
+unfolding noted answer
+keeps-one (load text) s o t k = by (eqb (loadReply text s .number) 0) refl
+  where
+    by : (x : Bool) → eqb (loadReply text s .number) 0 ≡ x → KeptOf (cond x (some (record { plan = declared text; calls = []; seen = [] })) o) (loadReply text s .buffer)
+    by true e = let d = load-done text s (eqb-true (loadReply text s .number) 0 e) in start text (loadReply text s .buffer) (d .0) (d .1)
+    by false e = subst (KeptOf o) (sym (load-refused text s (eqb-false (loadReply text s .number) 0 e))) k
+keeps-one (make c) s none t k = tt
+keeps-one (make c) s (some x) t k = further x s c t k
+
+keeps-all : (acts : List Act) (s : List ℕ) (o : Option Since) → AllTypedActs acts → KeptOf o s → KeptOf (since acts s o) (left acts s)
+unfolding since left
+keeps-all [] s o t k = k
+keeps-all (a ∷ acts) s o t k = keeps-all acts (answer a s .buffer) (noted a (answer a s) o) (t .1) (keeps-one a s o (t .0) k)
+
+holds : (o : Option Since) (b : List ℕ) → KeptOf o b → HoldsOf o b
+holds none b k = tt
+holds (some x) b k =
+    let keep = rules-keep (x .plan) (k .rules) in
+    let few = k .rules .few in
+    record {
+      rules = k .rules;
+      buffer = k .buffer;
+      seen = k .seen;
+      answers = λ c. reply-machine c (after (x .calls) (loaded (x .plan))) b (k .sound) (k .buffer);
+      claim = whole-runs (x .plan) keep (x .calls) (k .typed);
+      reached = rest-reached (x .plan) keep (omega arith) (x .calls) (k .typed);
+    }
+
+-- Whatever loads and calls are made on a lent buffer, whatever it held before: since the last load that was done, what the
+-- caller saw is what the machine gives, and demands 2 and 3 hold of it.
+pub whole-bytes : (acts : List Act) → AllTypedActs acts → (s : List ℕ) → HoldsOf (since acts s none) (left acts s)
+whole-bytes acts t s = holds (since acts s none) (left acts s) (keeps-all acts s none t tt)
+
+-- A copy of the buffer goes on as the original: it has had the calls made up to the copy, and none after it.
+pub copy-goes-on : (acts bs : List Act) (s : List ℕ) (o : Option Since)
+    → (left (acts ++ bs) s ≡ left bs (left acts s)) × (since (acts ++ bs) s o ≡ since bs (left acts s) (since acts s o))
+unfolding since left
+copy-goes-on [] bs s o = (refl, refl)
+copy-goes-on (a ∷ acts) bs s o = copy-goes-on acts bs (answer a s .buffer) (noted a (answer a s) o)

@@ -1,0 +1,389 @@
+/*
+ * The same calls on x86-64 and on the board: one line a call with its number, its further results and a hash of the whole
+ * buffer. The lines must be the same. The last lines say which numbers each call returned.
+ */
+#include <string.h>
+
+#include "plans.h"
+#include "tessla.h"
+#ifdef HOST
+#include <stdio.h>
+static void put(const char *text) { fputs(text, stdout); }
+#else
+#include "board.h"
+#endif
+
+enum { LENGTH = TESSLA_STATE_LENGTH, MOST = TESSLA_TEXT_LIMIT, WRONG_LENGTHS = 8 };
+
+static uint8_t room[LENGTH + 8] __attribute__((aligned(8)));
+static uint8_t words[MOST + 16] __attribute__((aligned(8)));
+static uint8_t copy[LENGTH];
+static uint8_t *state = room, *text = words;
+static uint64_t length = LENGTH; /* what the calls are told */
+
+/* ---- what is printed */
+
+static void put_hex(uint64_t x, const char *end) {
+    char b[20];
+    int i = 19;
+    b[i] = 0;
+    do b[--i] = "0123456789abcdef"[x & 15];
+    while (x >>= 4);
+    put(b + i);
+    put(end);
+}
+
+/* two sums of the whole room, the bytes around the state included; every byte goes into both */
+static uint64_t hash(void) {
+    uint32_t h = 2166136261u, g = 1;
+    for (uint32_t i = 0; i < sizeof room; i += 4) {
+        uint32_t w;
+        memcpy(&w, __builtin_assume_aligned(room + i, 4), 4);
+        h = (h ^ w) * 16777619u;
+        h ^= h >> 15;
+        g = (g << 5 | g >> 27) + w;
+    }
+    return (uint64_t)h << 32 | g;
+}
+
+enum { LOAD, READING, PROGRESS, MOVE, RUN, COLLECT, CALLS };
+static const char *const CALL[CALLS] = { "load ", "reading ", "progress ", "move ", "run ", "collect " };
+static uint32_t returned[CALLS]; /* a bit for each number, bit 31 for any other */
+static uint32_t made[CALLS];
+
+static uint32_t note(int call, uint32_t number, uint64_t x, uint64_t y) {
+    returned[call] |= number < 16 ? 1u << number : 1u << 31;
+    made[call]++;
+    put(CALL[call]);
+    put_hex(number, " ");
+    put_hex(x, " ");
+    put_hex(y, " ");
+    put_hex(hash(), "\n");
+    return number;
+}
+
+/* ---- the calls; results start as something else than 0 */
+
+static uint32_t load(uint64_t n) { return note(LOAD, tessla_load(state, length, text, n), n, 0); }
+static uint32_t reading(uint32_t s, uint32_t t, int64_t v) {
+    return note(READING, tessla_offer_reading(state, length, s, t, v), s, t);
+}
+static uint32_t progress(uint32_t s, uint64_t y) { return note(PROGRESS, tessla_offer_progress(state, length, s, y), s, y); }
+static uint32_t move(uint32_t s) { return note(MOVE, tessla_move(state, length, s), s, 0); }
+static uint32_t run(uint32_t n) {
+    uint32_t moves = 0xA5A5A5A5;
+    uint32_t number = tessla_run(state, length, n, &moves);
+    return note(RUN, number, n, moves);
+}
+static uint32_t collect(uint32_t s) {
+    uint32_t t = 0xA5A5A5A5;
+    int64_t v = 0x5A5A5A5A5A5A5A5A;
+    uint32_t number = tessla_collect(state, length, s, &t, &v);
+    return note(COLLECT, number, t, (uint64_t)v);
+}
+
+static void head(const char *what) {
+    put("-- ");
+    put(what);
+    put("\n");
+}
+
+/* ---- plans */
+
+static struct row rows[TESSLA_STREAM_LIMIT];
+
+static uint32_t load_rows(uint32_t n) { return load(write_plan(text, rows, n)); }
+
+static void visits(void) {
+    rows[0] = (struct row){ .op = IN };
+    rows[1] = (struct row){ .op = UNIT };
+    rows[2] = (struct row){ .op = SET, .a = 1 };
+    rows[3] = (struct row){ .op = LAST, .a = 5, .b = 0 };
+    rows[4] = (struct row){ .op = PLUS, .a = 3, .k = 1 };
+    rows[5] = (struct row){ .op = MERGE, .a = 4, .b = 2, .out = 1 };
+}
+
+/* every operator; inputs 0 and 1 */
+static uint32_t all_operators(void) {
+    uint32_t n = 0;
+    rows[n++] = (struct row){ .op = IN };
+    rows[n++] = (struct row){ .op = IN };
+    for (uint8_t op = NIL; op <= DELAY; op++)
+        rows[n++] = (struct row){ .op = op, .a = op >= TIME ? 0 : 0, .b = op >= ADD ? 1 : 0, .out = 1,
+                                  .k = op == SET ? INT64_MIN : op == PLUS ? INT64_MAX : 0 };
+    return n;
+}
+
+/* ---- each number of each call, extremes */
+
+static const uint64_t WRONG[WRONG_LENGTHS] = {
+    0, 1, LENGTH - 1, LENGTH + 1, LENGTH + (UINT64_C(1) << 32), UINT64_C(1) << 32, UINT64_MAX, (UINT64_C(1) << 63) + LENGTH,
+};
+static const uint32_t STREAMS[] = { 0,  1,  2,   3,   5,     6,          31,         32,         33,        63,
+                                    64, 255, 256, 257, 65536, 0x7FFFFFFF, 0x80000000, 0x80000005, 0xFFFFFFFF };
+static const uint32_t STAMPS[] = { 0, 1, 255, 256, 65535, 65536, 0x7FFFFFFF, 0x80000000, 0xFFFFFFFE, 0xFFFFFFFF };
+static const uint64_t BOUNDS[] = { 0, 1, 0xFFFFFFFF, 0x100000000, 0x100000001, 0x8000000000000000, UINT64_MAX };
+static const int64_t VALUES[] = { 0,           1,           -1,          255,         256,       INT32_MAX, INT32_MIN, UINT32_MAX, 0x100000000,
+                                  -0x100000000, 3037000499, 3037000500, INT64_MAX, INT64_MIN, INT64_MIN + 1 };
+#define COUNT(list) (sizeof(list) / sizeof *(list))
+
+static void wrong_lengths(uint64_t text_length) {
+    head("lengths");
+    load(text_length - 1);
+    load(text_length + 1);
+    load(text_length + (UINT64_C(1) << 32));
+    for (uint32_t i = 0; i < WRONG_LENGTHS; i++) {
+        length = WRONG[i];
+        load(text_length);
+        reading(0, 9, 9);
+        progress(0, 9);
+        move(1);
+        run(1);
+        collect(5);
+    }
+    length = LENGTH;
+}
+
+static void streams(void) {
+    head("streams");
+    for (uint32_t i = 0; i < COUNT(STREAMS); i++) {
+        reading(STREAMS[i], 20 + i, -1);
+        progress(STREAMS[i], 60 + i);
+        move(STREAMS[i]);
+        collect(STREAMS[i]);
+    }
+}
+
+static void stamps(void) {
+    head("stamps");
+    for (uint32_t i = 0; i < COUNT(STAMPS); i++) {
+        reading(0, STAMPS[i], (int64_t)i);
+        reading(0, STAMPS[i], (int64_t)i);
+        run(0xFFFFFFFF);
+        collect(5);
+    }
+    visits();
+    load_rows(6);
+    for (uint32_t i = 0; i < COUNT(BOUNDS); i++) {
+        progress(0, BOUNDS[i]);
+        progress(0, BOUNDS[i]);
+        progress(0, BOUNDS[i] - 1);
+        run(0x80000000);
+    }
+}
+
+static void work_off(uint32_t n) {
+    for (int again = 1; again;) {
+        again = 0;
+        run(7);
+        for (uint32_t s = 0; s < n; s++)
+            if (rows[s].out)
+                while (collect(s) == 0) again = 1;
+    }
+}
+
+static void values(void) {
+    head("values");
+    for (uint32_t i = 0; i < COUNT(VALUES); i++) {
+        uint32_t n = all_operators();
+        load_rows(n);
+        for (uint32_t j = 0; j < COUNT(VALUES); j++) {
+            reading(0, 2 * j, VALUES[i]);
+            reading(1, 2 * j, VALUES[j]);
+            if (j % 4 == 3) work_off(n);
+        }
+        progress(0, TESSLA_HORIZON);
+        progress(1, TESSLA_HORIZON);
+        work_off(n);
+    }
+}
+
+static void full(void) {
+    head("full");
+    visits();
+    load_rows(6);
+    for (uint32_t t = 0; t < 18; t++) reading(0, 3 * t, (int64_t)t); /* the 17th is refused 9 */
+    for (uint32_t i = 0; i < 24; i++) run(i);
+    for (uint32_t i = 0; i < 20; i++) collect(5);
+    for (uint32_t s = 0; s < 6; s++) move(s);
+}
+
+/* ---- plan texts that are refused, and 32 streams */
+
+static void text_of(const char *t) {
+    uint32_t n = 0;
+    while (t[n]) {
+        text[n] = (uint8_t)t[n];
+        n++;
+    }
+    load(n);
+}
+
+static void texts(void) {
+    head("texts");
+    static const char *const refused[] = {
+        "", "plan=1\n", "plan=2\nstreams=1\n", "plan=1\nstreams=0\n", "plan=1\nstreams=33\n", "plan=1\nstreams=032\n", "plan=1\nstreams=999\n",
+        "plan=1\nstreams=1\nop=inn\na=0\nb=0\nk=0\nout=0\n", "plan=1\nstreams=1\nop=sqrt\na=0\nb=0\nk=0\nout=0\n",
+        "plan=1\nstreams=1\nop=in\na=0\nb=0\nk=1\nout=0\n", "plan=1\nstreams=1\nop=in\na=0\nb=0\nk=0\nout=1\n",
+        "plan=1\nstreams=1\nop=neg\na=1\nb=0\nk=0\nout=0\n", "plan=1\nstreams=1\nop=neg\na=0\nb=0\nk=0\nout=0\n",
+        "plan=1\nstreams=1\nop=in\na=0\nb=0\nk=0\nout=0\n\n", "plan=1\nstreams=1\nop=in\na=0\nb=0\nk=0\nout=0",
+        "plan=1\nstreams=1\nop=in\na=0\nb=0\nk=-0\nout=0\n", "plan=1\nstreams=1\nop=set\na=0\nb=0\nk=9223372036854775808\nout=0\n",
+        "plan=1\nstreams=2\nop=in\na=0\nb=0\nk=0\nout=0\nop=set\na=0\nb=0\nk=-9223372036854775808\nout=0\n",
+        "plan=1\nstreams=2\nop=in\na=0\nb=0\nk=0\nout=0\nop=plus\na=0\nb=0\nk=9223372036854775807\nout=1\n",
+        "plan=1\nstreams=2\nop=merge\na=1\nb=1\nk=0\nout=0\nop=merge\na=0\nb=0\nk=0\nout=0\n",
+        "plan=1\nstreams=1\nop=merge\na=0\nb=0\nk=0\nout=0\n", "plan=1\nstreams=1\nop=last\na=0\nb=0\nk=0\nout=0\n",
+        "plan=1\nstreams=2\nop=last\na=0\nb=1\nk=0\nout=1\nop=in\na=0\nb=0\nk=0\nout=0\n",
+    };
+    for (uint32_t i = 0; i < COUNT(refused); i++) text_of(refused[i]);
+    /* longer than any text may be; what is behind the pointer is not looked at then */
+    load(MOST + 1);
+    load(UINT64_C(1) << 32);
+    load(UINT64_MAX);
+    memset(text, 'x', MOST);
+    load(MOST);
+    /* the longest chain, the cycle test at its deepest: upward, downward, and closed to a cycle */
+    for (int kind = 0; kind < 3; kind++) {
+        for (uint32_t i = 0; i < 32; i++) rows[i] = (struct row){ .op = NEG, .a = (uint8_t)(kind ? (i + 1) % 32 : i - 1) };
+        if (kind == 0) rows[0] = (struct row){ .op = IN };
+        if (kind == 1) rows[31] = (struct row){ .op = IN };
+        rows[16].out = 1;
+        uint32_t number = load_rows(32);
+        reading(kind ? 31 : 0, 5, 8);
+        run(1000);
+        collect(16);
+        if (number == 0) {
+            /* the same cycle in the state, not in a text */
+            state[kind ? 31 * 256 : 0] = NEG;
+            state[(kind ? 31 * 256 : 0) + 1] = kind ? 0 : 31;
+            run(1);
+        }
+    }
+}
+
+/* ---- random: plans, calls, damage */
+
+static uint64_t seed = 0x9E3779B97F4A7C15u;
+static uint32_t next(uint32_t below) {
+    seed ^= seed << 13;
+    seed ^= seed >> 7;
+    seed ^= seed << 17;
+    return (uint32_t)(seed >> 32) % below;
+}
+
+static int64_t some_value(void) {
+    switch (next(4)) {
+    case 0: return VALUES[next(COUNT(VALUES))];
+    case 1: return (int64_t)next(10) - 3;
+    case 2: return next(200);
+    default: return (int64_t)(seed * 0x2545F4914F6CDD1Du);
+    }
+}
+
+static uint32_t some_plan(void) {
+    uint32_t n = next(4) ? 1 + next(10) : 1 + next(32);
+    for (uint32_t i = 0; i < n; i++) {
+        struct row r = { .op = (uint8_t)(i == 0 || next(5) == 0 ? IN : 1 + next(19)) };
+        /* mostly backward, so that there is no cycle; last and delay also forward */
+        uint32_t most = next(12) == 0 ? n : i ? i : 1;
+        if (r.op >= TIME) r.a = (uint8_t)(r.op >= LAST ? next(n) : next(most));
+        if (r.op >= ADD) r.b = (uint8_t)next(most);
+        if (r.op == SET || r.op == PLUS) r.k = some_value();
+        if (r.op != IN) r.out = next(2) == 0;
+        rows[i] = r;
+    }
+    return n;
+}
+
+/* one draw in each expression: the order of two would be the compiler's choice */
+static void some_call(uint32_t n, uint32_t *now) {
+    uint32_t t, s = next(20) ? next(n) : next(40);
+    switch (next(9)) {
+    case 0:
+    case 1:
+    case 2:
+        for (uint32_t i = 0; i < n && rows[s % n].op != IN; i++) s++;
+        s = next(20) ? s % n : s;
+        *now += next(3);
+        t = *now + next(6);
+        reading(s, t, some_value());
+        break;
+    case 3:
+        for (uint32_t i = 0; i < n && rows[s % n].op != IN; i++) s++;
+        progress(s % n, next(30) ? *now + next(8) : next(2) ? TESSLA_HORIZON : TESSLA_HORIZON + next(2));
+        break;
+    case 4: move(s); break;
+    case 5: run(next(4)); break;
+    case 6: run(next(60)); break;
+    default: collect(s); break;
+    }
+}
+
+static void random_calls(uint32_t plans, uint32_t calls) {
+    head("random");
+    for (uint32_t p = 0; p < plans; p++) {
+        uint32_t n = some_plan(), now = next(3) ? 0 : 0xFFFFFFC0;
+        state = room + p % 8;
+        memset(room, 0xEE, sizeof room);
+        text = words + next(8);
+        if (load_rows(n) != 0) continue;
+        for (uint32_t i = 0; i < calls; i++) some_call(n, &now);
+        /* a damaged byte, and the state put back */
+        memcpy(copy, state, LENGTH);
+        for (uint32_t i = 0; i < 6; i++) {
+            uint32_t at = next(4) ? next(n * 256) : next(LENGTH);
+            state[at] ^= (uint8_t)(1 << next(8));
+            if (run(1) != 0) memcpy(state, copy, LENGTH);
+            some_call(n, &now);
+        }
+        /* a damaged text */
+        uint32_t end = write_plan(text, rows, n), at = next(end);
+        text[at] ^= (uint8_t)(1 << next(5));
+        load(end);
+    }
+    state = room;
+    text = words;
+}
+
+int main(void) {
+    head("no state");
+    reading(0, 0, 0);
+    progress(0, 0);
+    move(0);
+    run(0);
+    collect(0);
+    visits();
+    uint32_t n = write_plan(text, rows, 6);
+    load(n);
+    reading(0, 3, 7);
+    reading(0, 3, 7);
+    run(3);
+    run(100);
+    wrong_lengths(n);
+    collect(5);
+    collect(5);
+    collect(5);
+    move(1);
+    streams();
+    for (uint32_t o = 0; o < 8; o++) { /* every alignment of the buffer and of the text */
+        head("alignment");
+        memset(room, 0xEE, sizeof room);
+        state = room + o;
+        text = words + (7 - o);
+        visits();
+        load_rows(6);
+        stamps();
+    }
+    state = room;
+    text = words;
+    values();
+    full();
+    texts();
+    random_calls(RANDOM_PLANS, RANDOM_CALLS);
+    for (int i = 0; i < CALLS; i++) {
+        put("numbers ");
+        put(CALL[i]);
+        put_hex(returned[i], " of ");
+        put_hex(made[i], "\n");
+    }
+    return 0;
+}

@@ -1,0 +1,199 @@
+/*
+ * What the calls cost on the board: each measured call stands between gauge_begin and gauge_end, which a plugin of the
+ * emulator looks for, and is counted by SysTick as well. One line each: plan, what, number returned, instructions.
+ */
+#include <string.h>
+
+#include "board.h"
+#include "plans.h"
+#include "tessla.h"
+
+static uint8_t state[TESSLA_STATE_LENGTH] __attribute__((aligned(8)));
+static uint8_t copy[TESSLA_STATE_LENGTH];
+static uint8_t text[TESSLA_TEXT_LIMIT];
+static uint32_t own; /* instructions of the gauge itself */
+
+static void put_number(uint64_t x) {
+    uint8_t bytes[24];
+    struct text t = { bytes, 0 };
+    add_number(&t, (int64_t)x);
+    bytes[t.length] = 0;
+    put((const char *)bytes);
+}
+
+static const char *plan, *what;
+__attribute__((noinline)) void gauge_begin(void) { count_start(); }
+__attribute__((noinline)) uint32_t gauge_end(void) { return count_read(); }
+
+static void say(const char *kind, uint32_t number, uint32_t count) {
+    put(kind);
+    put(plan);
+    put("|");
+    put(what);
+    put("|");
+    put_number(number);
+    put("|");
+    put_number(count);
+    put("\n");
+}
+
+#define MEASURE(name, call)                \
+    do {                                   \
+        uint32_t number, count;            \
+        what = name;                       \
+        gauge_begin();                     \
+        number = (call);                   \
+        count = gauge_end();               \
+        say("zone|", number, count - own); \
+    } while (0)
+
+/* the same for a single call of the engine, with the stack that it takes below its caller's */
+static uint32_t deep;
+#define MEASURE_CALL(name, call)                          \
+    do {                                                  \
+        uint32_t sp, mark;                                \
+        __asm__ volatile("mov %0, sp" : "=r"(sp));        \
+        stack_paint();                                    \
+        uint32_t number, count;                           \
+        what = name;                                      \
+        gauge_begin();                                    \
+        number = (call);                                  \
+        count = gauge_end();                              \
+        mark = stack_mark();                              \
+        say("zone|", number, count - own);                \
+        if (deep < sp - mark) deep = sp - mark;           \
+    } while (0)
+
+#define S state, TESSLA_STATE_LENGTH
+
+/* one reading to rest: the offer, and a run until nothing moves */
+static uint32_t to_rest(uint32_t input, uint32_t t, int64_t v) {
+    uint32_t moves = 0;
+    if (tessla_offer_reading(S, input, t, v) != 0) return 0;
+    tessla_run(S, 100000, &moves);
+    return moves;
+}
+
+static uint32_t collect_all(const struct row *rows, uint32_t n) {
+    uint32_t stamp, events = 0;
+    int64_t value;
+    for (uint32_t i = 0; i < n; i++)
+        if (rows[i].out)
+            while (tessla_collect(S, i, &stamp, &value) == 0) events++;
+    return events;
+}
+
+/* all other inputs are known up to this bound, and nothing can move or waits */
+static void others_known(const struct row *rows, uint32_t n, uint64_t bound) {
+    uint32_t moves;
+    for (uint32_t i = 1; i < n; i++)
+        if (rows[i].op == IN) tessla_offer_progress(S, i, bound);
+    do tessla_run(S, 100000, &moves);
+    while (collect_all(rows, n) != 0 || moves != 0);
+}
+
+static void measure(const char *name, const struct row *rows, uint32_t n) {
+    uint32_t moves, stamp, mover = 0, output = 0, length = write_plan(text, rows, n);
+    int64_t value;
+    plan = name;
+    MEASURE_CALL("load", tessla_load(S, text, length));
+    for (uint32_t t = 10; t < 50; t += 10) {
+        others_known(rows, n, t + 1);
+        to_rest(0, t, 5);
+        collect_all(rows, n);
+    }
+    others_known(rows, n, 200);
+    MEASURE_CALL("validation", tessla_move(S, 99));
+    MEASURE_CALL("run at rest", tessla_run(S, 100000, &moves));
+    memcpy(copy, state, sizeof state);
+    MEASURE_CALL("progress", tessla_offer_progress(S, 0, 60));
+    memcpy(state, copy, sizeof state);
+    MEASURE_CALL("offer", tessla_offer_reading(S, 0, 70, 7));
+    while (mover < n && tessla_move(S, mover) != 0) mover++;
+    memcpy(state, copy, sizeof state);
+    tessla_offer_reading(S, 0, 70, 7);
+    MEASURE_CALL("move", tessla_move(S, mover));
+    memcpy(state, copy, sizeof state);
+    tessla_offer_reading(S, 0, 70, 7);
+    MEASURE_CALL("run to rest", tessla_run(S, 100000, &moves));
+    memcpy(state, copy, sizeof state);
+    MEASURE("a reading to rest", to_rest(0, 70, 7));
+    memcpy(copy, state, sizeof state);
+    while (output < n && tessla_collect(S, output, &stamp, &value) != 0) output++;
+    memcpy(state, copy, sizeof state);
+    MEASURE_CALL("collect", tessla_collect(S, output, &stamp, &value));
+}
+
+/* every stream holds 16 events that nobody collects */
+static void full(const struct row *rows, uint32_t n) {
+    uint32_t moves;
+    plan = "32 streams, all full";
+    tessla_load(S, text, write_plan(text, rows, n));
+    for (uint32_t t = 0; t < TESSLA_ROOM; t++) to_rest(0, 3 * t, 5);
+    MEASURE_CALL("validation", tessla_move(S, 99));
+    MEASURE_CALL("run at rest", tessla_run(S, 100000, &moves));
+    MEASURE("a reading to rest", to_rest(0, 70, 7));
+    MEASURE_CALL("run, all wait", tessla_run(S, 100000, &moves));
+    MEASURE("collecting all", collect_all(rows, n));
+}
+
+/* the visits of one nest box, six streams from s on */
+static uint32_t box(struct row *r, uint32_t s) {
+    uint8_t b = (uint8_t)s;
+    r[s + 0] = (struct row){ .op = IN };
+    r[s + 1] = (struct row){ .op = UNIT };
+    r[s + 2] = (struct row){ .op = SET, .a = b + 1 };
+    r[s + 3] = (struct row){ .op = LAST, .a = b + 5, .b = b };
+    r[s + 4] = (struct row){ .op = PLUS, .a = b + 3, .k = 1 };
+    r[s + 5] = (struct row){ .op = MERGE, .a = b + 4, .b = b + 2, .out = 1 };
+    return s + 6;
+}
+
+/* each stream reads the one before it */
+static void chain(struct row *r, uint32_t n) {
+    r[0] = (struct row){ .op = IN };
+    for (uint32_t i = 1; i < n; i++) r[i] = (struct row){ .op = NEG, .a = (uint8_t)(i - 1), .out = i + 1 == n };
+}
+
+static struct row rows[TESSLA_STREAM_LIMIT];
+
+/* boxes, then merges of their counts */
+static uint32_t boxes(uint32_t n, uint32_t streams) {
+    uint32_t s = 0, b = 0;
+    for (uint32_t i = 0; i < n; i++) s = box(rows, s);
+    while (s < streams) {
+        rows[s] = (struct row){ .op = MERGE, .a = (uint8_t)(6 * b + 5), .b = (uint8_t)(6 * (b + 1) + 5), .out = s + 1 == streams };
+        s++;
+        b = (b + 1) % (n - 1);
+    }
+    return s;
+}
+
+int main(void) {
+    gauge_begin();
+    own = gauge_end();
+    box(rows, 0);
+    measure("6 streams, one box", rows, 6);
+    boxes(2, 16);
+    measure("16 streams, two boxes", rows, 16);
+    boxes(5, 32);
+    measure("32 streams, five boxes", rows, 32);
+    chain(rows, 16);
+    measure("16 streams, a chain", rows, 16);
+    chain(rows, 32);
+    measure("32 streams, a chain", rows, 32);
+    for (uint32_t i = 1; i < 32; i++) rows[i] = (struct row){ .op = PLUS, .k = i, .out = i == 31 };
+    measure("32 streams, 31 readers", rows, 32);
+    for (uint32_t i = 1; i < 32; i++) rows[i].out = 1;
+    full(rows, 32);
+    for (uint8_t i = 0; i < 32; i++) {
+        uint8_t op = i < 2 ? IN : i < 20 ? i : 18 + i % 2;
+        rows[i] = (struct row){ .op = op, .b = op >= ADD, .k = op == SET || op == PLUS ? 3 : 0, .out = op > IN };
+        if (i >= 20) rows[i].a = i - 4;
+    }
+    measure("32 streams, every operator", rows, 32);
+    put("stack|");
+    put_number(deep);
+    put("\n");
+    return 0;
+}

@@ -1,0 +1,68 @@
+#!/usr/bin/env python3
+"""Reads what firmware/measure prints, and prints the tables of docs/PERFORMANCE.md, section "On the controller"."""
+import sys
+
+MHZ = 48
+CORES = {'cortex-m0plus': 'Cortex-M0+', 'cortex-m3': 'Cortex-M3'}
+CALLS = ['load', 'validation', 'offer', 'move', 'collect', 'run at rest', 'a reading to rest']
+
+
+def count(n):
+    return format(int(n), ',')
+
+
+def ms(n):
+    return '%.1f' % (int(n) / MHZ / 1000)
+
+
+code, bound, painted, zones = {}, {}, {}, {}
+core = kind = None
+for line in sys.stdin:
+    line = line.rstrip('\n')
+    if line.startswith('== '):
+        core, kind = line[3:].split(': ', 1)
+    elif kind.startswith('bytes'):
+        code[core] = line.strip()
+    elif kind.startswith('the most stack'):
+        call, size, path = line.split('|')
+        bound.setdefault(core, []).append((int(size), call, path))
+    elif kind.startswith('painted'):
+        painted[core] = line
+    else:
+        plan, call, number, instructions, cycles, where = line.split('|')
+        zones.setdefault(core, {})[plan, call] = (number, instructions, cycles, where)
+
+names = [c for c in CORES if c in code]
+print('| | %s | goal |' % ' | '.join(CORES[c] for c in names))
+print('|---|%s---|' % ('---|' * len(names)))
+print('| bytes of code, with the parts of libgcc and newlib that it takes | %s | 65,536 |' % ' | '.join(count(code[c]) for c in names))
+print('| deepest stack in bytes, no call can take more | %s | 4,096 |' % ' | '.join(count(max(bound[c])[0]) for c in names))
+print('| deepest stack in bytes, painted | %s | 4,096 |' % ' | '.join(count(painted[c]) for c in names))
+print()
+for c in names:
+    print('Deepest on the %s: `%s`.' % (CORES[c], max(bound[c])[2]))
+    print()
+
+plans = list(dict.fromkeys(plan for plan, call in zones[names[0]] if (plan, 'load') in zones[names[0]]))
+def table(c, cell):
+    print('| plan | %s |' % ' | '.join(CALLS))
+    print('|---|%s' % ('---:|' * len(CALLS)))
+    for plan in plans:
+        print('| %s | %s |' % (plan, ' | '.join(cell(zones[c][plan, call]) for call in CALLS)))
+    print()
+
+
+for c in names:
+    print('%s, instructions:' % CORES[c])
+    print()
+    table(c, lambda zone: count(zone[1]))
+c = names[0]
+print('%s, milliseconds at %d MHz: at one cycle an instruction / by the cycles of the manual:' % (CORES[c], MHZ))
+print()
+table(c, lambda zone: '%s / %s' % (ms(zone[1]), ms(zone[2])))
+print('Where the cycles of a reading to rest go (%s):' % CORES[c])
+print()
+print('| plan | functions |')
+print('|---|---|')
+for plan in plans:
+    print('| %s | %s |' % (plan, zones[c][plan, 'a reading to rest'][3]))

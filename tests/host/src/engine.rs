@@ -1,0 +1,132 @@
+//! A safe wrapper around the C interface, the same for both engines: a table of six functions over a lent state.
+
+pub const STATE_LENGTH: usize = 12_288;
+
+type Load = unsafe extern "C" fn(*mut u8, u64, *const u8, u64) -> u32;
+type OfferReading = unsafe extern "C" fn(*mut u8, u64, u32, u32, i64) -> u32;
+type OfferProgress = unsafe extern "C" fn(*mut u8, u64, u32, u64) -> u32;
+type Move = unsafe extern "C" fn(*mut u8, u64, u32) -> u32;
+type Run = unsafe extern "C" fn(*mut u8, u64, u32, *mut u32) -> u32;
+type Collect = unsafe extern "C" fn(*mut u8, u64, u32, *mut u32, *mut i64) -> u32;
+
+extern "C" {
+    fn ref_load(state: *mut u8, state_length: u64, text: *const u8, text_length: u64) -> u32;
+    fn ref_offer_reading(state: *mut u8, state_length: u64, stream: u32, stamp: u32, value: i64) -> u32;
+    fn ref_offer_progress(state: *mut u8, state_length: u64, stream: u32, bound: u64) -> u32;
+    fn ref_move(state: *mut u8, state_length: u64, stream: u32) -> u32;
+    fn ref_run(state: *mut u8, state_length: u64, n: u32, moves: *mut u32) -> u32;
+    fn ref_collect(state: *mut u8, state_length: u64, stream: u32, stamp: *mut u32, value: *mut i64) -> u32;
+
+    #[cfg(library_load)]
+    fn tessla_load(state: *mut u8, state_length: u64, text: *const u8, text_length: u64) -> u32;
+    #[cfg(library_offer_reading)]
+    fn tessla_offer_reading(state: *mut u8, state_length: u64, stream: u32, stamp: u32, value: i64) -> u32;
+    #[cfg(library_offer_progress)]
+    fn tessla_offer_progress(state: *mut u8, state_length: u64, stream: u32, bound: u64) -> u32;
+    #[cfg(library_move)]
+    fn tessla_move(state: *mut u8, state_length: u64, stream: u32) -> u32;
+    #[cfg(library_run)]
+    fn tessla_run(state: *mut u8, state_length: u64, n: u32, moves: *mut u32) -> u32;
+    #[cfg(library_collect)]
+    fn tessla_collect(state: *mut u8, state_length: u64, stream: u32, stamp: *mut u32, value: *mut i64) -> u32;
+}
+
+#[derive(Clone, Copy)]
+pub struct Engine {
+    pub name: &'static str,
+    load: Load,
+    offer_reading: OfferReading,
+    offer_progress: OfferProgress,
+    move_one: Move,
+    run: Run,
+    collect: Collect,
+}
+
+/// The plain C engine.
+pub const REFERENCE: Engine = Engine {
+    name: "reference",
+    load: ref_load,
+    offer_reading: ref_offer_reading,
+    offer_progress: ref_offer_progress,
+    move_one: ref_move,
+    run: ref_run,
+    collect: ref_collect,
+};
+
+/// The proved library. A call that it does not export yet is the plain C engine's: both work on the same bytes.
+pub fn library() -> Engine {
+    #[allow(unused_mut)]
+    let mut engine = Engine { name: "library", ..REFERENCE };
+    #[cfg(library_load)]
+    { engine.load = tessla_load; }
+    #[cfg(library_offer_reading)]
+    { engine.offer_reading = tessla_offer_reading; }
+    #[cfg(library_offer_progress)]
+    { engine.offer_progress = tessla_offer_progress; }
+    #[cfg(library_move)]
+    { engine.move_one = tessla_move; }
+    #[cfg(library_run)]
+    { engine.run = tessla_run; }
+    #[cfg(library_collect)]
+    { engine.collect = tessla_collect; }
+    engine
+}
+
+/// Both engines, the library first.
+pub fn engines() -> [Engine; 2] {
+    [library(), REFERENCE]
+}
+
+/// What a call answers: its number and its results.
+#[derive(Clone, Copy, PartialEq, Eq, Debug, Default)]
+pub struct Answer {
+    pub number: u32,
+    pub moves: u32,
+    pub stamp: u32,
+    pub value: i64,
+}
+
+#[derive(Clone, Copy, PartialEq, Eq, Debug)]
+pub enum Call {
+    Reading(u32, u32, i64),
+    Progress(u32, u64),
+    Move(u32),
+    Run(u32),
+    Collect(u32),
+}
+
+/// What the results hold before a call, so that a result left alone is seen.
+const STALE: Answer = Answer { number: 0, moves: 0xDEAD_BEEF, stamp: 0xDEAD_BEEF, value: -0x0123_4567_89AB_CDEF };
+
+impl Engine {
+    pub fn load(&self, state: &mut [u8], text: &[u8]) -> u32 {
+        // SAFETY: each length is that of its slice, and the slices do not overlap.
+        unsafe { (self.load)(state.as_mut_ptr(), state.len() as u64, text.as_ptr(), text.len() as u64) }
+    }
+
+    pub fn call(&self, state: &mut [u8], call: Call) -> Answer {
+        let (p, length) = (state.as_mut_ptr(), state.len() as u64);
+        // SAFETY: p and length are those of a slice borrowed for writing; the results are locals.
+        unsafe {
+            match call {
+                Call::Reading(stream, stamp, value) => {
+                    Answer { number: (self.offer_reading)(p, length, stream, stamp, value), ..Answer::default() }
+                }
+                Call::Progress(stream, bound) => {
+                    Answer { number: (self.offer_progress)(p, length, stream, bound), ..Answer::default() }
+                }
+                Call::Move(stream) => Answer { number: (self.move_one)(p, length, stream), ..Answer::default() },
+                Call::Run(n) => {
+                    let mut moves = STALE.moves;
+                    let number = (self.run)(p, length, n, &mut moves);
+                    Answer { number, moves, ..Answer::default() }
+                }
+                Call::Collect(stream) => {
+                    let (mut stamp, mut value) = (STALE.stamp, STALE.value);
+                    let number = (self.collect)(p, length, stream, &mut stamp, &mut value);
+                    Answer { number, stamp, value, ..Answer::default() }
+                }
+            }
+        }
+    }
+}

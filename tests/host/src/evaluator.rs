@@ -1,0 +1,134 @@
+//! The definition, from document 01's operator table and the rules under it: a plan and the readings of its inputs give
+//! for every stream a map from stamp to value. Batch and plain; it knows nothing of calls, bounds or held events.
+
+use crate::plan::{Op, Stream};
+use std::collections::{BTreeMap, BTreeSet};
+
+pub const LAST_STAMP: u64 = 4_294_967_295;
+pub const HORIZON: u64 = LAST_STAMP + 1;
+
+pub type Events = BTreeMap<u32, i64>;
+
+struct Table<'a> {
+    plan: &'a [Stream],
+    readings: &'a [Events],
+    /// the events at stamps below the present one
+    before: Vec<Events>,
+    /// (s, p) where stream s has at p the value t − p, for the present stamp t
+    due: Vec<(usize, u32)>,
+}
+
+impl Table<'_> {
+    /// What stream s has at stamp t. `now` remembers what was found at t; the cycle rule ends the recursion.
+    fn at(&self, s: usize, t: u32, now: &mut Vec<Option<Option<i64>>>) -> Option<i64> {
+        if let Some(known) = now[s] {
+            return known;
+        }
+        let result = self.row(s, t, now);
+        now[s] = Some(result);
+        result
+    }
+
+    fn row(&self, s: usize, t: u32, now: &mut Vec<Option<Option<i64>>>) -> Option<i64> {
+        let Stream { op, a, b, k, .. } = self.plan[s];
+        match op {
+            Op::In => self.readings[s].get(&t).copied(),
+            Op::Nil => None,
+            Op::Unit => (t == 0).then_some(0),
+            Op::Time => self.at(a, t, now).map(|_| t as i64),
+            Op::Set => self.at(a, t, now).map(|_| k),
+            Op::Plus => within(self.at(a, t, now)? as i128 + k as i128),
+            Op::Neg => within(-(self.at(a, t, now)? as i128)),
+            Op::Keep => {
+                let (x, y) = (self.at(a, t, now), self.at(b, t, now));
+                if y? != 0 { x } else { None }
+            }
+            Op::Merge => {
+                let (x, y) = (self.at(a, t, now), self.at(b, t, now));
+                x.or(y)
+            }
+            Op::Last => {
+                self.at(b, t, now)?;
+                self.before[a].range(..t).next_back().map(|(_, v)| *v)
+            }
+            Op::Delay => self.fires(s, a, b, t).then_some(0),
+            _ => {
+                let (x, y) = (self.at(a, t, now), self.at(b, t, now));
+                calculate(op, x? as i128, y? as i128)
+            }
+        }
+    }
+
+    /// "The delay fires at t exactly if for some set point p < t the stream a has value t − p at p, and b has no event
+    /// strictly between p and t."
+    fn fires(&self, s: usize, a: usize, b: usize, t: u32) -> bool {
+        self.due.iter().filter(|(stream, _)| *stream == a).any(|(_, p)| {
+            let set_point = self.before[b].contains_key(p) || self.before[s].contains_key(p);
+            set_point && self.before[b].range(p + 1..t).next().is_none()
+        })
+    }
+}
+
+/// "A result outside the value range gives no event."
+fn within(x: i128) -> Option<i64> {
+    i64::try_from(x).ok()
+}
+
+fn calculate(op: Op, x: i128, y: i128) -> Option<i64> {
+    match op {
+        Op::Add => within(x + y),
+        Op::Sub => within(x - y),
+        Op::Mul => within(x * y),
+        // Rust's / cuts toward zero and its % has the dividend's sign
+        Op::Div => if y == 0 { None } else { within(x / y) },
+        Op::Rem => if y == 0 { None } else { within(x % y) },
+        Op::Lt => Some((x < y) as i64),
+        Op::Le => Some((x <= y) as i64),
+        Op::Eq => Some((x == y) as i64),
+        _ => unreachable!("{op:?} is no calculation"),
+    }
+}
+
+/// All events at stamps below `until`; none if more than `most` stamps would have to be looked at.
+///
+/// The stamps at which something can happen: 0 (unit), those of the readings, and p + v for an event of a delay's first
+/// argument at p with value v. They are looked at one after the other.
+pub fn evaluate(plan: &[Stream], readings: &[Events], until: u64, most: usize) -> Option<Vec<Events>> {
+    // to each such stamp t the (s, p) where stream s has at p the value t − p
+    let mut agenda: BTreeMap<u64, Vec<(usize, u32)>> = BTreeMap::from([(0, vec![])]);
+    for (stream, events) in plan.iter().zip(readings) {
+        if stream.op == Op::In {
+            agenda.extend(events.keys().map(|t| (*t as u64, vec![])));
+        }
+    }
+    let timers: BTreeSet<usize> = plan.iter().filter(|stream| stream.op == Op::Delay).map(|stream| stream.a).collect();
+    let mut table = Table { plan, readings, before: vec![Events::new(); plan.len()], due: vec![] };
+    let mut looked = 0;
+    while let Some((t, due)) = agenda.pop_first() {
+        table.due = due;
+        if t >= until {
+            break;
+        }
+        looked += 1;
+        if looked > most {
+            return None;
+        }
+        let mut now = vec![None; plan.len()];
+        for s in 0..plan.len() {
+            table.at(s, t as u32, &mut now);
+        }
+        for (s, found) in now.iter().enumerate() {
+            if let Some(v) = found.unwrap() {
+                table.before[s].insert(t as u32, v);
+            }
+        }
+        for &a in &timers {
+            if let Some(v) = now[a].unwrap() {
+                if v > 0 && t as i128 + v as i128 <= LAST_STAMP as i128 {
+                    agenda.entry(t + v as u64).or_default().push((a, t as u32));
+                }
+            }
+        }
+    }
+    Some(table.before)
+}

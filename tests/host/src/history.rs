@@ -1,0 +1,172 @@
+//! A list of calls made on every engine at once, and what document 01's "Whole runs" says of it, worked out from the
+//! numbers and results that the calls returned.
+
+use crate::buffer::Lent;
+use crate::engine::{engines, Answer, Call, STATE_LENGTH};
+use crate::evaluator::{evaluate, Events, HORIZON};
+use crate::plan::{text_of, Op, Plan};
+use crate::random::seed;
+
+/// Stamps that the evaluator may look at before a check is given up.
+const MOST: usize = 20_000;
+
+#[derive(Clone)]
+pub struct Session {
+    pub plan: Plan,
+    pub states: Vec<Lent>,
+    pub accepted: Vec<Events>,
+    pub known: Vec<u64>,
+    pub handed: Vec<Vec<(u32, i64)>>,
+    pub list: Vec<Call>,
+}
+
+impl Session {
+    pub fn load(plan: &Plan) -> Session {
+        let text = Lent::of(text_of(plan).as_bytes());
+        let states = engines()
+            .iter()
+            .map(|engine| {
+                // what the buffer held before does not matter
+                let mut state = Lent::of(&vec![0x5A; STATE_LENGTH]);
+                assert_eq!(engine.load(&mut state, &text), 0, "{}: {}", engine.name, text_of(plan));
+                assert!(state.untouched() && text.untouched());
+                state
+            })
+            .collect();
+        let n = plan.len();
+        let session = Session {
+            plan: plan.clone(),
+            states,
+            accepted: vec![Events::new(); n],
+            known: vec![0; n],
+            handed: vec![vec![]; n],
+            list: vec![],
+        };
+        session.same();
+        session
+    }
+
+    /// The state, the same in every engine.
+    pub fn state(&self) -> &[u8] {
+        &self.states[0]
+    }
+
+    pub fn story(&self) -> String {
+        format!("seed {}\n{}{:?}", seed(), text_of(&self.plan), self.list)
+    }
+
+    fn same(&self) {
+        for state in &self.states[1..] {
+            if state[..] != self.states[0][..] {
+                let at = (0..STATE_LENGTH).find(|&i| state[i] != self.states[0][i]).unwrap();
+                panic!("the engines' states differ at byte {} of record {}\n{}", at % 256, at / 256, self.story());
+            }
+        }
+    }
+
+    /// Makes the call on every engine: the same answer, the same state; a refusal has no results and leaves the state.
+    pub fn call(&mut self, call: Call) -> Answer {
+        self.list.push(call);
+        let before = self.states[0].to_vec();
+        let answers: Vec<Answer> =
+            engines().iter().zip(&mut self.states).map(|(engine, state)| engine.call(state, call)).collect();
+        for answer in &answers[1..] {
+            assert_eq!(answers[0], *answer, "the engines' answers differ\n{}", self.story());
+        }
+        self.same();
+        let answer = answers[0];
+        if answer.number != 0 {
+            assert_eq!((answer.moves, answer.stamp, answer.value), (0, 0, 0), "results of a refusal\n{}", self.story());
+            assert!(self.state() == before, "a refusal wrote the state\n{}", self.story());
+        }
+        assert!(self.states.iter().all(Lent::untouched), "written outside the state\n{}", self.story());
+        self.note(call, answer);
+        answer
+    }
+
+    fn note(&mut self, call: Call, answer: Answer) {
+        if answer.number != 0 {
+            return;
+        }
+        match call {
+            Call::Reading(s, t, v) => {
+                self.accepted[s as usize].insert(t, v);
+                self.known[s as usize] = t as u64 + 1;
+            }
+            Call::Progress(s, y) => self.known[s as usize] = y,
+            Call::Collect(s) => self.handed[s as usize].push((answer.stamp, answer.value)),
+            Call::Move(_) | Call::Run(_) => {}
+        }
+    }
+
+    pub fn inputs(&self) -> Vec<usize> {
+        (0..self.plan.len()).filter(|&s| self.plan[s].op == Op::In).collect()
+    }
+
+    pub fn outputs(&self) -> Vec<usize> {
+        (0..self.plan.len()).filter(|&s| self.plan[s].out).collect()
+    }
+
+    /// The stamp to which the input furthest behind is known; with no inputs, the horizon.
+    pub fn least_known(&self) -> u64 {
+        self.inputs().iter().map(|&s| self.known[s]).min().unwrap_or(HORIZON)
+    }
+
+    /// Runs and collects until nothing moves and nothing waits; false if that takes more than so many moves.
+    pub fn rest(&mut self, most_moves: u64) -> bool {
+        let mut left = most_moves;
+        loop {
+            let moves = self.call(Call::Run(500)).moves as u64;
+            let mut waited = false;
+            for s in self.outputs() {
+                while self.call(Call::Collect(s as u32)).number == 0 {
+                    waited = true;
+                }
+            }
+            if moves == 0 && !waited {
+                break;
+            }
+            if moves >= left {
+                return false;
+            }
+            left -= moves;
+        }
+        for s in 0..self.plan.len() as u32 {
+            let number = self.call(Call::Move(s)).number;
+            assert_eq!(number, if self.plan[s as usize].op == Op::In { 11 } else { 12 }, "at rest\n{}", self.story());
+        }
+        true
+    }
+
+    /// "The events handed out of each output are a beginning of what the definition gives for the accepted readings."
+    /// False if the definition has too many events to look at.
+    pub fn check_beginning(&self) -> bool {
+        let last = self.handed.iter().flatten().map(|(t, _)| *t as u64).max();
+        let Some(last) = last else { return true };
+        let Some(streams) = evaluate(&self.plan, &self.accepted, last + 1, MOST) else { return false };
+        for s in self.outputs() {
+            let wanted: Vec<(u32, i64)> = streams[s].iter().map(|(t, v)| (*t, *v)).take(self.handed[s].len()).collect();
+            assert_eq!(self.handed[s], wanted, "no beginning, stream {s}\n{}", self.story());
+        }
+        true
+    }
+
+    /// At rest: "every event that the definition gives of each output below the stamp to which the input furthest behind is
+    /// known has been handed out, and no reading offered next to that input is refused for lack of space".
+    pub fn check_rest(&self) -> bool {
+        let least = self.least_known();
+        let Some(streams) = evaluate(&self.plan, &self.accepted, least, MOST) else { return false };
+        for s in self.outputs() {
+            let wanted: Vec<(u32, i64)> = streams[s].iter().map(|(t, v)| (*t, *v)).collect();
+            let handed = &self.handed[s];
+            assert!(handed.len() >= wanted.len() && handed[..wanted.len()] == wanted[..], "not complete, stream {s}: {handed:?} {wanted:?}\n{}", self.story());
+        }
+        for s in self.inputs() {
+            if self.known[s] == least && least < HORIZON {
+                let number = self.clone().call(Call::Reading(s as u32, least as u32, 5)).number;
+                assert_eq!(number, 0, "the input furthest behind, {s}\n{}", self.story());
+            }
+        }
+        true
+    }
+}

@@ -1,0 +1,25 @@
+//! The fields of a state, read from outside (docs/LAYOUT.md): for tests that look at bounds and held events.
+
+pub const RECORD: usize = 256;
+
+fn word(bytes: &[u8], at: usize) -> u64 {
+    u64::from_le_bytes(bytes[at..at + 8].try_into().unwrap())
+}
+
+pub fn bound(state: &[u8], stream: usize) -> u64 {
+    word(state, RECORD * stream + 16)
+}
+
+pub fn mark(state: &[u8], stream: usize) -> u64 {
+    word(state, RECORD * stream + 24)
+}
+
+pub fn held(state: &[u8], stream: usize) -> Vec<(u32, i64)> {
+    let record = &state[RECORD * stream..RECORD * (stream + 1)];
+    (0..(record[4] as usize).min(16))
+        .map(|j| {
+            let slot = &record[64 + 12 * j..];
+            (u32::from_le_bytes(slot[..4].try_into().unwrap()), word(slot, 4) as i64)
+        })
+        .collect()
+}

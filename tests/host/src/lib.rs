@@ -1,0 +1,11 @@
+//! What the host tests share: the definition's evaluator, the two engines, a model on whole histories, random plans.
+
+pub mod buffer;
+pub mod engine;
+pub mod evaluator;
+pub mod history;
+pub mod layout;
+pub mod model;
+pub mod plan;
+pub mod random;
+pub mod replay;

@@ -1,0 +1,198 @@
+//! A model of the calls on whole histories: every event that ever came in is kept, and the sentences of document 01 ("When
+//! an equation can move", "The calls") are followed on them. Slow and plain; it has no bytes and keeps nothing aside.
+
+use crate::engine::{Answer, Call};
+use crate::evaluator::{Events, HORIZON};
+use crate::plan::{Op, Plan};
+
+#[derive(Clone)]
+pub struct Model {
+    pub plan: Plan,
+    pub bound: Vec<u64>,
+    /// every event that came in, let go or not
+    pub events: Vec<Events>,
+    /// of an output: one past the last collected stamp
+    pub mark: Vec<u64>,
+}
+
+impl Model {
+    pub fn new(plan: &Plan) -> Model {
+        let n = plan.len();
+        Model { plan: plan.clone(), bound: vec![0; n], events: vec![Events::new(); n], mark: vec![0; n] }
+    }
+
+    /// "A stream holds an event until every reader's bound is above its stamp and, for an output, until it is collected."
+    pub fn held(&self, s: usize) -> Vec<(u32, i64)> {
+        let readers = (0..self.plan.len()).filter(|&r| self.plan[r].reads().contains(&s)).map(|r| self.bound[r]);
+        let collection = self.plan[s].out.then_some(self.mark[s]);
+        let waiting = readers.chain(collection).min().unwrap_or(HORIZON);
+        self.events[s].iter().filter(|(t, _)| **t as u64 >= waiting).map(|(t, v)| (*t, *v)).collect()
+    }
+
+    fn reach(&self, s: usize) -> u64 {
+        let (a, b) = (self.plan[s].a, self.plan[s].b);
+        let y = self.bound[s];
+        let reach = match self.plan[s].op {
+            Op::In => unreachable!("an input has no reach"),
+            Op::Nil | Op::Unit => HORIZON,
+            // "no further than the first event of b, at stamp y or later, that lies above a's bound"
+            Op::Last => {
+                let first = self.events[b].keys().map(|t| *t as u64).find(|t| *t >= y && *t > self.bound[a]);
+                self.bound[b].min(first.unwrap_or(HORIZON))
+            }
+            // "the greatest k up to b's bound plus 1 and up to the horizon such that every set point p with p + 1 < k lies
+            // below a's bound": no further than one past the first set point that does not
+            Op::Delay => {
+                let points = self.events[b].keys().chain(self.events[s].keys());
+                let first = points.map(|t| *t as u64).filter(|t| *t >= self.bound[a]).min();
+                (self.bound[b] + 1).min(HORIZON).min(first.map_or(HORIZON, |p| p + 1))
+            }
+            op if op.uses_b() => self.bound[a].min(self.bound[b]),
+            _ => self.bound[a],
+        };
+        reach.max(y)
+    }
+
+    /// What the equation has at t, from the whole histories.
+    fn gives(&self, s: usize, t: u64) -> Option<i64> {
+        let stream = self.plan[s];
+        let at = |i: usize| self.events[i].get(&(t as u32)).copied();
+        let (x, z) = (at(stream.a), at(stream.b));
+        match stream.op {
+            Op::In | Op::Nil => None,
+            Op::Unit => (t == 0).then_some(0),
+            Op::Time => x.map(|_| t as i64),
+            Op::Set => x.map(|_| stream.k),
+            Op::Plus => x?.checked_add(stream.k),
+            Op::Neg => x?.checked_neg(),
+            Op::Add => x?.checked_add(z?),
+            Op::Sub => x?.checked_sub(z?),
+            Op::Mul => x?.checked_mul(z?),
+            Op::Div => x?.checked_div(z?),
+            Op::Rem => match (x?, z?) {
+                (_, -1) => Some(0),
+                (x, z) => x.checked_rem(z),
+            },
+            Op::Lt => Some((x? < z?) as i64),
+            Op::Le => Some((x? <= z?) as i64),
+            Op::Eq => Some((x? == z?) as i64),
+            Op::Keep => x.filter(|_| z.is_some_and(|z| z != 0)),
+            Op::Merge => x.or(z),
+            Op::Last => z.and_then(|_| self.events[stream.a].range(..t as u32).next_back().map(|(_, v)| *v)),
+            Op::Delay => {
+                let due = |p: u64, v: i64| v > 0 && p + v as u64 == t;
+                let set = |p: &u32| self.events[stream.b].contains_key(p) || self.events[s].contains_key(p);
+                let quiet = |p: u32| self.events[stream.b].range(p..t as u32).all(|(q, _)| *q == p);
+                let fires = self.events[stream.a]
+                    .range(..t as u32)
+                    .any(|(p, v)| *v as i128 <= HORIZON as i128 && due(*p as u64, *v) && set(p) && quiet(*p));
+                fires.then_some(0)
+            }
+        }
+    }
+
+    /// The first event at or above the bound and below the reach.
+    fn first(&self, s: usize, reach: u64) -> Option<(u64, i64)> {
+        let (y, stream) = (self.bound[s], self.plan[s]);
+        let mut candidates: Vec<u64> = match stream.op {
+            Op::Unit => vec![0],
+            Op::Delay => self.events[stream.a]
+                .iter()
+                .filter(|(_, v)| **v > 0 && **v as i128 <= HORIZON as i128)
+                .map(|(p, v)| *p as u64 + *v as u64)
+                .collect(),
+            _ => stream.reads().iter().flat_map(|&a| self.events[a].keys().map(|t| *t as u64)).collect(),
+        };
+        candidates.retain(|t| *t >= y && *t < reach);
+        candidates.sort();
+        candidates.iter().find_map(|&t| self.gives(s, t).map(|v| (t, v)))
+    }
+
+    /// The new bound and the event that comes in, if the equation can move.
+    fn step(&self, s: usize) -> Option<(u64, Option<(u64, i64)>)> {
+        let reach = self.reach(s);
+        let (bound, event) = match self.first(s, reach) {
+            None => (reach, None),
+            Some((t, _)) if self.held(s).len() == 16 => (t, None),
+            Some((t, v)) => (t + 1, Some((t, v))),
+        };
+        (bound != self.bound[s]).then_some((bound, event))
+    }
+
+    /// A stream that is full with an event waiting.
+    pub fn full(&self, s: usize) -> bool {
+        self.plan[s].op != Op::In && self.held(s).len() == 16 && self.first(s, self.reach(s)).is_some()
+    }
+
+    fn move_one(&mut self, s: usize) -> bool {
+        let Some((bound, event)) = self.step(s) else { return false };
+        self.bound[s] = bound;
+        if let Some((t, v)) = event {
+            self.events[s].insert(t as u32, v);
+        }
+        true
+    }
+
+    pub fn call(&mut self, call: Call) -> Answer {
+        let refused = |number| Answer { number, ..Answer::default() };
+        let n = self.plan.len();
+        let is_input = |s: u32| (s as usize) < n && self.plan[s as usize].op == Op::In;
+        match call {
+            Call::Reading(s, t, v) => {
+                if !is_input(s) {
+                    return refused(7);
+                }
+                let s = s as usize;
+                if (t as u64) < self.bound[s] {
+                    return refused(8);
+                }
+                if self.held(s).len() >= 16 {
+                    return refused(9);
+                }
+                self.bound[s] = t as u64 + 1;
+                self.events[s].insert(t, v);
+            }
+            Call::Progress(s, y) => {
+                if !is_input(s) {
+                    return refused(7);
+                }
+                if y > HORIZON {
+                    return refused(10);
+                }
+                if y < self.bound[s as usize] {
+                    return refused(8);
+                }
+                self.bound[s as usize] = y;
+            }
+            Call::Move(s) => {
+                if s as usize >= n || is_input(s) {
+                    return refused(11);
+                }
+                if !self.move_one(s as usize) {
+                    return refused(12);
+                }
+            }
+            Call::Run(count) => {
+                let mut moves = 0;
+                while moves < count {
+                    let Some(s) = (0..n).find(|&s| self.plan[s].op != Op::In && self.step(s).is_some()) else { break };
+                    self.move_one(s);
+                    moves += 1;
+                }
+                return Answer { moves, ..Answer::default() };
+            }
+            Call::Collect(s) => {
+                if s as usize >= n || !self.plan[s as usize].out {
+                    return refused(13);
+                }
+                let s = s as usize;
+                let Some((t, v)) = self.events[s].iter().find(|(t, _)| **t as u64 >= self.mark[s]).map(|(t, v)| (*t, *v)) else {
+                    return refused(14);
+                };
+                self.mark[s] = t as u64 + 1;
+                return Answer { stamp: t, value: v, ..Answer::default() };
+            }
+        }
+        Answer::default()
+    }
+}

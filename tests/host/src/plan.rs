@@ -1,0 +1,190 @@
+//! A plan and its text, from document 01's "Plan text" and the numbers 1 to 6 of "Load".
+
+#[derive(Clone, Copy, PartialEq, Eq, Debug)]
+pub enum Op {
+    In, Nil, Unit, Time, Set, Plus, Neg, Add, Sub, Mul, Div, Rem, Lt, Le, Eq, Keep, Merge, Last, Delay,
+}
+
+use Op::*;
+
+/// By the table's order; the stored number is the place plus 1.
+pub const OPERATORS: [(Op, &str); 19] = [
+    (In, "in"), (Nil, "nil"), (Unit, "unit"), (Time, "time"), (Set, "set"), (Plus, "plus"), (Neg, "neg"), (Add, "add"),
+    (Sub, "sub"), (Mul, "mul"), (Div, "div"), (Rem, "rem"), (Lt, "lt"), (Le, "le"), (Eq, "eq"), (Keep, "keep"),
+    (Merge, "merge"), (Last, "last"), (Delay, "delay"),
+];
+
+impl Op {
+    pub fn uses_a(self) -> bool {
+        !matches!(self, In | Nil | Unit)
+    }
+    pub fn uses_b(self) -> bool {
+        self.uses_a() && !matches!(self, Time | Set | Plus | Neg)
+    }
+    pub fn uses_k(self) -> bool {
+        matches!(self, Set | Plus)
+    }
+    pub fn name(self) -> &'static str {
+        OPERATORS.iter().find(|(op, _)| *op == self).unwrap().1
+    }
+}
+
+#[derive(Clone, Copy, PartialEq, Eq, Debug)]
+pub struct Stream {
+    pub op: Op,
+    pub a: usize,
+    pub b: usize,
+    pub k: i64,
+    pub out: bool,
+}
+
+pub type Plan = Vec<Stream>;
+
+impl Stream {
+    pub fn new(op: Op) -> Stream {
+        Stream { op, a: 0, b: 0, k: 0, out: false }
+    }
+    /// The arguments that it reads.
+    pub fn reads(&self) -> Vec<usize> {
+        match (self.op.uses_a(), self.op.uses_b()) {
+            (false, _) => vec![],
+            (true, false) => vec![self.a],
+            (true, true) => vec![self.a, self.b],
+        }
+    }
+    /// The arguments but for the first one of a last or a delay.
+    pub fn undelayed(&self) -> Vec<usize> {
+        match self.op {
+            Last | Delay => vec![self.b],
+            _ => self.reads(),
+        }
+    }
+}
+
+pub fn text_of(plan: &[Stream]) -> String {
+    let mut text = format!("plan=1\nstreams={}\n", plan.len());
+    for s in plan {
+        text += &format!("op={}\na={}\nb={}\nk={}\nout={}\n", s.op.name(), s.a, s.b, s.k, s.out as u8);
+    }
+    text
+}
+
+/// A plan in short form, one stream after the other, as `in; unit; set 1 k0; last 5 0; merge 4 2 out`.
+pub fn short(text: &str) -> Plan {
+    text.split(';')
+        .map(|part| {
+            let mut words = part.split_whitespace();
+            let name = words.next().expect("an operator");
+            let op = OPERATORS.iter().find(|(_, n)| *n == name).unwrap_or_else(|| panic!("no operator {name}")).0;
+            let mut stream = Stream::new(op);
+            let mut arguments = vec![];
+            for word in words {
+                if word == "out" {
+                    stream.out = true;
+                } else if let Some(k) = word.strip_prefix('k') {
+                    stream.k = k.parse().unwrap();
+                } else {
+                    arguments.push(word.parse().unwrap());
+                }
+            }
+            assert_eq!(arguments.len(), op.uses_a() as usize + op.uses_b() as usize, "arguments of {part}");
+            stream.a = arguments.first().copied().unwrap_or(0);
+            stream.b = arguments.get(1).copied().unwrap_or(0);
+            stream
+        })
+        .collect()
+}
+
+/// Every cycle contains a delayed argument: streams whose undelayed arguments are all clear are clear, until no more are.
+pub fn keeps_cycle_rule(plan: &[Stream]) -> bool {
+    let mut clear = vec![false; plan.len()];
+    loop {
+        let more: Vec<usize> =
+            (0..plan.len()).filter(|&s| !clear[s] && plan[s].undelayed().iter().all(|&a| clear[a])).collect();
+        if more.is_empty() {
+            return clear.iter().all(|&c| c);
+        }
+        for s in more {
+            clear[s] = true;
+        }
+    }
+}
+
+/// A number without leading zeros, of at most `digits` digits.
+fn natural(word: &[u8], digits: usize) -> Option<u64> {
+    let good = !word.is_empty() && word.len() <= digits && word.iter().all(u8::is_ascii_digit);
+    if !good || (word.len() > 1 && word[0] == b'0') {
+        return None;
+    }
+    std::str::from_utf8(word).unwrap().parse().ok()
+}
+
+/// A value: a minus sign never before 0.
+pub fn value(word: &[u8]) -> Option<i64> {
+    let (minus, digits) = match word.strip_prefix(b"-") {
+        Some(rest) => (true, rest),
+        None => (false, word),
+    };
+    natural(digits, 19)?;
+    let value: i64 = std::str::from_utf8(word).unwrap().parse().ok()?;
+    if minus && value == 0 { None } else { Some(value) }
+}
+
+pub fn number(word: &[u8], digits: usize) -> Option<u64> {
+    natural(word, digits)
+}
+
+struct Lines<'a>(&'a [u8]);
+
+impl<'a> Lines<'a> {
+    /// What follows the key on the next line; none for a missing line, a missing ending byte or another key.
+    fn after(&mut self, key: &str) -> Option<&'a [u8]> {
+        let end = self.0.iter().position(|&c| c == b'\n')?;
+        let (line, rest) = (&self.0[..end], &self.0[end + 1..]);
+        self.0 = rest;
+        line.strip_prefix(key.as_bytes())
+    }
+}
+
+/// The plan of a text, or load's number.
+pub fn parse(text: &[u8]) -> Result<Plan, u32> {
+    if text.len() > 2048 {
+        return Err(1);
+    }
+    let mut lines = Lines(text);
+    if lines.after("plan=") != Some(b"1") {
+        return Err(2);
+    }
+    let n = lines.after("streams=").and_then(|w| natural(w, 3)).ok_or(2u32)?;
+    if n == 0 || n > 32 {
+        return Err(3);
+    }
+    let mut plan = vec![];
+    let mut fields_good = true;
+    for _ in 0..n {
+        let name = lines.after("op=").ok_or(2u32)?;
+        if name.is_empty() || name.len() > 5 || !name.iter().all(u8::is_ascii_lowercase) {
+            return Err(2);
+        }
+        let op = OPERATORS.iter().find(|(_, known)| known.as_bytes() == name).ok_or(4u32)?.0;
+        let a = lines.after("a=").and_then(|w| natural(w, 3)).ok_or(2u32)?;
+        let b = lines.after("b=").and_then(|w| natural(w, 3)).ok_or(2u32)?;
+        let k = lines.after("k=").and_then(value).ok_or(2u32)?;
+        let out = match lines.after("out=") {
+            Some(b"0") => false,
+            Some(b"1") => true,
+            _ => return Err(2),
+        };
+        fields_good &= if op.uses_a() { a < n } else { a == 0 };
+        fields_good &= if op.uses_b() { b < n } else { b == 0 };
+        fields_good &= (op.uses_k() || k == 0) && !(op == In && out);
+        plan.push(Stream { op, a: a as usize, b: b as usize, k, out });
+    }
+    if !lines.0.is_empty() {
+        return Err(2);
+    }
+    if !fields_good {
+        return Err(5);
+    }
+    if keeps_cycle_rule(&plan) { Ok(plan) } else { Err(6) }
+}

@@ -1,0 +1,160 @@
+//! Random numbers from a printed seed, and random plans.
+
+use crate::plan::{keeps_cycle_rule, Op, Plan, Stream, OPERATORS};
+
+#[derive(Clone)]
+pub struct Random(u64);
+
+/// The seed of this run: TESSLA_SEED, or a fixed one.
+pub fn seed() -> u64 {
+    std::env::var("TESSLA_SEED").ok().map_or(1, |s| s.trim().parse().expect("TESSLA_SEED is a number"))
+}
+
+/// A test's share of rounds: TESSLA_SHARE in percent of what the gate runs.
+pub fn rounds(gate: u64) -> u64 {
+    let share = std::env::var("TESSLA_SHARE").ok().map_or(100, |s| s.trim().parse().expect("TESSLA_SHARE is a number"));
+    (gate * share / 100).max(1)
+}
+
+impl Random {
+    /// The numbers of one round of one test.
+    pub fn of(test: u64, round: u64) -> Random {
+        let mut random = Random(seed() ^ test.wrapping_mul(0x9E37_79B9_7F4A_7C15) ^ round.wrapping_mul(0xD1B5_4A32_D192_ED03));
+        for _ in 0..4 {
+            random.next();
+        }
+        random
+    }
+
+    pub fn next(&mut self) -> u64 {
+        self.0 = self.0.wrapping_add(0x9E37_79B9_7F4A_7C15);
+        let mut z = self.0;
+        z = (z ^ (z >> 30)).wrapping_mul(0xBF58_476D_1CE4_E5B9);
+        z = (z ^ (z >> 27)).wrapping_mul(0x94D0_49BB_1331_11EB);
+        z ^ (z >> 31)
+    }
+
+    /// 0 to n − 1.
+    pub fn below(&mut self, n: u64) -> u64 {
+        self.next() % n
+    }
+
+    pub fn chance(&mut self, percent: u64) -> bool {
+        self.below(100) < percent
+    }
+
+    pub fn pick<T: Copy>(&mut self, from: &[T]) -> T {
+        from[self.below(from.len() as u64) as usize]
+    }
+
+    /// Mostly small values, sometimes those at the edges.
+    pub fn value(&mut self) -> i64 {
+        match self.below(20) {
+            0 => self.pick(&[i64::MIN, i64::MIN + 1, i64::MAX, i64::MAX - 1, 3_037_000_499, 3_037_000_500, -3_037_000_500]),
+            1 => self.next() as i64,
+            2..=4 => 0,
+            5..=9 => self.below(41) as i64 - 20,
+            _ => self.below(9) as i64 + 1,
+        }
+    }
+}
+
+/// Three streams in a cycle: a recursion over the past by last, as a count or a sum, or a timer that sets itself again.
+fn recursion(random: &mut Random, plan: &mut Plan, order: &[usize], place: usize) {
+    let lower = |random: &mut Random| order[random.below(place as u64) as usize];
+    let (first, second, third) = (order[place], order[place + 1], order[place + 2]);
+    let trigger = lower(random);
+    let out = |random: &mut Random| random.chance(40);
+    if random.chance(50) {
+        plan[first] = Stream { op: Op::Last, a: third, b: trigger, k: 0, out: out(random) };
+        plan[second] = if random.chance(50) {
+            Stream { op: Op::Plus, a: first, b: 0, k: random.value(), out: out(random) }
+        } else {
+            let op = random.pick(&[Op::Add, Op::Sub, Op::Mul, Op::Add, Op::Rem, Op::Merge, Op::Le]);
+            Stream { op, a: first, b: lower(random), k: 0, out: out(random) }
+        };
+    } else {
+        plan[first] = Stream { op: Op::Delay, a: third, b: trigger, k: 0, out: out(random) };
+        plan[second] = if random.chance(80) {
+            Stream { op: Op::Set, a: first, b: 0, k: 1 + random.below(40) as i64, out: out(random) }
+        } else {
+            Stream { op: Op::Last, a: lower(random), b: first, k: 0, out: out(random) }
+        };
+    }
+    plan[third] = Stream { op: Op::Merge, a: second, b: lower(random), k: 0, out: out(random) };
+}
+
+/// A plan that keeps every rule: undelayed arguments go down a random order of the streams, delayed ones go anywhere.
+pub fn plan(random: &mut Random, most: usize) -> Plan {
+    let n = if random.chance(15) { most } else { 1 + random.below(most as u64) as usize };
+    let mut order: Vec<usize> = (0..n).collect();
+    for i in (1..n).rev() {
+        order.swap(i, random.below(i as u64 + 1) as usize);
+    }
+    let inputs = random.below(4.min(n as u64 + 1)) as usize;
+    let mut plan = vec![Stream::new(Op::Nil); n];
+    let mut skip = 0;
+    for place in 0..n {
+        if skip > 0 {
+            skip -= 1;
+            continue;
+        }
+        let s = order[place];
+        if place > inputs && n - place >= 3 && random.chance(30) {
+            recursion(random, &mut plan, &order, place);
+            skip = 2;
+            continue;
+        }
+        let anywhere = |random: &mut Random| random.below(n as u64) as usize;
+        let lower = |random: &mut Random| {
+            // often a near one, so that chains come about
+            let from = if random.chance(50) { place.saturating_sub(3) } else { 0 };
+            order[from + random.below((place - from) as u64) as usize]
+        };
+        let op = if place < inputs {
+            Op::In
+        } else if place == inputs || place == 0 {
+            random.pick(&[Op::Unit, Op::Unit, Op::Nil, Op::In])
+        } else {
+            match random.below(100) {
+                0..=13 => Op::Last,
+                14..=29 => Op::Delay,
+                30..=41 => Op::Merge,
+                42..=53 => Op::Set,
+                54..=60 => Op::Plus,
+                61..=65 => Op::Time,
+                66..=70 => Op::Keep,
+                _ => OPERATORS[random.below(19) as usize].0,
+            }
+        };
+        let mut stream = Stream::new(op);
+        if op.uses_a() {
+            stream.a = if matches!(op, Op::Last | Op::Delay) { anywhere(random) } else { lower(random) };
+        }
+        if op.uses_b() {
+            stream.b = lower(random);
+        }
+        if op.uses_k() {
+            stream.k = random.value();
+        }
+        stream.out = op != Op::In && random.chance(40);
+        plan[s] = stream;
+    }
+    // a delay's first argument is often a stream that sets times
+    for s in 0..n {
+        if plan[s].op == Op::Delay && random.chance(30) {
+            let timed: Vec<usize> = (0..n).filter(|&i| matches!(plan[i].op, Op::Set | Op::Plus | Op::Merge | Op::In)).collect();
+            if !timed.is_empty() {
+                plan[s].a = random.pick(&timed);
+            }
+        }
+    }
+    if n > 1 && plan.iter().all(|stream| !stream.out) {
+        let equations: Vec<usize> = (0..n).filter(|&i| plan[i].op != Op::In).collect();
+        if !equations.is_empty() {
+            plan[random.pick(&equations)].out = true;
+        }
+    }
+    assert!(keeps_cycle_rule(&plan));
+    plan
+}

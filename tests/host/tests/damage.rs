@@ -1,0 +1,237 @@
+//! Texts and states damaged at random: the library's numbers, results and buffers are those of the plain C engine, nothing is
+//! written on a refusal, nothing outside the lent buffers is touched.
+
+use host::buffer::Lent;
+use host::engine::{engines, Answer, Call, STATE_LENGTH};
+use host::evaluator::HORIZON;
+use host::history::Session;
+use host::plan::{parse, text_of};
+use host::random::{plan, rounds, seed, Random};
+
+fn damaged_text(random: &mut Random) -> Vec<u8> {
+    let mut text = text_of(&plan(random, 32)).into_bytes();
+    let lines = |text: &[u8]| text.split_inclusive(|&c| c == b'\n').map(<[u8]>::to_vec).collect::<Vec<_>>();
+    for _ in 0..random.below(4) {
+        match random.below(12) {
+            0..=2 if !text.is_empty() => {
+                let at = random.below(text.len() as u64) as usize;
+                text[at] = random.pick(b"0123456789-=\n abkoinpltsude\r\0\xff");
+            }
+            3 if !text.is_empty() => {
+                text.remove(random.below(text.len() as u64) as usize);
+            }
+            4 => text.insert(random.below(text.len() as u64 + 1) as usize, random.pick(b"0123456789-=\n aklz\0\xff")),
+            5 => text.truncate(random.below(text.len() as u64 + 1) as usize),
+            6 => {
+                let mut all = lines(&text);
+                if !all.is_empty() {
+                    let (i, j) = (random.below(all.len() as u64) as usize, random.below(all.len() as u64) as usize);
+                    all.swap(i, j);
+                }
+                text = all.concat();
+            }
+            // one line in place of another, of the same key or not
+            _ => {
+                let mut all = lines(&text);
+                if !all.is_empty() {
+                    let i = random.below(all.len() as u64) as usize;
+                    let key: Vec<u8> = all[i].iter().take_while(|&&c| c != b'=').copied().collect();
+                    let value = random.pick(&[
+                        "0", "1", "2", "31", "32", "33", "100", "999", "1000", "-1", "-0", "00", "in", "nil", "unit", "last", "delay", "merge",
+                        "add", "neg", "plus", "zz", "abcdef", "", "9223372036854775807", "9223372036854775808", "-9223372036854775808",
+                        "-9223372036854775809", "18446744073709551617",
+                    ]);
+                    all[i] = [&key, &b"="[..], value.as_bytes(), b"\n"].concat();
+                }
+                text = all.concat();
+            }
+        }
+    }
+    if random.chance(2) {
+        text.resize(2040 + random.below(20) as usize, b'x');
+    }
+    text
+}
+
+#[test]
+fn damaged_texts() {
+    let mut met = [0u64; 7];
+    let mut random = Random::of(10, 0);
+    for _ in 0..rounds(40_000) {
+        let text = damaged_text(&mut random);
+        let number = parse(&text).err().unwrap_or(0);
+        met[number as usize] += 1;
+        let text = Lent::of(&text);
+        let mut ends = vec![];
+        for engine in engines() {
+            let before = [0x96; STATE_LENGTH];
+            let mut state = Lent::of(&before);
+            let answer = engine.load(&mut state, &text);
+            assert_eq!(answer, number, "seed {}: {} against the rules\n{}", seed(), engine.name, String::from_utf8_lossy(&text));
+            assert!(number == 0 || state[..] == before, "seed {}: {} wrote on a refusal", seed(), engine.name);
+            assert!(state.untouched() && text.untouched());
+            ends.push(state);
+        }
+        assert!(ends[0][..] == ends[1][..], "seed {}: the loaded states differ\n{}", seed(), String::from_utf8_lossy(&text));
+    }
+    println!("seed {}: numbers 0 to 6 met {met:?} times", seed());
+    assert!(met.iter().all(|&count| count > 0) || rounds(40_000) < 40_000, "a number was never met: {met:?}");
+}
+
+fn put(state: &mut [u8], at: usize, bytes: &[u8]) {
+    state[at..at + bytes.len()].copy_from_slice(bytes);
+}
+
+/// Damage to a field, often such that the state is still one that document 01 gives a meaning.
+fn damage(random: &mut Random, state: &mut [u8], streams: usize) {
+    let record = 256 * random.below(streams as u64) as usize;
+    let bound = u64::from_le_bytes(state[record + 16..record + 24].try_into().unwrap());
+    let count = state[record + 4] as usize;
+    match random.below(16) {
+        0 => {
+            let at = random.below(STATE_LENGTH as u64) as usize;
+            state[at] = random.next() as u8;
+        }
+        1 => {
+            let at = record + random.below(64) as usize;
+            state[at] = random.pick(&[0, 1, 2, 16, 17, 19, 20, 255]);
+        }
+        // another bound: often still above the held stamps
+        2..=4 => {
+            let bound = match random.below(6) {
+                0 => HORIZON - random.below(2),
+                1 => random.below(400),
+                2 => HORIZON + random.below(3),
+                3 => bound.saturating_sub(random.below(5)),
+                _ => bound.saturating_add(random.below(40)),
+            };
+            put(state, record + 16, &bound.to_le_bytes());
+        }
+        5 => {
+            let mark = if random.chance(80) { random.below(bound.saturating_add(2).max(1)) } else { random.next() };
+            put(state, record + 24, &mark.to_le_bytes());
+        }
+        // what a last or a delay keeps: since, value, prior
+        6..=8 => {
+            let since = if random.chance(80) { random.below(bound.saturating_add(2).max(1)) } else { random.next() };
+            if state[record] == 19 {
+                put(state, record + 32, &since.to_le_bytes());
+                state[record + 5] = random.below(2) as u8;
+                state[record + 6] = random.below(2) as u8;
+                let value = if state[record + 5] == 1 || random.chance(5) { random.value() } else { 0 };
+                let prior = if state[record + 6] == 1 || random.chance(5) { random.value() } else { 0 };
+                put(state, record + 40, &value.to_le_bytes());
+                put(state, record + 48, &prior.to_le_bytes());
+            } else if state[record] == 18 {
+                state[record + 5] = random.below(2) as u8;
+                let value = if state[record + 5] == 1 || random.chance(5) { random.value() } else { 0 };
+                put(state, record + 32, &value.to_le_bytes());
+            }
+        }
+        // a held event more, at the end or between; up to 16 and one beyond
+        9..=12 => {
+            let more = 1 + random.below(16) as usize;
+            let mut stamps: Vec<(u32, i64)> = host::layout::held(state, record / 256);
+            for _ in 0..more {
+                stamps.push((random.below(bound.clamp(1, 500) + 1) as u32, random.value()));
+            }
+            if random.chance(95) {
+                stamps.sort();
+                stamps.dedup_by_key(|e| e.0);
+            }
+            stamps.truncate(16);
+            for (j, (t, v)) in stamps.iter().enumerate() {
+                put(state, record + 64 + 12 * j, &t.to_le_bytes());
+                put(state, record + 68 + 12 * j, &v.to_le_bytes());
+            }
+            state[record + 4] = stamps.len() as u8;
+        }
+        // one fewer
+        13 if count > 0 => {
+            put(state, record + 64 + 12 * (count - 1), &[0; 12]);
+            state[record + 4] -= 1;
+        }
+        // another operator of the same form, or other arguments
+        14 => state[record] = random.pick(&[8, 9, 10, 11, 12, 13, 14, 15, 16, 17, 18, 19, 4, 7]),
+        _ => {
+            let at = record + 1 + random.below(2) as usize;
+            state[at] = random.below(streams as u64 + 1) as u8;
+        }
+    }
+}
+
+#[test]
+fn damaged_states() {
+    let (mut good, mut bad, mut moves, mut done) = (0u64, 0u64, 0u64, [0u64; 5]);
+    for round in 0..rounds(15_000) {
+        let mut random = Random::of(11, round);
+        let plan = plan(&mut random, 12);
+        let mut session = Session::load(&plan);
+        for _ in 0..random.below(60) {
+            let s = random.below(plan.len() as u64) as u32;
+            let known = session.known[s as usize];
+            let call = match random.below(4) {
+                0 => Call::Reading(s, (known + random.below(4)).min(u32::MAX as u64) as u32, random.value()),
+                1 => Call::Progress(s, known + random.below(6)),
+                2 => Call::Run(random.below(8) as u32),
+                _ => Call::Collect(s),
+            };
+            session.call(call);
+        }
+        for _ in 0..4 {
+            let mut bytes = session.state().to_vec();
+            for _ in 0..1 + random.below(3) {
+                damage(&mut random, &mut bytes, plan.len());
+            }
+            let mut states = [Lent::of(&bytes), Lent::of(&bytes)];
+            // a list of calls on the damaged state, which may go on as one that no call leaves
+            for _ in 0..12 {
+                let before = states[0].to_vec();
+                let s = random.below(plan.len() as u64 + 1) as u32;
+                let own = (s as usize).min(plan.len() - 1);
+                let bound = host::layout::bound(&before, own).min(HORIZON);
+                let (kind, call) = match random.below(10) {
+                    0..=1 => (0, Call::Reading(s, (bound + random.below(3)).saturating_sub(1).min(u32::MAX as u64) as u32, random.value())),
+                    2 => (1, Call::Progress(s, (bound + random.below(5)).saturating_sub(1))),
+                    3..=5 => (2, Call::Move(s)),
+                    6..=7 => (3, Call::Run(random.below(20) as u32)),
+                    _ => (4, Call::Collect(s)),
+                };
+                let answers: Vec<Answer> =
+                    engines().iter().zip(&mut states).map(|(engine, state)| engine.call(state, call)).collect();
+                let story = || format!("seed {} round {round}: {call:?} on\n{}", seed(), shown(&before, plan.len()));
+                assert_eq!(answers[0], answers[1], "library and reference, {}", story());
+                assert!(states[0][..] == states[1][..], "library and reference leave other states, {}\nlibrary\n{}\nreference\n{}", story(), shown(&states[0], plan.len()), shown(&states[1], plan.len()));
+                if answers[0].number != 0 {
+                    assert!(states[0][..] == before[..], "written on a refusal, {}", story());
+                    assert_eq!(answers[0], Answer { number: answers[0].number, ..Answer::default() });
+                }
+                assert!(states.iter().all(Lent::untouched));
+                if answers[0].number == 15 {
+                    bad += 1;
+                    break;
+                }
+                good += 1;
+                done[kind] += (answers[0].number == 0) as u64;
+                moves += answers[0].moves as u64;
+            }
+        }
+    }
+    println!("seed {}: {good} calls on damaged states that are taken, {bad} refused 15, done by kind {done:?}, {moves} moves in runs", seed());
+    assert!(good > bad && moves > 0 && done.iter().all(|&count| count > 0));
+}
+
+/// The records of a state, for a message.
+fn shown(state: &[u8], streams: usize) -> String {
+    (0..streams)
+        .map(|s| {
+            let r = &state[256 * s..256 * (s + 1)];
+            let word = |at: usize| i64::from_le_bytes(r[at..at + 8].try_into().unwrap());
+            format!(
+                "{s}: op {} a {} b {} out {} flags {} {} k {} bound {} mark {} kept {} {} {} held {:?}\n",
+                r[0], r[1], r[2], r[3], r[5], r[6], word(8), word(16), word(24), word(32), word(40), word(48),
+                host::layout::held(state, s)
+            )
+        })
+        .collect()
+}

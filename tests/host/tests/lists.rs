@@ -1,0 +1,331 @@
+//! Random plans and random lists of calls: what document 01's "Whole runs" says, a model on whole histories, copies put
+//! back, the order of inputs, and full streams. Both engines make every call.
+
+use host::engine::Call;
+use host::evaluator::{evaluate, HORIZON};
+use host::history::Session;
+use host::layout;
+use host::model::Model;
+use host::plan::{short, text_of, Op};
+use host::random::{plan, rounds, seed, Random};
+
+/// A call of any kind, now and then one that is refused.
+fn any_call(random: &mut Random, session: &Session) -> Call {
+    let n = session.plan.len() as u64;
+    let inputs = session.inputs();
+    let stream = if random.chance(4) { random.pick(&[n as u32, n as u32 + 1, 255, 256, u32::MAX]) } else { random.below(n) as u32 };
+    let input = if inputs.is_empty() || random.chance(5) { stream } else { random.pick(&inputs) as u32 };
+    let known = session.known.get(input as usize).copied().unwrap_or(0);
+    match random.below(100) {
+        0..=34 => {
+            let stamp = match random.below(50) {
+                0 => random.next() as u32,
+                1 => random.pick(&[0, u32::MAX, u32::MAX - 1, 1 << 31]),
+                2..=5 => known.saturating_sub(1 + random.below(4)) as u32,
+                6..=40 => known.saturating_add(random.below(3)).min(u32::MAX as u64) as u32,
+                _ => known.saturating_add(random.below(12)).min(u32::MAX as u64) as u32,
+            };
+            Call::Reading(input, stamp, random.value())
+        }
+        35..=44 => {
+            let bound = match random.below(40) {
+                0 => random.pick(&[HORIZON + 1, u64::MAX, 1 << 33]),
+                1 => random.next() >> random.below(64),
+                2..=5 => known.saturating_sub(random.below(3)),
+                _ => known + random.below(10),
+            };
+            Call::Progress(input, bound)
+        }
+        45..=64 => Call::Move(stream),
+        65..=79 => Call::Run(random.below(12) as u32),
+        _ => Call::Collect(stream),
+    }
+}
+
+/// Arguments lead from one stream to the other.
+fn reaches(plan: &[host::plan::Stream], from: usize, to: usize) -> bool {
+    let (mut met, mut open) = (vec![false; plan.len()], vec![from]);
+    while let Some(s) = open.pop() {
+        if s == to {
+            return true;
+        }
+        if !std::mem::replace(&mut met[s], true) {
+            open.extend(plan[s].reads());
+        }
+    }
+    false
+}
+
+/// Every call's number, results, bounds, held events and marks are those of the model on whole histories.
+#[test]
+fn numbers_and_states_are_those_of_the_model_on_whole_histories() {
+    let (mut calls, mut done, mut full) = (0u64, 0u64, 0u64);
+    for round in 0..rounds(5000) {
+        let mut random = Random::of(2, round);
+        let plan = plan(&mut random, 12);
+        let mut session = Session::load(&plan);
+        let mut model = Model::new(&plan);
+        for _ in 0..60 + random.below(80) {
+            let call = any_call(&mut random, &session);
+            let answer = session.call(call);
+            assert_eq!(answer, model.call(call), "the model's answer to {call:?}\n{}", session.story());
+            for s in 0..plan.len() {
+                let state = session.state();
+                assert_eq!(layout::bound(state, s), model.bound[s], "bound of {s}\n{}", session.story());
+                assert_eq!(layout::held(state, s), model.held(s), "held of {s}\n{}", session.story());
+                assert_eq!(layout::mark(state, s), model.mark[s], "mark of {s}\n{}", session.story());
+                full += (layout::held(state, s).len() == 16 && model.full(s)) as u64;
+            }
+            calls += 1;
+            done += (answer.number == 0) as u64;
+        }
+    }
+    println!("seed {}: {calls} calls, {done} done, full streams met {full} times", seed());
+    assert!(done * 3 > calls && full > 0, "too many calls refused: {done} of {calls}");
+}
+
+/// Handed out is a beginning at every moment looked at, and complete at rest; from copies put back too.
+#[test]
+fn handed_out_is_a_beginning_and_complete_at_rest() {
+    let (mut checked, mut rested, mut events, mut copies) = (0u64, 0u64, 0u64, 0u64);
+    // how often the operators that look back had an event, and of those streams how many read themselves through others
+    let (mut firings, mut lasts, mut recursive) = (0u64, 0u64, 0u64);
+    let all = rounds(6000);
+    for round in 0..all {
+        let mut random = Random::of(3, round);
+        let plan = plan(&mut random, 32);
+        let mut session = Session::load(&plan);
+        let mut copy = session.clone();
+        for _ in 0..40 + random.below(160) {
+            match random.below(60) {
+                0 => copy = session.clone(),
+                1 => {
+                    // a copy goes on with the list up to the copy
+                    session = copy.clone();
+                    copies += 1;
+                }
+                2 => {
+                    session.check_beginning();
+                }
+                _ => {
+                    let call = any_call(&mut random, &session);
+                    session.call(call);
+                }
+            }
+        }
+        checked += session.check_beginning() as u64;
+        if session.rest(4_000) {
+            session.check_beginning();
+            rested += session.check_rest() as u64;
+        }
+        events += session.handed.iter().map(|h| h.len() as u64).sum::<u64>();
+        if let Some(streams) = evaluate(&plan, &session.accepted, session.least_known().min(500), 5_000) {
+            for (s, stream) in plan.iter().enumerate().filter(|(s, _)| !streams[*s].is_empty()) {
+                match stream.op {
+                    Op::Delay => firings += streams[s].len() as u64,
+                    Op::Last => lasts += streams[s].len() as u64,
+                    _ => continue,
+                }
+                recursive += reaches(&plan, stream.a, s) as u64;
+            }
+        }
+    }
+    println!("seed {}: {all} lists, {checked} checked, {rested} at rest, {events} events handed out, {copies} copies put back", seed());
+    println!("seed {}: {firings} firings, {lasts} events of last, {recursive} of these streams in a cycle", seed());
+    assert!(checked * 10 > all * 9 && rested * 2 > all && events > 5 * all && copies > 0);
+    assert!(firings > all / 2 && lasts > all && recursive > all / 10);
+}
+
+/// The same accepted readings in another order of inputs, other moves and other collections: the same events handed out,
+/// and the same bytes at rest.
+#[test]
+fn the_order_of_inputs_does_not_matter() {
+    let (mut compared, mut bytes) = (0u64, 0u64);
+    let all = rounds(1500);
+    for round in 0..all {
+        let mut random = Random::of(4, round);
+        let mut plan = plan(&mut random, 24);
+        if plan.iter().filter(|s| s.op == Op::In).count() < 2 {
+            // two inputs at least: nil has no arguments either
+            for stream in plan.iter_mut().filter(|s| matches!(s.op, Op::Nil | Op::Unit)) {
+                (stream.op, stream.out) = (Op::In, false);
+            }
+        }
+        let mut script: Vec<(usize, Vec<Call>)> = vec![];
+        for s in (0..plan.len()).filter(|&s| plan[s].op == Op::In) {
+            let (mut calls, mut t) = (vec![], 0u32);
+            for _ in 0..random.below(24) {
+                t += random.below(5) as u32;
+                calls.push(if random.chance(80) { Call::Reading(s as u32, t, random.value()) } else { Call::Progress(s as u32, t as u64 + 1) });
+                t += 1;
+            }
+            script.push((s, calls));
+        }
+        let mut ends: Vec<Session> = vec![];
+        for _ in 0..3 {
+            let mut session = Session::load(&plan);
+            let mut next = vec![0; script.len()];
+            let mut stuck = 0;
+            while (0..script.len()).any(|i| next[i] < script[i].1.len()) && stuck < 50 {
+                let i = random.below(script.len() as u64) as usize;
+                let Some(call) = script[i].1.get(next[i]) else { continue };
+                match session.call(*call).number {
+                    0 => next[i] += 1,
+                    9 => {
+                        stuck += 1;
+                        if !session.rest(2_000) {
+                            break;
+                        }
+                    }
+                    number => panic!("refused {number}\n{}", session.story()),
+                }
+                if random.chance(40) {
+                    let s = random.below(plan.len() as u64) as u32;
+                    let call = match random.below(3) {
+                        0 => Call::Run(random.below(9) as u32),
+                        1 => Call::Move(s),
+                        _ => Call::Collect(s),
+                    };
+                    session.call(call);
+                }
+            }
+            let all_offered = (0..script.len()).all(|i| next[i] == script[i].1.len());
+            if all_offered && session.rest(4_000) {
+                ends.push(session);
+            }
+        }
+        for other in ends.iter().skip(1) {
+            assert_eq!(ends[0].accepted, other.accepted);
+            assert_eq!(ends[0].handed, other.handed, "other events\n{}\n{}", ends[0].story(), other.story());
+            compared += 1;
+            assert!(ends[0].state() == other.state(), "other bytes at rest\n{}\n{}", ends[0].story(), other.story());
+            bytes += 1;
+        }
+    }
+    println!("seed {}: {compared} pairs of orders compared, {bytes} of them byte for byte", seed());
+    assert!(compared > all / 2);
+}
+
+/// A slow reader: one input runs ahead, the streams between fill up. The bound of a full stream goes to the waiting event,
+/// which comes in when there is room; nothing is lost.
+#[test]
+fn a_full_stream_keeps_the_next_event_waiting() {
+    let mut full = 0u64;
+    for round in 0..rounds(600) {
+        let mut random = Random::of(5, round);
+        // a chain of random length from the fast input to a stream that also reads the slow one
+        let length = 1 + random.below(5) as usize;
+        let mut parts = vec!["in".to_string(), "in".to_string()];
+        for i in 0..length {
+            let from = if i == 0 { 0 } else { i + 1 };
+            parts.push(format!("{} {}", random.pick(&["neg", "time", "plus", "set"]), from));
+            if parts[i + 2].starts_with("plus") || parts[i + 2].starts_with("set") {
+                parts[i + 2] += &format!(" k{}", random.below(20) as i64 - 5);
+            }
+        }
+        let end = length + 1;
+        parts.push(match random.below(4) {
+            0 => format!("add {end} 1 out"),
+            1 => format!("merge {end} 1 out"),
+            2 => format!("last 1 {end} out"),
+            _ => format!("keep 1 {end} out"),
+        });
+        if random.chance(50) {
+            parts[end] += " out";
+        }
+        let plan = short(&parts.join("; "));
+        let mut session = Session::load(&plan);
+        let mut model = Model::new(&plan);
+        let (mut fast, mut slow) = (0u32, 0u32);
+        while slow < 60 {
+            // the fast input as far as it is taken
+            for _ in 0..random.below(30) {
+                let call = Call::Reading(0, fast, fast as i64);
+                let answer = session.call(call);
+                assert_eq!(answer, model.call(call));
+                if answer.number == 0 {
+                    fast += 1 + random.below(2) as u32;
+                }
+                if random.chance(70) {
+                    let call = Call::Run(random.below(20) as u32);
+                    assert_eq!(session.call(call), model.call(call), "{}", session.story());
+                }
+            }
+            let call = Call::Run(1000);
+            assert_eq!(session.call(call), model.call(call), "{}", session.story());
+            for s in 0..plan.len() {
+                assert_eq!(layout::bound(session.state(), s), model.bound[s], "bound of {s}\n{}", session.story());
+                assert_eq!(layout::held(session.state(), s), model.held(s), "held of {s}\n{}", session.story());
+                if model.full(s) {
+                    full += 1;
+                    // its bound has gone to the stamp of the waiting event, which is still to come
+                    let bound = model.bound[s];
+                    assert!(layout::held(session.state(), s).iter().all(|(t, _)| (*t as u64) < bound));
+                    assert_eq!(session.call(Call::Move(s as u32)).number, 12);
+                }
+            }
+            for s in session.outputs() {
+                let call = Call::Collect(s as u32);
+                assert_eq!(session.call(call), model.call(call));
+            }
+            slow += 1 + random.below(6) as u32;
+            let call = if random.chance(60) { Call::Reading(1, slow, 1) } else { Call::Progress(1, slow as u64) };
+            slow += 1;
+            assert_eq!(session.call(call), model.call(call));
+        }
+        session.call(Call::Progress(0, HORIZON));
+        session.call(Call::Progress(1, HORIZON));
+        assert!(session.rest(100_000), "{}", session.story());
+        assert!(session.check_beginning() && session.check_rest());
+    }
+    println!("seed {}: full streams with an event waiting met {full} times", seed());
+    assert!(full > 0, "no full stream was met");
+}
+
+/// Near the last stamp nothing wraps around.
+#[test]
+fn lists_that_start_near_the_horizon() {
+    let mut rested = 0u64;
+    let all = rounds(500);
+    for round in 0..all {
+        let mut random = Random::of(6, round);
+        let plan = plan(&mut random, 10);
+        let mut session = Session::load(&plan);
+        // past unit's event at 0 first, so that timers set there are due long before
+        session.call(Call::Run(50));
+        for s in session.inputs() {
+            session.call(Call::Progress(s as u32, HORIZON - 30 - random.below(30)));
+        }
+        if !session.rest(3_000) {
+            continue;
+        }
+        for _ in 0..80 {
+            let call = any_call(&mut random, &session);
+            session.call(call);
+        }
+        if session.rest(3_000) && session.check_beginning() {
+            rested += session.check_rest() as u64;
+        }
+        for s in session.inputs() {
+            session.call(Call::Progress(s as u32, HORIZON));
+        }
+        if session.rest(3_000) && session.check_beginning() {
+            rested += session.check_rest() as u64;
+        }
+    }
+    println!("seed {}: {rested} rests near the horizon of {all} lists", seed());
+    assert!(rested > all / 4);
+}
+
+/// A plan text that is rendered is taken by load, and the longest fits well within the limit.
+#[test]
+fn rendered_plans_are_short() {
+    let longest: Vec<String> = (0..32).map(|i| if i == 0 { "in".into() } else { "merge 31 31 out".to_string() }).collect();
+    let text = text_of(&short(&longest.join("; ")));
+    assert!(text.len() < 2048, "{}", text.len());
+    for round in 0..rounds(500) {
+        let mut random = Random::of(7, round);
+        let plan = plan(&mut random, 32);
+        assert_eq!(host::plan::parse(text_of(&plan).as_bytes()), Ok(plan));
+    }
+}
