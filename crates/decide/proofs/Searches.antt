@@ -11,7 +11,7 @@ use borrow.Author.Tests.{lt-ltb, le-ltb}
 use Rattle.meaning.specs.Plan.{Eqn, input, nil, unit, one, two, last, delay}
 use Rattle.meaning.specs.Events.{has, horizon}
 use Rattle.machine.specs.State.{Cell}
-use Rattle.machine.specs.Reach.{limit, stops, gives, reach, first, event, silent, nextOf, decide}
+use Rattle.machine.specs.Reach.{least, limit, stops, gives, reach, first, event, silent, nextOf, decide}
 use Rattle.machine.proofs.Search.{least-ge}
 use Rattle.operators.specs.Operators.{numberOf}
 use Rattle.look.specs.Look.{ownCell, argCell}
@@ -34,6 +34,10 @@ unfolding pick
 pick-append f lo hi [] ys = refl
 pick-append f lo hi (x ∷ xs) ys = ap (λ (m : ℕ). cond (leb lo x && ltb x m && f x) x m) (pick-append f lo hi xs ys)
 
+least-none : (f : ℕ → Bool) (lo n : ℕ) → n ≡ 0 → least f lo n ≡ lo
+unfolding least
+least-none f lo n e = rw e
+
 module _ (o a b : Cell) where
   -- ---- the limit
 
@@ -55,6 +59,21 @@ module _ (o a b : Cell) where
   pub limit-plain : (e : Eqn) → (numberOf e ≡ 1 → ⊥) → numberOf e < 4 → horizon ≡ limit e o a b
   unfolding numberOf
   limit-plain e p q = is-plain (λ e. (numberOf e ≡ 1 → ⊥) → horizon ≡ limit e o a b) (λ h. absurd (h refl)) (λ h. refl) (λ h. refl) e q p
+
+  -- ---- no argument ahead: the equation stays
+  reach-stays : (e : Eqn) → limit e o a b ≤ o .bound → reach e o a b ≡ o .bound
+  unfolding reach
+  reach-stays e h = least-none (stops e o a b) (o .bound) (limit e o a b - o .bound) (omega arith)
+
+  first-stays : (e : Eqn) → reach e o a b ≡ o .bound → first e o a b ≡ o .bound
+  unfolding first
+  first-stays e r = least-none (λ t. has (gives e o a b t)) (o .bound) (reach e o a b - o .bound) (omega arith)
+
+  pub decide-stays : (e : Eqn) → limit e o a b ≤ o .bound → decide e o a b ≡ silent (o .bound)
+  unfolding decide
+  decide-stays e h =
+      let r : reach e o a b ≡ o .bound = reach-stays e h in
+      rw (first-stays e r, r, le-ltb (o .bound) (o .bound) (omega arith))
 
   -- ---- the reach
 

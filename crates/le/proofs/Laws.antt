@@ -5,13 +5,10 @@ use mathlib.Core.List.{List, [], _∷_, _++_}
 use native.Mathlib.Nat.{div-add-mod, mod-lt, mod-eq-of-lt, add-mul-div-left, add-mul-mod-self-left, div-eq-of-lt, div-lt-iff-lt-mul, pow-suc, add-zero, mul-lt-mul-of-pos-left, lt-of-lt-of-le, le-trans, pow-le-pow-right, sub-zero}
 use native.Mathlib.Omega.{arith}
 use native.Mathlib.Numerals.{add-one}
-use lib.ListN.{length, getD, take, drop, set, replicate, length-take, drop-of-length-le}
+use lib.ListN.{length, getD, take, drop, set, replicate, length-take}
 use lib.Seq.{getD-drop, getD-take, drop-cons, sets, drop-set-lt}
-use lib.Dec.{lit<, eqb}
-use mathlib.Core.Bool.{Bool, true, false, cond}
-use borrow.Author.Tests.{eq-eqb, ne-eqb}
-use native.Mathlib.Decide.{ℕ-discrete}
-use Rattle.le.specs.Bytes.{le, enc, part, Bytes, allZero}
+use lib.Dec.{lit<}
+use Rattle.le.specs.Bytes.{le, enc, part, Bytes}
 
 pub length-enc : (n v : ℕ) → length (enc n v) ≡ n
 unfolding enc
@@ -139,37 +136,3 @@ clear-turn s at i n h =
 
 pub clear-done : (s t : List ℕ) (at n : ℕ) → n ≡ 0 → sets s at (replicate n 0) ≡ t → s ≡ t
 clear-done s t at n e p = rw e at p
-
--- zero bytes, one after the other
-zero-more : (x : ℕ) (l : List ℕ) → allZero (x ∷ l) ≡ cond (eqb x 0) (allZero l) false
-unfolding allZero
-zero-more x l = refl
-
-pub zero-turn : (s : List ℕ) (i : ℕ) → i < length s → allZero (drop i s) ≡ cond (eqb (getD s i 0) 0) (allZero (drop (i + 1) s)) false
-zero-turn s i h =
-    let f : i + 1 ≡ suc i = omega arith in
-    ap allZero (drop-cons s i 0 h) ∙ zero-more (getD s i 0) (drop (suc i) s) ∙ ap (λ (j : ℕ). cond (eqb (getD s i 0) 0) (allZero (drop j s)) false) (sym f)
-
-pub zero-end : (s : List ℕ) (i : ℕ) → length s ≤ i → allZero (drop i s) ≡ true
-unfolding allZero
-zero-end s i h = ap allZero (drop-of-length-le s h)
-
--- what was added up is 0 exactly if every byte was
-pub sum-turn : (s : List ℕ) (i sum x : ℕ) → i < length s → x ≡ getD s i 0
-    → cond (eqb (sum + x) 0) (allZero (drop (i + 1) s)) false ≡ cond (eqb sum 0) (allZero (drop i s)) false
-sum-turn s i sum x h e = rw (zero-turn s i h, ← e) (go (ℕ-discrete sum 0) (ℕ-discrete x 0))
-  where
-    rest : Bool
-    rest = allZero (drop (i + 1) s)
-
-    go : Dec (sum ≡ 0) → Dec (x ≡ 0) → cond (eqb (sum + x) 0) rest false ≡ cond (eqb sum 0) (cond (eqb x 0) rest false) false
-    go (yes a) (yes b) = rw (eq-eqb sum 0 a, eq-eqb x 0 b, eq-eqb (sum + x) 0 (omega arith))
-    go (yes a) (no b) = rw (eq-eqb sum 0 a, ne-eqb x 0 b, ne-eqb (sum + x) 0 (λ q. b (omega arith)))
-    go (no a) b = rw (ne-eqb sum 0 a, ne-eqb (sum + x) 0 (λ q. a (omega arith)))
-
-pub sum-done : (s : List ℕ) (i sum : ℕ) (b : Bool) → length s ≤ i → cond (eqb sum 0) (allZero (drop i s)) false ≡ b → eqb sum 0 ≡ b
-sum-done s i sum b h e = sym (go (eqb sum 0)) ∙ e
-  where
-    go : (p : Bool) → cond p (allZero (drop i s)) false ≡ p
-    go true = zero-end s i h
-    go false = refl

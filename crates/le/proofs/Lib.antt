@@ -1,3 +1,4 @@
 pub mod Laws
+pub mod AllZero
 pub mod Fields
 pub mod RoundTrip

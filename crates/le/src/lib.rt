@@ -2,6 +2,7 @@
 ghost use mathlib.Core.Path.{_≡_};
 ghost use Prim.Native.Nat.{_+_, _≤_, _<_, _^_};
 ghost use lib.ListN.{length, drop, replicate};
+ghost use lib.Dec.{eqb};
 ghost use lib.Seq.{sets};
 ghost use Rattle.le.specs.Bytes.{le, enc, part, allZero};
 
@@ -65,16 +66,71 @@ pub fn clear(s: &mut [u8], at: usize, n: usize)
     }
 }
 
-// Whether all bytes from index at on are 0. The bytes are added up: a loop without an early return.
-pub fn zeros(s: &[u8], at: usize) -> bool
-    requires { ⌜ (at ≤ length (now s)) × (length (now s) ≤ 65536) ⌝ }
+// The bits of 4 bytes together: 0 just if each byte is.
+fn any4(s: &[u8], at: usize) -> u8
+    requires { ⌜ at + 4 ≤ length (now s) ⌝ }
+    ensures { λ r. ⌜ eqb r 0 ≡ allZero (part (now (s .entry)) at 4) ⌝ }
+{
+    let a = s[at];
+    let b = s[at + 1];
+    let c = s[at + 2];
+    let d = s[at + 3];
+    a | b | c | d
+}
+
+fn any8(s: &[u8], at: usize) -> u8
+    requires { ⌜ at + 8 ≤ length (now s) ⌝ }
+    ensures { λ r. ⌜ eqb r 0 ≡ allZero (part (now (s .entry)) at 8) ⌝ }
+{
+    let a = any4(s, at);
+    let b = any4(s, at + 4);
+    a | b
+}
+
+fn any16(s: &[u8], at: usize) -> u8
+    requires { ⌜ at + 16 ≤ length (now s) ⌝ }
+    ensures { λ r. ⌜ eqb r 0 ≡ allZero (part (now (s .entry)) at 16) ⌝ }
+{
+    let a = any8(s, at);
+    let b = any8(s, at + 8);
+    a | b
+}
+
+fn any32(s: &[u8], at: usize) -> u8
+    requires { ⌜ at + 32 ≤ length (now s) ⌝ }
+    ensures { λ r. ⌜ eqb r 0 ≡ allZero (part (now (s .entry)) at 32) ⌝ }
+{
+    let a = any16(s, at);
+    let b = any16(s, at + 16);
+    a | b
+}
+
+// Whether all bytes from index at on are 0, one at a time.
+fn zeros_singly(s: &[u8], at: usize) -> bool
+    requires { ⌜ at ≤ length (now s) ⌝ }
     ensures { λ r. ⌜ r ≡ allZero (drop at (now (s .entry))) ⌝ }
 {
-    let mut sum: u64 = 0;
     let mut i = at;
     while i < s.len() {
-        sum += wide(s[i]);
+        if s[i] != 0 {
+            return false;
+        }
         i += 1;
     }
-    sum == 0
+    true
+}
+
+// Whether all bytes from index at on are 0: 32 at a time, and what is left one at a time.
+pub fn zeros(s: &[u8], at: usize) -> bool
+    requires { ⌜ at ≤ length (now s) ⌝ }
+    ensures { λ r. ⌜ r ≡ allZero (drop at (now (s .entry))) ⌝ }
+{
+    let mut i = at;
+    while 32 <= s.len() - i {
+        if any32(s, i) != 0 {
+            return false;
+        }
+        i += 32;
+    }
+    zeros_singly(s, i)
 }

@@ -1,11 +1,13 @@
 -- What each leaf makes of a record: the scheme of its stores, and the cases of each definition.
 use Prim.Native.Nat.{ℕ, zero, suc, _+_, _*_, _-_, _^_, _<_, _≤_, min}
 use mathlib.Core.Path.{_≡_, refl, sym, ap, ap₂, _∙_}
-use mathlib.Core.List.{List}
+use mathlib.Core.List.{List, append-nil}
 use mathlib.Core.Bool.{Bool, true, false, not, cond}
 use native.Mathlib.Omega.{arith}
+use native.Mathlib.Nat.{sub-zero}
 use lib.Dec.{lit<, lit≤, ltb, eqb}
 use lib.ListN.{length, getD}
+use lib.Seq.{set-getD}
 use borrow.Author.Tests.{lt-ltb, le-ltb, eq-eqb, ne-eqb, not-true, not-false}
 use Rattle.le.specs.Bytes.{Bytes}
 use Rattle.machine.specs.State.{room}
@@ -108,6 +110,17 @@ module _ (s : ℕ) (r : Raw) where
     unfolding toldRow
     told-behind h = simp (le-ltb _ _ h)
 
+    pub told-other : num opF r < 18 → toldRow s t v r ≡ r
+    unfolding toldRow
+    told-other h =
+        let k : num opF r ≡ 18 → ⊥ = λ q. absurd (omega arith) in
+        let l : num opF r ≡ 19 → ⊥ = λ q. absurd (omega arith) in
+        rw (ne-eqb _ _ k, ne-eqb _ _ l) (cond-same (ltb t (num boundF r)))
+      where
+        cond-same : (b : Bool) → cond b r r ≡ r
+        cond-same true = refl
+        cond-same false = refl
+
     module _ (h : t < num boundF r) where
       pub told-last : num opF r ≡ 18 → toldRow s t v r ≡ toldLast s v r
       unfolding toldRow
@@ -173,6 +186,11 @@ pub release-is : (w n m k : ℕ) (r : Raw) → n ≡ num countF r → m ≡ min 
     → released w r ≡ withNum countF (n - k) (dropped k r)
 unfolding released
 release-is w n m k r e h q = rw (q, h, e)
+
+pub release-none : (w m : ℕ) (r : Raw) → m ≡ min (num countF r) room → 0 ≡ below w m (r .slots) → released w r ≡ r
+release-none w m r h q =
+    release-is w (num countF r) m 0 r refl h q
+    ∙ ap₂ (λ (l : List ℕ) (k : List Slot). record { nums = l; slots = k }) (rw sub-zero (set-getD (r .nums) countF 0)) (append-nil (r .slots))
 
 -- ---- every leaf keeps the numbers within their widths
 

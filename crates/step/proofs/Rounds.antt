@@ -6,15 +6,15 @@ use mathlib.Core.Bool.{Bool, true, false, cond}
 use native.Mathlib.Omega.{arith}
 use lib.Dec.{lit<, ltb}
 use lib.ListN.{length, getD, set, drop, drop-of-length-le}
-use lib.Seq.{drop-cons}
+use lib.Seq.{drop-cons, set-getD}
 use borrow.Author.Tests.{lt-ltb, le-ltb}
 use borrow.Rule.Slice.PartMut.{midOf, putMid}
 use Rattle.meaning.specs.Events.{horizon}
 use Rattle.le.specs.Bytes.{Bytes}
-use Rattle.layout.specs.Record.{Slot, Raw, Raws, noSlot, noRaw, num, encRaw, decRaw, encode, decode, rowAt, change, changeAll}
+use Rattle.layout.specs.Record.{Slot, Raw, Raws, noSlot, noRaw, num, encRaw, decRaw, encode, decode, rowAt, change, changeAll, countF}
 use Rattle.layout.proofs.Laws.{RawOk, RawsOk, rows-many, row-mid, raws-ok, row-ok, change-ok, changeAll-ok, whole-then}
 use Rattle.step.specs.Step.{pushed, toldRow, lowered, leastRow, waitingRow, below, released, releasedRow, offered}
-use Rattle.step.proofs.Leaves.{push-ok, told-ok}
+use Rattle.step.proofs.Leaves.{push-ok, told-ok, release-none}
 
 -- ---- the least bound of the readers, from the last record down
 
@@ -74,6 +74,14 @@ below-end w n i l e inv =
     omega arith
 
 -- ---- the steps of the whole
+
+-- a record that holds nothing lets nothing go
+pub release-row-none : (i : ℕ) (st : Raws) → num countF (rowAt st i) ≡ 0 → releasedRow i st ≡ st
+unfolding releasedRow
+release-row-none i st e =
+    let w = waitingRow (leastRow i (st .rows)) (rowAt st i) in
+    let none : released w (rowAt st i) ≡ rowAt st i = release-none w 0 (rowAt st i) (rw e) (sym (below-none w (rowAt st i .slots))) in
+    ap (λ (l : List Raw). record { rows = l; spare = st .spare }) (ap (set (st .rows) i) none ∙ set-getD (st .rows) i noRaw)
 
 pub release-row-is : (i w least : ℕ) (st : Raws) → least ≡ leastRow i (st .rows) → w ≡ waitingRow least (rowAt st i) → releasedRow i st ≡ change i (released w) st
 unfolding releasedRow

@@ -126,11 +126,14 @@ fn tell(r: &mut [u8], s: u64, t: u32, v: u64)
     requires { ⌜ length (now r) ≡ 256 ⌝ }
     ensures { λ _. ⌜ now (r .exit) ≡ encRaw (toldRow s t v (decRaw (now (r .entry)))) ⌝ }
 {
+    let op = layout::byte_at(r, 0);
+    if op < 18 {
+        return;
+    }
     let bound = layout::word_at(r, 1);
     if bound <= t as u64 {
         return;
     }
-    let op = layout::byte_at(r, 0);
     if op == 18 {
         tell_last(r, s, v);
         return;
@@ -235,6 +238,9 @@ pub fn release(r: &mut [u8], w: u64)
 {
     let n = layout::byte_at(r, 4);
     let k = leading(r, held(r), w);
+    if k == 0 {
+        return;
+    }
     layout::drop_slots(r, k);
     layout::put_byte(r, 4, n - k as u64);
 }
@@ -244,9 +250,13 @@ pub fn release_row(state: &mut [u8], n: usize, i: usize)
     requires { ⌜ (n * 256 ≤ length (now state)) × (i < n) ⌝ }
     ensures { λ _. ⌜ now (state .exit) ≡ encode n (releasedRow i (decode n (now (state .entry)))) ⌝ }
 {
-    let least = least_reader(state, n, i as u64);
     let at = i * 256;
     let end = at + 256;
+    let count = layout::byte_at(&state[at..end], 4);
+    if count == 0 {
+        return;
+    }
+    let least = least_reader(state, n, i as u64);
     let w = waiting(&state[at..end], least);
     release(&mut state[at..end], w);
 }

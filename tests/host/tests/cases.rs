@@ -355,3 +355,68 @@ fn section_4_comparison_of_times() {
         &[(8, &[(3, 1), (5, 0), (8, 1)])],
     );
 }
+
+#[test]
+fn section_4_transducer_as_a_plan() {
+    // "Translating DFST to TeSSLa_bool": states e and o (an even or odd number of p so far), e first; the symbols p and r.
+    // Transitions: e p o 1, e r e 3, o p e 2, o r o 4. Streams 5 and 6 are a_e and a_o, 9 to 12 the d of the transitions,
+    // 13 and 14 the x. A state is known from stamp 0 on and `last` looks strictly back, so the word begins at stamp 1.
+    let plan = "in; in; merge 0 1; unit; set 3 k1; merge 13 4 out; merge 14 3 out; last 5 2; last 6 2; \
+                mul 7 0; mul 7 1; mul 8 0; mul 8 1; add 11 10; add 9 12; \
+                set 9 k1; keep 15 9; set 10 k3; keep 17 10; set 11 k2; keep 19 11; set 12 k4; keep 21 12; \
+                merge 16 18; merge 20 22; merge 23 24 out";
+    // the word p r r p p r: e, o, o, o, e, o, o
+    gives(
+        plan,
+        &[(0, &[(1, 1), (2, 0), (3, 0), (4, 1), (5, 1), (6, 0)]), (1, &[(1, 0), (2, 1), (3, 1), (4, 0), (5, 0), (6, 1)])],
+        HORIZON,
+        &[
+            (5, &[(0, 1), (1, 0), (2, 0), (3, 0), (4, 1), (5, 0), (6, 0)]),
+            (6, &[(0, 0), (1, 1), (2, 1), (3, 1), (4, 0), (5, 1), (6, 1)]),
+            (25, &[(1, 1), (2, 4), (3, 4), (4, 2), (5, 1), (6, 4)]),
+        ],
+    );
+}
+
+#[test]
+fn section_4_distance_of_two_streams() {
+    // lift(g_v)(time(a), last(time(b), a)) with g_v(t₁, t₂) = t₁ < t₂ + 5: a's event lies less than 5 after b's latest earlier one
+    gives(
+        "in; in; time 0; time 1; last 3 0; plus 4 k5; lt 2 5 out",
+        &[(0, &[(1, 0), (4, 0), (9, 0), (12, 0)]), (1, &[(2, 0), (9, 0)])],
+        HORIZON,
+        // at 1 b has none; 4 < 7; 9 < 7 is not, as b's event at 9 is not earlier; 12 < 14
+        &[(6, &[(4, 1), (9, 0), (12, 1)])],
+    );
+}
+
+#[test]
+fn section_4_timed_transducer_as_a_plan() {
+    // "Translating DTFST to TeSSLa_bool+c": one state, the symbol p, one clock x that every transition sets back;
+    // T ≤ x + 3 gives 1, its negation 2. Stream 3 is the state, 10 and 11 the constraints, 13 and 14 the d, 18 is b_x.
+    let plan = "in; unit; set 1 k1; merge 15 2; last 3 0; merge 18 1; time 5; last 6 0; plus 7 k3; time 0; le 9 8; lt 8 9; \
+                mul 4 0; mul 12 10; mul 12 11; add 13 14; keep 13 13; keep 14 14; merge 16 17; \
+                set 13 k1; keep 19 13; set 14 k2; keep 21 14; merge 20 22 out";
+    // x starts at 0: 2 ≤ 3, 5 ≤ 2 + 3, 9 > 5 + 3, 12 ≤ 9 + 3
+    gives(plan, &[(0, &[(2, 1), (5, 1), (9, 1), (12, 1)])], HORIZON, &[(23, &[(2, 1), (5, 1), (9, 2), (12, 1)])]);
+}
+
+/// Lemma 1 (appendix A.2): a plan without delay that checks whether stream 2 is delay(0, 1), by a 1 in stream 28 wherever one
+/// of the three has an event. Stream 15 is a', the effective delay in absolute time, with 5000000000 for ∞; 17 is t.
+const DELAY_CHECK: &str = "in; in; in; time 0; add 3 0; last 15 0; eq 5 3; keep 4 6; time 1; eq 8 3; keep 4 9; \
+                           unit; merge 1 11; set 12 k5000000000; merge 7 10; merge 14 13; merge 0 1; merge 16 2; \
+                           time 2; merge 18 11; last 19 17; merge 19 20; last 15 17; eq 21 22; \
+                           time 17; lt 21 24; lt 24 22; mul 25 26; add 23 27 out";
+
+#[test]
+fn appendix_a2_delay_checked_without_delay() {
+    let a: Pairs = &[(2, 3), (5, 4), (7, 1)];
+    // set at 2, due at 5; set anew at 5, due at 9; the 1 at 7 is at no set point
+    gives("in; in; delay 0 1 out", &[(0, a), (1, &[(2, 0)])], HORIZON, &[(2, &[(5, 0), (9, 0)])]);
+    let right: &[(usize, Pairs)] = &[(0, a), (1, &[(2, 0)]), (2, &[(5, 0), (9, 0)])];
+    gives(DELAY_CHECK, right, HORIZON, &[(28, &[(2, 1), (5, 1), (7, 1), (9, 1)])]);
+    let early: &[(usize, Pairs)] = &[(0, a), (1, &[(2, 0)]), (2, &[(5, 0), (8, 0)])];
+    gives(DELAY_CHECK, early, HORIZON, &[(28, &[(2, 1), (5, 1), (7, 1), (8, 0)])]);
+    let missing: &[(usize, Pairs)] = &[(0, a), (1, &[(2, 0), (10, 0)]), (2, &[(5, 0)])];
+    gives(DELAY_CHECK, missing, HORIZON, &[(28, &[(2, 1), (5, 1), (7, 1), (10, 0)])]);
+}

@@ -1,56 +1,60 @@
-use Prim.Native.Nat.{_≤_, _+_, _-_, _*_}
-use mathlib.Core.Path.{_≡_, refl, _∙_}
-use mathlib.Core.Bool.{cond, false}
-use lib.Dec.{eqb}
-use lib.ListN.{length, drop}
+use Prim.Native.Nat.{_+_, _-_, _≤_}
+use mathlib.Core.Path.{_≡_, refl, sym, _∙_}
+use lib.ListN.{length, getD, drop}
+use lib.Bits.{bitOr}
 use denote.Ref.{now}
 use Rattle.le.specs.Bytes.{allZero}
-use Rattle.le.proofs.Laws.{sum-turn, sum-done}
+use Rattle.le.proofs.AllZero
 use borrow.Author.Needs.{needs}
 use native.Mathlib.Omega.{arith}
 use Rattle.le.proofs.zeros.Statement.{statement}
 use Rattle.le.proofs.zeros.Tie as tie
 use Rattle.le.proofs.zeros.Reads as reads
 use Rattle.le.proofs.zeros.Lts as lts
-use Rattle.le.proofs.wide.Reads as wide-reads
+use Rattle.le.proofs.any32.Reads as any32-reads
+use Rattle.le.proofs.zeros_singly.Reads as zeros-singly-reads
 
 abbrev Inv-loop : tie.InvT-loop
-Inv-loop s at sum₀ i₀ sum i = (at ≤ i) × (i ≤ length s) × (sum ≤ 255 * i) × (cond (eqb sum 0) (allZero (drop i s)) false ≡ allZero (drop at s))
+Inv-loop s at i₀ i = (at ≤ i) × (i ≤ length s) × (allZero (drop i s) ≡ allZero (drop at s))
 
 abbrev μ-loop : tie.MeasureT-loop
-μ-loop s at sum₀ i₀ sum i = length s - i
+μ-loop s at i₀ i = length s - i
 
--- src/lib.rt:75:5
+-- src/lib.rt:129:5
 loop-holds : tie.Need-loop-holds Inv-loop μ-loop
-loop-holds c = (omega arith, omega arith, omega arith, refl)
+loop-holds c = (omega arith, omega arith, refl)
 
--- src/lib.rt:76:21
-shared-slice-read-wide : tie.Need-shared-slice-read-wide Inv-loop μ-loop
-shared-slice-read-wide c = search needs
+-- src/lib.rt:129:17
+sub-loop : tie.Need-sub-loop Inv-loop μ-loop
+sub-loop c = search needs
 
--- src/lib.rt:76:16
-wide-requires : tie.Need-wide-requires Inv-loop μ-loop
-wide-requires c κs = search needs
+-- src/lib.rt:130:12
+any32-requires : tie.Need-any32-requires Inv-loop μ-loop
+any32-requires c κs = omega arith
 
--- src/lib.rt:76:9
-add-sum : tie.Need-add-sum Inv-loop μ-loop
-add-sum c = omega arith
+-- src/lib.rt:131:13
+returns : tie.Need-returns Inv-loop μ-loop
+returns c = AllZero.zero-not (now (c .before .before .before .before .before .args .s)) (c .before .before .before .loop .i) 32 (c .before .any32 .result) (c .before .any32 .ensures) (c .if1 .taken) ∙ c .before .before .before .loop .inv .2
 
--- src/lib.rt:77:9
+-- src/lib.rt:133:9
 add-i : tie.Need-add-i Inv-loop μ-loop
 add-i c = search needs
 
--- src/lib.rt:75:5
+-- src/lib.rt:129:5
 loop-less : tie.Need-loop-less Inv-loop μ-loop
 loop-less c = omega arith
 
--- src/lib.rt:75:5
+-- src/lib.rt:129:5
 loop-again : tie.Need-loop-again Inv-loop μ-loop
-loop-again c = (omega arith, omega arith, omega arith, sum-turn (now (c .before .before .before .before .before .args .s)) (c .before .before .before .loop .i) (c .before .before .before .loop .sum) (c .wide .result) (omega arith) (c .wide .ensures .0) ∙ c .before .before .before .loop .inv .3)
+loop-again c = (omega arith, omega arith, AllZero.zero-turn (now (c .before .before .before .before .before .args .s)) (c .before .before .before .loop .i) 32 (c .before .any32 .result) (c .before .any32 .ensures) (c .if1 .left) ∙ c .before .before .before .loop .inv .2)
 
--- src/lib.rt:69:1
-returns : tie.Need-returns Inv-loop μ-loop
-returns c = sum-done (now (c .before .before .before .args .s)) (c .before .loop .i) (c .before .loop .sum) _ (omega arith) (c .before .loop .inv .3)
+-- src/lib.rt:135:5
+zeros-singly-requires : tie.Need-zeros-singly-requires Inv-loop μ-loop
+zeros-singly-requires c κs = search needs
+
+-- src/lib.rt:124:1
+returns-2 : tie.Need-returns-2 Inv-loop μ-loop
+returns-2 c = c .zeros-singly .ensures ∙ c .before .before .loop .inv .2
 
 pub zeros-spec : {M : Type 1} → statement M
 zeros-spec =
@@ -59,10 +63,11 @@ zeros-spec =
     Inv-loop
     μ-loop
     loop-holds
-    shared-slice-read-wide
-    wide-requires
-    add-sum
+    sub-loop
+    any32-requires
+    returns
     add-i
     loop-less
     loop-again
-    returns)
+    zeros-singly-requires
+    returns-2)

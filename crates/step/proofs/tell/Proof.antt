@@ -6,7 +6,7 @@ use borrow.Rule.Slice.PartMut.{midOf, putMid, same-len-mid}
 use lib.ListN.{length, drop}
 use denote.Ref.{now}
 use Rattle.layout.specs.Record.{Raw, decRaw, encRaw, encode, decode, num, withNum, withSlot, dropped, rowAt, change, changeAll, opF, aF, bF, outF, countF, flagF, priorFlagF, boundF, nextF, keptF, valueF, priorF}
-use Rattle.layout.proofs.Laws.{num-ok, raw-len, row-mid, lent}
+use Rattle.layout.proofs.Laws.{num-ok, raw-len, row-mid, lent, encode-decode}
 use Rattle.layout.proofs.Slots.{slot-ok, shift-ok, slots-many}
 use Rattle.layout.proofs.Loops.{left, each-turn, each-end, each-all, row-len}
 use Rattle.step.specs.Step.{pushed, readsRow, toldLast, toldValue, toldPrior, toldSince, toldDelay, toldRow, lowered, leastRow, waitingRow, below, released, releasedRow, offered}
@@ -24,8 +24,8 @@ use Rattle.step.proofs.tell_delay.Reads as tell-delay-reads
 use Rattle.step.proofs.tell_last.Reads as tell-last-reads
 
 -- src/lib.rt:129:9
-word-at-requires : tie.Need-word-at-requires
-word-at-requires c κs = search needs
+byte-at-requires : tie.Need-byte-at-requires
+byte-at-requires c κs = search needs
 
 -- src/lib.rt:131:9
 same-length : tie.Need-same-length
@@ -33,35 +33,35 @@ same-length c = search needs
 
 -- src/lib.rt:131:9
 returns : tie.Need-returns
-returns c = let a = c .before .before .before .before .args in let p = now (a .r) in let r = decRaw p in Leaves.none p (toldRow (a .s) (a .t) (a .v)) (omega arith) (λ i. omega (arith, c .before .before .before .slice-known .given i)) (Leaves.told-behind (a .s) r (a .t) (a .v) (omega arith))
+returns c = let a = c .before .before .before .before .args in let p = now (a .r) in let r = decRaw p in Leaves.none p (toldRow (a .s) (a .t) (a .v)) (omega arith) (λ i. omega (arith, c .before .before .before .slice-known .given i)) (Leaves.told-other (a .s) r (a .t) (a .v) (omega arith))
 
 -- src/lib.rt:133:9
-byte-at-requires : tie.Need-byte-at-requires
-byte-at-requires c κs = search needs
+word-at-requires : tie.Need-word-at-requires
+word-at-requires c κs = search needs
 
 -- src/lib.rt:135:9
-tell-last-requires : tie.Need-tell-last-requires
-tell-last-requires c κs = search needs
-
--- src/lib.rt:136:9
 same-length-2 : tie.Need-same-length-2
 same-length-2 c = search needs
 
--- src/lib.rt:136:9
+-- src/lib.rt:135:9
 returns-2 : tie.Need-returns-2
-returns-2 c = let a = c .before .before .before .before .before .before .before .before .before .before .before .args in let p = now (a .r) in let r = decRaw p in Leaves.one p (c .before .before .tell-last .last .0) (toldRow (a .s) (a .t) (a .v)) (toldLast (a .s) (a .v)) (c .before .before .tell-last .ensures) (Leaves.told-last (a .s) r (a .t) (a .v) (omega arith) (omega arith))
+returns-2 c = let a = c .before .before .before .before .before .before .before .args in let p = now (a .r) in let r = decRaw p in Leaves.none p (toldRow (a .s) (a .t) (a .v)) (omega arith) (λ i. omega (arith, c .before .before .before .before .before .before .slice-known .given i)) (Leaves.told-behind (a .s) r (a .t) (a .v) (omega arith))
+
+-- src/lib.rt:138:9
+tell-last-requires : tie.Need-tell-last-requires
+tell-last-requires c κs = search needs
 
 -- src/lib.rt:139:9
-tell-delay-requires : tie.Need-tell-delay-requires
-tell-delay-requires c κs = search needs
-
--- src/lib.rt:125:1
 same-length-3 : tie.Need-same-length-3
 same-length-3 c = search needs
 
--- src/lib.rt:125:1
+-- src/lib.rt:139:9
 returns-3 : tie.Need-returns-3
-returns-3 c = let a = c .before .before .before .before .before .before .before .before .before .before .before .before .args in let p = now (a .r) in let r = decRaw p in Leaves.one p (c .before .before .tell-delay .last .0) (toldRow (a .s) (a .t) (a .v)) (toldDelay (a .s) (a .t) (a .v)) (c .before .before .tell-delay .ensures) (Leaves.told-delay (a .s) r (a .t) (a .v) (omega arith) (omega arith))
+returns-3 c = let a = c .before .before .before .before .before .before .before .before .before .before .before .before .args in let p = now (a .r) in let r = decRaw p in Leaves.one p (c .before .before .tell-last .last .0) (toldRow (a .s) (a .t) (a .v)) (toldLast (a .s) (a .v)) (c .before .before .tell-last .ensures) (Leaves.told-last (a .s) r (a .t) (a .v) (omega arith) (omega arith))
+
+-- src/lib.rt:142:9
+tell-delay-requires : tie.Need-tell-delay-requires
+tell-delay-requires c κs = search needs
 
 -- src/lib.rt:125:1
 same-length-4 : tie.Need-same-length-4
@@ -69,21 +69,31 @@ same-length-4 c = search needs
 
 -- src/lib.rt:125:1
 returns-4 : tie.Need-returns-4
-returns-4 c = let a = c .before .before .before .before .before .before .before .before .args in let p = now (a .r) in let r = decRaw p in Leaves.none p (toldRow (a .s) (a .t) (a .v)) (omega arith) (λ i. omega (arith, c .before .before .before .before .before .before .before .slice-known .given i)) (Leaves.told-else (a .s) r (a .t) (a .v) (omega arith) (λ e. c .before .if2 .left (c .before .before .byte-at .ensures .0 ∙ e)) (λ e. c .if3 .left (c .before .before .byte-at .ensures .0 ∙ e)))
+returns-4 c = let a = c .before .before .before .before .before .before .before .before .before .before .before .before .before .args in let p = now (a .r) in let r = decRaw p in Leaves.one p (c .before .before .tell-delay .last .0) (toldRow (a .s) (a .t) (a .v)) (toldDelay (a .s) (a .t) (a .v)) (c .before .before .tell-delay .ensures) (Leaves.told-delay (a .s) r (a .t) (a .v) (omega arith) (omega arith))
+
+-- src/lib.rt:125:1
+same-length-5 : tie.Need-same-length-5
+same-length-5 c = search needs
+
+-- src/lib.rt:125:1
+returns-5 : tie.Need-returns-5
+returns-5 c = let a = c .before .before .before .before .before .before .before .before .before .args in let p = now (a .r) in let r = decRaw p in Leaves.none p (toldRow (a .s) (a .t) (a .v)) (omega arith) (λ i. omega (arith, c .before .before .before .before .before .before .before .before .slice-known .given i)) (Leaves.told-else (a .s) r (a .t) (a .v) (omega arith) (λ e. c .before .if3 .left (c .before .before .before .before .before .before .byte-at .ensures .0 ∙ e)) (λ e. c .if4 .left (c .before .before .before .before .before .before .byte-at .ensures .0 ∙ e)))
 
 pub tell-spec : {M : Type 1} → statement M
 tell-spec =
     tie.close
     (tie.spec
-    word-at-requires
+    byte-at-requires
     same-length
     returns
-    byte-at-requires
-    tell-last-requires
+    word-at-requires
     same-length-2
     returns-2
-    tell-delay-requires
+    tell-last-requires
     same-length-3
     returns-3
+    tell-delay-requires
     same-length-4
-    returns-4)
+    returns-4
+    same-length-5
+    returns-5)

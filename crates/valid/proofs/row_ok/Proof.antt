@@ -58,7 +58,7 @@ word-at-requires c κs = search needs
 
 -- src/lib.rt:231:9
 rises-requires : tie.Need-rises-requires
-rises-requires c κs = let a = c .before .before .before .before .before .before .before .args in let p = now (a .r) in let r = decRaw p in let c16 = Tests.sizes-count r (sym (c .before .before .before .sizes-ok .ensures) ∙ not-false (c .before .before .before .sizes-ok .result) (c .before .before .if2 .left)) in (omega arith, omega arith)
+rises-requires c κs = let a = c .before .before .before .before .before .before .before .args in let p = now (a .r) in let r = decRaw p in let c16 = Tests.sizes-count r (sym (c .before .before .before .sizes-ok .ensures) ∙ not-false (c .before .before .before .sizes-ok .result) (c .before .before .if2 .left)) in omega arith
 
 -- src/lib.rt:232:9
 returns-3 : tie.Need-returns-3
@@ -84,7 +84,7 @@ add-zeros c = search needs
 
 -- src/lib.rt:237:5
 zeros-requires : tie.Need-zeros-requires
-zeros-requires c κs = let a = c .before .before .before .before .before .before .before .before .before .before .before .args in let p = now (a .r) in let r = decRaw p in let c16 = Tests.sizes-count r (sym (c .before .before .before .before .before .before .before .sizes-ok .ensures) ∙ not-false (c .before .before .before .before .before .before .before .sizes-ok .result) (c .before .before .before .before .before .before .if2 .left)) in (omega arith, omega arith)
+zeros-requires c κs = let a = c .before .before .before .before .before .before .before .before .before .before .before .args in let p = now (a .r) in let r = decRaw p in let c16 = Tests.sizes-count r (sym (c .before .before .before .before .before .before .before .sizes-ok .ensures) ∙ not-false (c .before .before .before .before .before .before .before .sizes-ok .result) (c .before .before .before .before .before .before .if2 .left)) in omega arith
 
 -- src/lib.rt:220:1
 returns-5 : tie.Need-returns-5

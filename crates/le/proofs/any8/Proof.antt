@@ -1,0 +1,33 @@
+use Prim.Native.Nat.{_+_, _-_, _≤_}
+use mathlib.Core.Path.{_≡_, refl, sym, _∙_}
+use lib.ListN.{length, getD, drop}
+use lib.Bits.{bitOr}
+use denote.Ref.{now}
+use Rattle.le.specs.Bytes.{allZero}
+use Rattle.le.proofs.AllZero
+use borrow.Author.Needs.{needs}
+use native.Mathlib.Omega.{arith}
+use Rattle.le.proofs.any8.Statement.{statement}
+use Rattle.le.proofs.any8.Tie as tie
+use Rattle.le.proofs.any8.Reads as reads
+use Rattle.le.proofs.any8.Lts as lts
+use Rattle.le.proofs.any4.Reads as any4-reads
+
+-- src/lib.rt:85:9
+any4-requires : tie.Need-any4-requires
+any4-requires c κs = search needs
+
+-- src/lib.rt:86:21
+add-any4 : tie.Need-add-any4
+add-any4 c = search needs
+
+-- src/lib.rt:86:9
+any4-requires-2 : tie.Need-any4-requires-2
+any4-requires-2 c κs = search needs
+
+-- src/lib.rt:81:1
+returns : tie.Need-returns
+returns c = AllZero.zero-join (now (c .before .before .before .args .s)) (c .before .before .before .args .at) 4 4 (c .before .any4 .result) (c .any42 .result) (c .before .any4 .ensures) (c .any42 .ensures)
+
+pub any8-spec : {M : Type 1} → statement M
+any8-spec = tie.close (tie.spec any4-requires add-any4 any4-requires-2 returns)
