@@ -2,13 +2,9 @@
 ghost use mathlib.Core.Path.{_≡_};
 ghost use mathlib.Core.List.{List};
 ghost use Prim.Native.Nat.{_≤_, _<_, min, max};
-ghost use lib.Dec.{leb};
 ghost use lib.ListN.{length};
-ghost use Rattle.meaning.specs.Plan.{Eqn};
 ghost use Rattle.meaning.specs.Events.{Event, horizon};
-ghost use Rattle.machine.specs.State.{Cell};
 ghost use Rattle.machine.specs.Reach as machine;
-ghost use Rattle.operators.specs.Operators.{numberOf};
 ghost use Rattle.layout.specs.Record.{decRaw};
 ghost use Rattle.cells.specs.Back.{heldOf};
 ghost use Rattle.look.specs.Look.{lookOf, equation, ownOf, argCell, argOf, Sound};
@@ -131,17 +127,18 @@ fn larger(x: u64, y: u64) -> u64
     if x < y { y } else { x }
 }
 
-// The greatest bound that the arguments' bounds allow, by the operator's stored number.
-fn limit(number: u64, bound: u64, abound: u64, bbound: u64) -> u64
-    requires { ⌜ (bound ≤ horizon) × (abound ≤ horizon) × (bbound ≤ horizon) ⌝ }
-    ensures { λ r. ⌜ ((e : Eqn) (o a b : Cell) → number ≡ numberOf e → bound ≡ o .bound → abound ≡ a .bound → bbound ≡ b .bound → r ≡ machine.limit e o a b) × (r ≤ horizon) ⌝ }
+// The greatest bound that the arguments' bounds allow.
+fn limit(l: Look) -> u64
+    requires { ⌜ Sound l ⌝ }
+    ensures { λ r. ⌜ ((x y : List Event) → r ≡ machine.limit (equation (l .op)) (ownOf l) (argCell (l .abound) x) (argCell (l .bbound) y)) × (r ≤ horizon) ⌝ }
 {
+    let number = l.number;
     match number {
-        1 => bound,
-        4..=7 => abound,
-        8..=17 => smaller(abound, bbound),
-        18 => bbound,
-        19 => smaller(bbound + 1, Bound::HORIZON),
+        1 => l.bound,
+        4..=7 => l.abound,
+        8..=17 => smaller(l.abound, l.bbound),
+        18 => l.bbound,
+        19 => smaller(l.bbound + 1, Bound::HORIZON),
         _ => Bound::HORIZON,
     }
 }
@@ -151,7 +148,7 @@ fn reach(l: Look, a: &[u8], b: &[u8]) -> u64
     requires { ⌜ Sound l × (length (now a) ≡ 256) × (length (now b) ≡ 256) ⌝ }
     ensures { λ r. ⌜ (r ≡ reachIn l (now (a .entry)) (now (b .entry))) × (r ≤ horizon) ⌝ }
 {
-    let hi = larger(l.bound, limit(l.number, l.bound, l.abound, l.bbound));
+    let hi = larger(l.bound, limit(l));
     let number = l.number;
     match number {
         18 => scan(false, l, a, b, b, hi),
@@ -204,27 +201,12 @@ fn next_in(l: Look, a: &[u8], b: &[u8]) -> Next
     Next::Event(t as u32, v)
 }
 
-// Whether the bounds alone say that the equation in o stays where it is: its arguments are not ahead of it.
-fn stays(o: &[u8], a: &[u8], b: &[u8]) -> bool
-    requires { ⌜ (length (now o) ≡ 256) × (length (now a) ≡ 256) × (length (now b) ≡ 256) ⌝ }
-    ensures { λ r. ⌜ r ≡ leb (machine.limit (lookOf (decRaw (now (o .entry))) .eqn) (lookOf (decRaw (now (o .entry)))) (lookOf (decRaw (now (a .entry)))) (lookOf (decRaw (now (b .entry))))) (lookOf (decRaw (now (o .entry))) .bound) ⌝ }
-{
-    let number = look::number_at(o);
-    let bound = look::bound_of(o);
-    let abound = look::bound_of(a);
-    let bbound = look::bound_of(b);
-    limit(number, bound, abound, bbound) <= bound
-}
-
 // What a move of the equation in o finds, with its arguments in a and b.
 pub fn find_next(o: &[u8], a: &[u8], b: &[u8]) -> Next
     requires { ⌜ (length (now o) ≡ 256) × (length (now a) ≡ 256) × (length (now b) ≡ 256) ⌝ }
     ensures next { λ n. ⌜ toNext n ≡ machine.decide (lookOf (decRaw (now (o .entry))) .eqn) (lookOf (decRaw (now (o .entry)))) (lookOf (decRaw (now (a .entry)))) (lookOf (decRaw (now (b .entry)))) ⌝ }
     ensures known { λ n. ⌜ knownTo n ≤ horizon ⌝ }
 {
-    if stays(o, a, b) {
-        return Next::Silent(look::bound_of(o));
-    }
     let l = look::look_at(o, a, b);
     next_in(l, a, b)
 }

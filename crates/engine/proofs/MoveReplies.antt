@@ -20,6 +20,7 @@ use Rattle.valid.specs.Valid.{stateLength, count, valid}
 use Rattle.state.specs.In.{stateIn, IsState}
 use Rattle.moves.specs.Move.{canRaw, movedRaw}
 use Rattle.running.specs.Equation.{equationRaw}
+use Rattle.state.proofs.In.{streams, raws}
 use Rattle.running.proofs.Turns as turns
 use Rattle.refine.proofs.Whole.{row-of}
 use Rattle.refine.proofs.Calls.{op-of}
@@ -34,7 +35,7 @@ module _ (s : List ℕ) (b : Bytes s) (n : ℕ) (e : n ≡ cond (valid s) (count
   here = record { isValid = ok; streams = is-state s n e z .1 }
 
   n-is : n ≡ length (stateIn s)
-  n-is = turns.streams s b n here
+  n-is = streams s b n here
 
   -- ---- run
 
@@ -51,7 +52,7 @@ module _ (s : List ℕ) (b : Bytes s) (n : ℕ) (e : n ≡ cond (valid s) (count
     equation-is : equationRaw n (decode n s) i ≡ not (noEquation i (stateIn s))
     unfolding equationRaw
     equation-is =
-        ap₂ (λ (m : ℕ) (st : Raws). cond (ltb i m) (not (eqb (num opF (rowAt st i)) 1)) false) n-is (turns.raws s b n here)
+        ap₂ (λ (m : ℕ) (st : Raws). cond (ltb i m) (not (eqb (num opF (rowAt st i)) 1)) false) n-is (raws s b n here)
         ∙ go (ltb i (length (stateIn s))) refl
       where
         row : i < length (stateIn s) → rowAt (rawsOf stateLength (stateIn s)) i ≡ ofCell (cellAt (stateIn s) i)

@@ -28,7 +28,7 @@ use Rattle.plan.specs.Rules.{number, declared}
 use Rattle.plan.specs.Taken.{StreamKeeps, Each, KeepsRules}
 use Rattle.plan.proofs.Taken.{taken-rendered}
 use Rattle.load.proofs.Fresh.{loaded-sound}
-use Rattle.running.proofs.Turns.{bytes-in}
+use Rattle.state.proofs.In.{bytes-in}
 use Rattle.engine.specs.Reply.{Reply, notState, replyOf, reply}
 use Rattle.engine.specs.Load.{loadOf, loadReply}
 use Rattle.engine.specs.History.{Act, load, make, answer, left, seenIn, Since, noted, since, TypedAct, AllTypedActs, Holds, HoldsOf}

@@ -5,9 +5,9 @@ use mathlib.Core.List.{List, [], _∷_, _++_}
 use native.Mathlib.Nat.{div-add-mod, mod-lt, mod-eq-of-lt, add-mul-div-left, add-mul-mod-self-left, div-eq-of-lt, div-lt-iff-lt-mul, pow-suc, add-zero, mul-lt-mul-of-pos-left, lt-of-lt-of-le, le-trans, pow-le-pow-right, sub-zero}
 use native.Mathlib.Omega.{arith}
 use native.Mathlib.Numerals.{add-one}
-use lib.ListN.{length, getD, take, drop, set, replicate, length-take}
-use lib.Seq.{getD-drop, getD-take, drop-cons, sets, drop-set-lt}
-use lib.Dec.{lit<}
+use lib.ListN.{length, getD, take, drop, set, replicate, length-take, length-set}
+use lib.Seq.{getD-drop, getD-take, drop-cons, sets, drop-set-lt, length-sets}
+use lib.Dec.{lit<, lit≤}
 use Rattle.le.specs.Bytes.{le, enc, part, Bytes}
 
 pub length-enc : (n v : ℕ) → length (enc n v) ≡ n
@@ -123,6 +123,57 @@ shift-turn s at by i n h k =
     let x = getD s (at + by + i) 0 in
     rw (e, f, g) (ap (λ (l : List ℕ). sets (set s (at + i) x) (suc (at + i)) (take (n - (i + 1)) l)) (drop-set-lt (suc (at + by + i)) s (at + i) x below)
     ∙ sym (ap (sets s (at + i)) (part-cons s (at + by + i) (n - (i + 1)) (omega arith))))
+
+-- w bytes moved down at once, and then those above them
+pub shift-block : (s : List ℕ) (at by w n : ℕ) → w ≤ n → at + by + n ≤ length s →
+    (let t = sets s at (part s (at + by) w) in sets t (at + w) (part t (at + by + w) (n - w))) ≡ sets s at (part s (at + by) n)
+shift-block s at by zero n h k = simp (add-zero, sub-zero)
+shift-block s at by (suc w) zero h k = absurd (omega arith)
+shift-block s at by (suc w) (suc n) h k =
+    let x = getD s (at + by) 0 in
+    let s′ = set s at x in
+    let below : at < suc (at + by) = omega arith in
+    let e : suc at + by ≡ suc (at + by) = omega arith in
+    let f : at + suc w ≡ suc at + w = omega arith in
+    let g : at + by + suc w ≡ suc at + by + w = omega arith in
+    let same : (m : ℕ) → part s′ (suc at + by) m ≡ part s (suc (at + by)) m
+    = λ m. ap (λ (j : ℕ). part s′ j m) e ∙ ap (take m) (drop-set-lt (suc (at + by)) s at x below) in
+    let one : (m : ℕ) → sets s at (part s (at + by) (suc m)) ≡ sets s′ (suc at) (part s′ (suc at + by) m)
+    = λ m. ap (sets s at) (part-cons s (at + by) m (omega arith)) ∙ ap (sets s′ (suc at)) (sym (same m)) in
+    let left : suc n - suc w ≡ n - w = omega arith in
+    let ih = shift-block s′ (suc at) by w n (omega arith) (rw length-set (omega arith)) in
+    rw (one w, f, g, left) (ih ∙ sym (one n))
+
+-- four bytes, all read before the first is stored
+pub shift-four : (s : List ℕ) (at from : ℕ) → from + 4 ≤ length s →
+    set (set (set (set s at (getD s from 0)) (at + 1) (getD s (from + 1) 0)) (at + 2) (getD s (from + 2) 0)) (at + 3) (getD s (from + 3) 0) ≡ sets s at (part s from 4)
+shift-four s at from h =
+    let cons : (i n : ℕ) → i < 4 → part s (from + i) (suc n) ≡ getD s (from + i) 0 ∷ part s (from + (i + 1)) n
+    = λ i n k. (let e : suc (from + i) ≡ from + (i + 1) = omega arith in part-cons s (from + i) n (omega arith) ∙ ap (λ (j : ℕ). getD s (from + i) 0 ∷ part s j n) e) in
+    let a1 : at + 1 ≡ suc at = omega arith in
+    let a2 : at + 2 ≡ suc (suc at) = omega arith in
+    let a3 : at + 3 ≡ suc (suc (suc at)) = omega arith in
+    let f0 : part s from 4 ≡ getD s from 0 ∷ part s (from + 1) 3 = ap (λ (j : ℕ). part s j 4) (sym (add-zero from)) ∙ cons 0 3 (lit< tt) ∙ ap (λ (j : ℕ). getD s j 0 ∷ part s (from + 1) 3) (add-zero from) in
+    rw (a1, a2, a3, f0, cons 1 2 (lit< tt), cons 2 1 (lit< tt), cons 3 0 (lit< tt))
+
+-- one turn of the loop that moves w bytes at once
+pub shift-turns : (s t : List ℕ) (at by i w n : ℕ) → w ≤ n - i → i ≤ n → at + by + n ≤ length s → t ≡ sets s (at + i) (part s (at + i + by) w) →
+    sets t (at + (i + w)) (part t (at + by + (i + w)) (n - (i + w))) ≡ sets s (at + i) (part s (at + by + i) (n - i))
+shift-turns s t at by i w n h l k e =
+    let a : at + (i + w) ≡ at + i + w = omega arith in
+    let b : at + by + (i + w) ≡ at + i + by + w = omega arith in
+    let c : n - (i + w) ≡ n - i - w = omega arith in
+    let d : at + by + i ≡ at + i + by = omega arith in
+    rw (a, b, c, d, e) (shift-block s (at + i) by w (n - i) h (omega arith))
+
+pub shift-three : (s t u v : List ℕ) (at by : ℕ) → at + by + 12 ≤ length s → t ≡ sets s at (part s (at + by) 4)
+    → u ≡ sets t (at + 4) (part t (at + 4 + by) 4) → v ≡ sets u (at + 8) (part u (at + 8 + by) 4) → v ≡ sets s at (part s (at + by) 12)
+shift-three s t u v at by k e f g =
+    let a : at + 8 + by ≡ at + by + 8 = omega arith in
+    let l : length t ≡ length s = ap length e ∙ length-sets s at (part s (at + by) 4) in
+    g ∙ ap (λ (j : ℕ). sets u (at + 8) (part u j 4)) a
+    ∙ shift-turns t u at by 4 4 12 (lit≤ tt) (lit≤ tt) (rw l k) f
+    ∙ ap (λ (x : List ℕ). sets x (at + 4) (part x (at + by + 4) 8)) e ∙ shift-block s at by 4 12 (lit≤ tt) k
 
 pub shift-done : (s t : List ℕ) (at a n : ℕ) → n ≡ 0 → sets s at (part s a n) ≡ t → s ≡ t
 shift-done s t at a n e p = rw e at p

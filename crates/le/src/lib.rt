@@ -41,8 +41,8 @@ pub fn put(s: &mut [u8], at: usize, n: usize, v: u64)
     }
 }
 
-// Moves the n bytes that stand by bytes above index at down to index at.
-pub fn shift(s: &mut [u8], at: usize, by: usize, n: usize)
+// Moves the n bytes that stand by bytes above index at down to index at, one at a time.
+fn shift_singly(s: &mut [u8], at: usize, by: usize, n: usize)
     requires { ⌜ at + by + n ≤ length (now s) ⌝ }
     ensures { λ _. ⌜ now (s .exit) ≡ sets (now (s .entry)) at (part (now (s .entry)) (at + by) n) ⌝ }
 {
@@ -52,6 +52,45 @@ pub fn shift(s: &mut [u8], at: usize, by: usize, n: usize)
         s[at + moved] = x;
         moved += 1;
     }
+}
+
+// Moves 4 bytes down.
+fn shift4(s: &mut [u8], at: usize, by: usize)
+    requires { ⌜ at + by + 4 ≤ length (now s) ⌝ }
+    ensures { λ _. ⌜ now (s .exit) ≡ sets (now (s .entry)) at (part (now (s .entry)) (at + by) 4) ⌝ }
+{
+    let from = at + by;
+    let a = s[from];
+    let b = s[from + 1];
+    let c = s[from + 2];
+    let d = s[from + 3];
+    s[at] = a;
+    s[at + 1] = b;
+    s[at + 2] = c;
+    s[at + 3] = d;
+}
+
+// Moves 12 bytes down.
+fn shift12(s: &mut [u8], at: usize, by: usize)
+    requires { ⌜ at + by + 12 ≤ length (now s) ⌝ }
+    ensures { λ _. ⌜ now (s .exit) ≡ sets (now (s .entry)) at (part (now (s .entry)) (at + by) 12) ⌝ }
+{
+    shift4(s, at, by);
+    shift4(s, at + 4, by);
+    shift4(s, at + 8, by);
+}
+
+// Moves the n bytes that stand by bytes above index at down to index at: 12 at a time, and what is left one at a time.
+pub fn shift(s: &mut [u8], at: usize, by: usize, n: usize)
+    requires { ⌜ at + by + n ≤ length (now s) ⌝ }
+    ensures { λ _. ⌜ now (s .exit) ≡ sets (now (s .entry)) at (part (now (s .entry)) (at + by) n) ⌝ }
+{
+    let mut moved = 0;
+    while 12 <= n - moved {
+        shift12(s, at + moved, by);
+        moved += 12;
+    }
+    shift_singly(s, at + moved, by, n - moved);
 }
 
 // Sets n bytes from index at on to 0.

@@ -119,14 +119,6 @@ fn number_of(n: u64) -> u64
     }
 }
 
-// The stored number of a record's operator.
-pub fn number_at(r: &[u8]) -> u64
-    requires { ⌜ length (now r) ≡ 256 ⌝ }
-    ensures { λ x. ⌜ x ≡ numberOf (lookOf (decRaw (now (r .entry))) .eqn) ⌝ }
-{
-    number_of(layout::byte_at(r, 0))
-}
-
 fn smaller(x: u64, y: u64) -> u64
     ensures { λ r. ⌜ r ≡ min x y ⌝ }
 {
@@ -205,7 +197,7 @@ pub fn look_at(o: &[u8], a: &[u8], b: &[u8]) -> Look
     requires { ⌜ (length (now o) ≡ 256) × (length (now a) ≡ 256) × (length (now b) ≡ 256) ⌝ }
     ensures { λ l. ⌜ Sees l (decRaw (now (o .entry))) (decRaw (now (a .entry))) (decRaw (now (b .entry))) ⌝ }
 {
-    let number = number_at(o);
+    let number = number_of(layout::byte_at(o, 0));
     let op = read_operator(o);
     let bound = bound_of(o);
     let kept = read_kept(o, bound);

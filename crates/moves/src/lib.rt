@@ -1,15 +1,16 @@
 // A move and a run, in place on the bytes of n records.
 ghost use mathlib.Core.Path.{_≡_};
-ghost use mathlib.Core.Bool.{cond};
+ghost use mathlib.Core.Bool.{true, false, cond};
 ghost use Prim.Native.Nat.{_*_, _+_, _≤_, _<_};
 ghost use lib.ListN.{length};
 ghost use Rattle.meaning.specs.Events.{horizon};
 ghost use Rattle.machine.specs.Step as machine;
-ghost use Rattle.layout.specs.Record.{num, encode, decode, rowAt, countF};
+ghost use Rattle.layout.specs.Record.{num, encode, decode, rowAt, countF, boundF};
 ghost use Rattle.look.specs.Look.{keptIn};
 ghost use Rattle.decide.specs.Near.{toNext, knownTo};
 ghost use Rattle.moves.specs.Move.{argIn, ownIn, firstIn, secondIn, aheadRaw, boundRaw, canRaw, absorbedRaw, releasedArgs, releasedAll, silentRaw, eventRaw, stepRaw, movedRaw};
 use decide::Next;
+use limits::Bound;
 use limits::Queue;
 use look::Kept;
 
@@ -25,6 +26,43 @@ fn argument(state: &[u8], n: usize, i: usize, j: usize) -> usize
         return a;
     }
     0
+}
+
+// The bound of an argument, field j of stream i.
+fn bound_of(state: &[u8], n: usize, i: usize, j: usize) -> u64
+    requires { ⌜ (n * 256 ≤ length (now state)) × (i < n) × (j < 8) ⌝ }
+    ensures { λ x. ⌜ x ≡ num boundF (rowAt (decode n (now (state .entry))) (argIn n (num j (rowAt (decode n (now (state .entry))) i)))) ⌝ }
+{
+    let at = argument(state, n, i, j) * 256;
+    let end = at + 256;
+    layout::word_at(&state[at..end], 1)
+}
+
+// Whether the bounds alone say that stream i cannot move: an argument that it waits for is not ahead of it.
+// Most streams that a run looks at cannot move, and end here.
+fn stuck(state: &[u8], n: usize, i: usize) -> bool
+    requires { ⌜ (n * 256 ≤ length (now state)) × (i < n) ⌝ }
+    ensures { λ r. ⌜ (r ≡ true → canRaw n i (decode n (now (state .entry))) ≡ false) ⌝ }
+{
+    let at = i * 256;
+    let end = at + 256;
+    let bound = layout::word_at(&state[at..end], 1);
+    if Bound::HORIZON < bound {
+        return false;
+    }
+    let op = layout::byte_at(&state[at..end], 0);
+    match op {
+        4..=7 => bound_of(state, n, i, 1) <= bound,
+        8..=17 => {
+            if bound_of(state, n, i, 1) <= bound {
+                return true;
+            }
+            bound_of(state, n, i, 2) <= bound
+        }
+        18 => bound_of(state, n, i, 2) <= bound,
+        19 => bound_of(state, n, i, 2) < bound,
+        _ => false,
+    }
 }
 
 // What a move of stream i finds.
@@ -162,6 +200,9 @@ pub fn move_one(state: &mut [u8], n: usize, i: usize) -> bool
     let end = at + 256;
     let op = layout::byte_at(&state[at..end], 0);
     if op == 1 {
+        return false;
+    }
+    if stuck(state, n, i) {
         return false;
     }
     let held = layout::byte_at(&state[at..end], 4);

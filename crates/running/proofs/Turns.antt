@@ -19,48 +19,19 @@ use Rattle.machine.proofs.Moves.{lowest-can}
 use Rattle.le.specs.Bytes.{Bytes}
 use Rattle.layout.specs.Record.{Raws, encode, decode}
 use Rattle.cells.specs.View.{rawsOf, bytesOf}
-use Rattle.cells.specs.Back.{stateOf}
 use Rattle.cells.specs.Sound.{Sound}
 use Rattle.sound.proofs.Calls.{move-sound}
-use Rattle.valid.specs.Valid.{stateLength, count, valid}
+use Rattle.valid.specs.Valid.{stateLength}
 use Rattle.state.specs.In.{stateIn, IsState}
-use Rattle.state.proofs.Whole.{ValidFacts, valid-facts, state-length, decoded, valid-bytes, valid-sound, bytes-valid, bytes-count, bytes-state, bytes-length}
+use Rattle.state.proofs.Whole.{valid-facts, bytes-length}
+use Rattle.state.proofs.In.{bytes-are, bytes-in, sound, streams, raws, stays}
 use Rattle.moves.specs.Move.{canRaw, movedRaw}
 use Rattle.refine.proofs.Moves.{can-of, moved-of}
 
--- ---- a sound state's bytes are a state
-
-pub bytes-are : (M : State) (s : List ℕ) (n : ℕ) → Sound M → n ≡ length M → s ≡ bytesOf stateLength M → IsState s n
-bytes-are M s n ok l e = record { isValid = ap valid e ∙ bytes-valid M ok; streams = l ∙ sym (ap count e ∙ bytes-count M ok) }
-
-pub bytes-in : (M : State) (s : List ℕ) → Sound M → s ≡ bytesOf stateLength M → stateIn s ≡ M
-bytes-in M s ok e = ap stateIn e ∙ ap (λ (k : ℕ). stateOf k (bytesOf stateLength M)) (bytes-count M ok) ∙ bytes-state M ok
-
 module _ (s : List ℕ) (b : Bytes s) (n : ℕ) (h : IsState s n) where
-  M : State
-  M = stateIn s
-
-  pub sound : Sound (stateIn s)
-  sound = valid-sound s b (h .isValid)
-
-  pub streams : n ≡ length (stateIn s)
-  streams = h .streams ∙ sym (state-length (count s) s)
-
-  pub raws : decode n s ≡ rawsOf stateLength (stateIn s)
-  raws = ap (λ (m : ℕ). decode m s) (h .streams) ∙ decoded s b (h .isValid)
-
-  pub stays : s ≡ bytesOf stateLength (stateIn s)
-  stays = valid-bytes s b (h .isValid)
-
-  pub room-for : n ≤ 32 → n * 256 ≤ length s
-  room-for l = let z = valid-facts s (h .isValid) .size in omega arith
-
-  pub few : n ≤ 32
-  few = rw streams (sound .few)
-
   -- whether stream i can move, by the code
   pub can-is : (i : ℕ) → i < n → canRaw n i (decode n s) ≡ canMove i (stateIn s)
-  can-is i l = ap₂ (λ (m : ℕ) (st : Raws). canRaw m i st) streams raws ∙ can-of stateLength (stateIn s) sound i (rw (sym streams) l)
+  can-is i l = ap₂ (λ (m : ℕ) (st : Raws). canRaw m i st) (streams s b n h) (raws s b n h) ∙ can-of stateLength (stateIn s) (sound s b n h) i (rw (sym (streams s b n h)) l)
 
   -- the bytes after a move
   module _ (i : ℕ) (l : i < n) (can : canMove i (stateIn s) ≡ true) where
@@ -68,13 +39,13 @@ module _ (s : List ℕ) (b : Bytes s) (n : ℕ) (h : IsState s n) where
     moves = rw can tt
 
     there : i < length (stateIn s)
-    there = rw (sym streams) l
+    there = rw (sym (streams s b n h)) l
 
     pub next-sound : Sound (move i (stateIn s))
-    next-sound = move-sound (stateIn s) sound i there moves
+    next-sound = move-sound (stateIn s) (sound s b n h) i there moves
 
     pub next-length : n ≡ length (move i (stateIn s))
-    next-length = streams ∙ sym (move-length i (stateIn s) there)
+    next-length = (streams s b n h) ∙ sym (move-length i (stateIn s) there)
       where
         move-length : (j : ℕ) (N : State) → j < length N → length (move j N) ≡ length N
         move-length j N k = unfold move in raise-size j (newBound (ahead j N) (cellAt N j .held)) (comesIn j N) N k
@@ -82,7 +53,7 @@ module _ (s : List ℕ) (b : Bytes s) (n : ℕ) (h : IsState s n) where
     pub moved-bytes : encode n (movedRaw n i (decode n s)) ≡ bytesOf stateLength (move i (stateIn s))
     unfolding bytesOf
     moved-bytes =
-        ap (encode n) (ap₂ (λ (m : ℕ) (st : Raws). movedRaw m i st) streams raws ∙ moved-of stateLength (stateIn s) sound i there moves)
+        ap (encode n) (ap₂ (λ (m : ℕ) (st : Raws). movedRaw m i st) (streams s b n h) (raws s b n h) ∙ moved-of stateLength (stateIn s) (sound s b n h) i there moves)
         ∙ ap (λ (m : ℕ). encode m (rawsOf stateLength (move i (stateIn s)))) next-length
 
   -- ---- the lowest
@@ -90,15 +61,15 @@ module _ (s : List ℕ) (b : Bytes s) (n : ℕ) (h : IsState s n) where
   pub lowest-is : (i : ℕ) → i < n → ((j : ℕ) → j < i → canMove j (stateIn s) ≡ false) → canMove i (stateIn s) ≡ true → lowest (stateIn s) ≡ i
   unfolding lowest
   lowest-is i l before can =
-      let k = rw streams at l in
+      let k = rw (streams s b n h) at l in
       least-is (λ j. canMove j (stateIn s)) 0 (length (stateIn s)) i (omega arith) (omega arith) (λ j z m. rw (before j m) tt) (inr (rw can tt))
 
   pub lowest-none : ((j : ℕ) → j < n → canMove j (stateIn s) ≡ false) → ltb (lowest (stateIn s)) n ≡ false
   unfolding lowest
   lowest-none before =
       let e : least (λ j. canMove j (stateIn s)) 0 (length (stateIn s)) ≡ length (stateIn s) =
-      least-is (λ j. canMove j (stateIn s)) 0 (length (stateIn s)) (length (stateIn s)) (omega arith) (omega arith) (λ j z m. rw (before j (rw streams m)) tt) (inl (omega arith)) in
-      rw e (le-ltb (length (stateIn s)) n (omega (arith, streams)))
+      least-is (λ j. canMove j (stateIn s)) 0 (length (stateIn s)) (length (stateIn s)) (omega arith) (omega arith) (λ j z m. rw (before j (rw (streams s b n h) m)) tt) (inl (omega arith)) in
+      rw e (le-ltb (length (stateIn s)) n (omega (arith, (streams s b n h))))
 
   -- ---- one turn: x is the buffer now, s′ what the code's move left of it
 
@@ -139,11 +110,11 @@ module _ (s : List ℕ) (b : Bytes s) (n : ℕ) (h : IsState s n) where
   -- ---- the run that is left
 
   pub run-step : (k m : ℕ) → k ≡ suc m → ltb (lowest (stateIn s)) n ≡ true → run k (stateIn s) ≡ oneMore (arrivals (lowest (stateIn s)) (comesIn (lowest (stateIn s)) (stateIn s))) (run m (move (lowest (stateIn s)) (stateIn s)))
-  run-step k m e q = ap (λ (j : ℕ). run j (stateIn s)) e ∙ run-more m (stateIn s) (ap (ltb (lowest (stateIn s))) (sym streams) ∙ q)
+  run-step k m e q = ap (λ (j : ℕ). run j (stateIn s)) e ∙ run-more m (stateIn s) (ap (ltb (lowest (stateIn s))) (sym (streams s b n h)) ∙ q)
 
   pub run-stop : (k : ℕ) → ltb (lowest (stateIn s)) n ≡ false → run k (stateIn s) ≡ done [] (stateIn s)
   run-stop zero q = unfold run in refl
-  run-stop (suc k) q = run-ends k (stateIn s) (ap (ltb (lowest (stateIn s))) (sym streams) ∙ q)
+  run-stop (suc k) q = run-ends k (stateIn s) (ap (ltb (lowest (stateIn s))) (sym (streams s b n h)) ∙ q)
 
   pub lowest-below : ltb (lowest (stateIn s)) n ≡ true → lowest (stateIn s) < n
   lowest-below q = ltb-true (lowest (stateIn s)) n q

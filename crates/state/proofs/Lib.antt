@@ -3,3 +3,4 @@ pub mod Tail
 pub mod Back
 pub mod Rows
 pub mod Whole
+pub mod In

@@ -1,19 +1,21 @@
 -- The loops' turns, and the steps of the whole buffer one after the other.
-use Prim.Native.Nat.{ℕ, zero, suc, _+_, _*_, _-_, _^_, _<_, _≤_}
+use Prim.Native.Nat.{ℕ, zero, suc, _+_, _*_, _-_, _^_, _<_, _≤_, min, max}
 use mathlib.Core.Path.{_≡_, refl, sym, ap, ap₂, _∙_}
 use mathlib.Core.List.{List, [], _∷_, map}
 use mathlib.Core.Bool.{Bool, true, false, cond}
 use native.Mathlib.Omega.{arith}
-use lib.Dec.{lit<, ltb}
+use native.Mathlib.Decide.{decLt}
+use lib.Dec.{lit<, ltb, eqb}
 use lib.ListN.{length, getD, set, drop, drop-of-length-le}
 use lib.Seq.{drop-cons, set-getD}
 use borrow.Author.Tests.{lt-ltb, le-ltb}
 use borrow.Rule.Slice.PartMut.{midOf, putMid}
 use Rattle.meaning.specs.Events.{horizon}
+use Rattle.machine.specs.State.{room}
 use Rattle.le.specs.Bytes.{Bytes}
-use Rattle.layout.specs.Record.{Slot, Raw, Raws, noSlot, noRaw, num, encRaw, decRaw, encode, decode, rowAt, change, changeAll, countF}
+use Rattle.layout.specs.Record.{Slot, Raw, Raws, noSlot, noRaw, num, encRaw, decRaw, encode, decode, rowAt, change, changeAll, withNum, dropped, slotAt, outF, countF, boundF, nextF}
 use Rattle.layout.proofs.Laws.{RawOk, RawsOk, rows-many, row-mid, raws-ok, row-ok, change-ok, changeAll-ok, whole-then}
-use Rattle.step.specs.Step.{pushed, toldRow, lowered, leastRow, waitingRow, below, released, releasedRow, offered}
+use Rattle.step.specs.Step.{pushed, readsRow, toldRow, lowered, leastRow, waitingRow, below, released, releasedRow, offered}
 use Rattle.step.proofs.Leaves.{push-ok, told-ok, release-none}
 
 -- ---- the least bound of the readers, from the last record down
@@ -34,6 +36,23 @@ least-turn s n acc acc′ p i k h l q inv e =
     let m : i - 1 < length rows = rw (rows-many n p) (omega arith) in
     e ∙ ap₂ (lowered s) (sym (row-mid n p (i - 1) k (omega arith) q)) (inv ∙ ap (λ (j : ℕ). leastRow s (drop j rows)) (sym f))
     ∙ sym (ap (leastRow s) (drop-cons rows (i - 1) noRaw m) ∙ least-more s (getD rows (i - 1) noRaw) (drop (suc (i - 1)) rows))
+
+lowered-le : (s : ℕ) (r : Raw) (acc : ℕ) → lowered s r acc ≤ acc
+unfolding lowered
+lowered-le s r acc = go (readsRow s r)
+  where
+    go : (b : Bool) → cond b (min (num boundF r) acc) acc ≤ acc
+    go true = omega arith
+    go false = omega arith
+
+least-le : (s i : ℕ) (rs : List Raw) → leastRow s rs ≤ leastRow s (drop i rs)
+least-le s zero rs = omega arith
+least-le s (suc i) [] = omega arith
+least-le s (suc i) (r ∷ rs) = rw (least-more s r rs) (let h = lowered-le s r (leastRow s rs) in let k = least-le s i rs in omega arith)
+
+-- a reader at or below the floor ends the search
+pub least-floor : (s n least f i : ℕ) (p : List ℕ) → least ≡ leastRow s (drop i (decode n p .rows)) → least ≤ f → max least f ≡ max (leastRow s (decode n p .rows)) f
+least-floor s n least f i p e h = let k = least-le s i (decode n p .rows) in omega arith
 
 pub least-end : (s n acc : ℕ) (p : List ℕ) (i : ℕ) → i ≡ 0 → acc ≡ leastRow s (drop i (decode n p .rows)) → acc ≡ leastRow s (decode n p .rows)
 least-end s n acc p i e inv = rw e at inv
@@ -83,9 +102,40 @@ release-row-none i st e =
     let none : released w (rowAt st i) ≡ rowAt st i = release-none w 0 (rowAt st i) (rw e) (sym (below-none w (rowAt st i .slots))) in
     ap (λ (l : List Raw). record { rows = l; spare = st .spare }) (ap (set (st .rows) i) none ∙ set-getD (st .rows) i noRaw)
 
-pub release-row-is : (i w least : ℕ) (st : Raws) → least ≡ leastRow i (st .rows) → w ≡ waitingRow least (rowAt st i) → releasedRow i st ≡ change i (released w) st
+-- below the first stamp f, any two bounds let nothing go
+below-floor : (f w w′ n : ℕ) (l : List Slot) → f ≡ getD l 0 noSlot .stamp → max w f ≡ max w′ f → below w n l ≡ below w′ n l
+unfolding below
+below-floor f w w′ zero l e q = refl
+below-floor f w w′ (suc n) [] e q = refl
+below-floor f w w′ (suc n) (x ∷ l) e q = go (decLt (x .stamp) w)
+  where
+    go : Dec (x .stamp < w) → below w (suc n) (x ∷ l) ≡ below w′ (suc n) (x ∷ l)
+    go (yes h) = let same : w ≡ w′ = omega arith in ap (λ (u : ℕ). below u (suc n) (x ∷ l)) same
+    go (no h) =
+        let low : w ≤ x .stamp = omega arith in
+        let low′ : w′ ≤ x .stamp = omega arith in
+        rw (le-ltb (x .stamp) w low, le-ltb (x .stamp) w′ low′)
+
+release-floor : (f w w′ : ℕ) (r : Raw) → f ≡ slotAt 0 r .stamp → max w f ≡ max w′ f → released w r ≡ released w′ r
+unfolding released
+release-floor f w w′ r e q =
+    ap (λ (k : ℕ). withNum countF (num countF r - k) (dropped k r)) (below-floor f w w′ (min (num countF r) room) (r .slots) e q)
+
+waiting-floor : (f x y : ℕ) (r : Raw) → max x f ≡ max y f → max (waitingRow x r) f ≡ max (waitingRow y r) f
+unfolding waitingRow
+waiting-floor f x y r q = go (eqb (num outF r) 0)
+  where
+    go : (b : Bool) → max (cond b x (min (num nextF r) x)) f ≡ max (cond b y (min (num nextF r) y)) f
+    go true = q
+    go false = omega arith
+
+pub release-row-is : (i w least f : ℕ) (st : Raws) → f ≡ slotAt 0 (rowAt st i) .stamp → max least f ≡ max (leastRow i (st .rows)) f → w ≡ waitingRow least (rowAt st i)
+    → releasedRow i st ≡ change i (released w) st
 unfolding releasedRow
-release-row-is i w least st e q = ap (λ (x : ℕ). change i (released x) st) (sym (q ∙ ap (λ (x : ℕ). waitingRow x (rowAt st i)) e))
+release-row-is i w least f st p e q =
+    let r = rowAt st i in
+    let h = waiting-floor f (leastRow i (st .rows)) least r (sym e) in
+    ap (λ (x : Raw). record { rows = set (st .rows) i x; spare = st .spare }) (release-floor f (waitingRow (leastRow i (st .rows)) r) w r p (h ∙ ap (λ (x : ℕ). max x f) (sym q)))
 
 pub offer-is : (n : ℕ) (s s₁ s₂ s₃ : List ℕ) (i t v : ℕ) → Bytes s → i < n → t < 2 ^ 32 → v < 2 ^ 64
     → s₁ ≡ encode n (change i (pushed t v) (decode n s)) → s₂ ≡ encode n (changeAll (toldRow i t v) (decode n s₁)) → s₃ ≡ encode n (releasedRow i (decode n s₂))

@@ -1,6 +1,6 @@
 // One step on bytes: an event appended, the readers told, and what nobody waits for let go.
 ghost use mathlib.Core.Path.{_≡_};
-ghost use Prim.Native.Nat.{_*_, _+_, _≤_, _<_, min};
+ghost use Prim.Native.Nat.{_*_, _+_, _≤_, _<_, min, max};
 ghost use lib.ListN.{length};
 ghost use Rattle.layout.specs.Record as layout;
 ghost use Rattle.layout.specs.Record.{encRaw, decRaw, encode, decode, change, changeAll};
@@ -172,10 +172,11 @@ fn lower(r: &[u8], s: u64, least: u64) -> u64
     least
 }
 
-// The least bound of the readers of stream s, the horizon if none of the n records reads it.
-pub fn least_reader(state: &[u8], n: usize, s: u64) -> u64
+// The least bound of the readers of stream s, the horizon if none of the n records reads it. Where it is not above floor
+// any number up to floor will do, so that the first such reader ends the search.
+fn least_reader(state: &[u8], n: usize, s: u64, floor: u64) -> u64
     requires { ⌜ n * 256 ≤ length (now state) ⌝ }
-    ensures { λ x. ⌜ x ≡ leastRow s (decode n (now (state .entry)) .rows) ⌝ }
+    ensures { λ x. ⌜ max x floor ≡ max (leastRow s (decode n (now (state .entry)) .rows)) floor ⌝ }
 {
     let mut least = Bound::HORIZON;
     let mut i = n;
@@ -184,6 +185,9 @@ pub fn least_reader(state: &[u8], n: usize, s: u64) -> u64
         let at = i * 256;
         let end = at + 256;
         least = lower(&state[at..end], s, least);
+        if least <= floor {
+            return least;
+        }
     }
     least
 }
@@ -256,7 +260,8 @@ pub fn release_row(state: &mut [u8], n: usize, i: usize)
     if count == 0 {
         return;
     }
-    let least = least_reader(state, n, i as u64);
+    let first = layout::stamp_at(&state[at..end], 0);
+    let least = least_reader(state, n, i as u64, first);
     let w = waiting(&state[at..end], least);
     release(&mut state[at..end], w);
 }

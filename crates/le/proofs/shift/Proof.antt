@@ -1,71 +1,73 @@
-use Prim.Native.Nat.{_≤_, _+_, _-_}
-use mathlib.Core.Path.{_≡_, refl, _∙_}
+use Prim.Native.Nat.{ℕ, _+_, _-_, _≤_}
+use mathlib.Core.Path.{_≡_, refl, sym, ap, _∙_}
 use native.Mathlib.Nat.{add-zero, sub-zero}
-use native.Mathlib.Omega.{arith}
-use lib.ListN.{length, length-set}
-use lib.Seq.{sets}
+use lib.ListN.{length, getD, drop, length-set}
+use lib.Seq.{sets, length-sets}
+use denote.Ref.{now}
 use Rattle.le.specs.Bytes.{part}
-use Rattle.le.proofs.Laws.{shift-turn, shift-done}
+use Rattle.le.proofs.Laws.{shift-four, shift-block, shift-turns, shift-three, shift-done}
+use borrow.Author.Needs.{needs}
+use native.Mathlib.Omega.{arith}
 use Rattle.le.proofs.shift.Statement.{statement}
 use Rattle.le.proofs.shift.Tie as tie
 use Rattle.le.proofs.shift.Reads as reads
 use Rattle.le.proofs.shift.Lts as lts
+use Rattle.le.proofs.shift12.Reads as shift12-reads
+use Rattle.le.proofs.shift_singly.Reads as shift-singly-reads
 
 abbrev Inv-loop : tie.InvT-loop
-Inv-loop s₀ at by n i₀ s i = (i ≤ n) × (length s ≡ length s₀) × (sets s (at + i) (part s (at + by + i) (n - i)) ≡ sets s₀ at (part s₀ (at + by) n))
+Inv-loop s₀ at by n moved₀ s moved = (moved ≤ n) × (length s ≡ length s₀) × (sets s (at + moved) (part s (at + by + moved) (n - moved)) ≡ sets s₀ at (part s₀ (at + by) n))
 
 abbrev μ-loop : tie.MeasureT-loop
-μ-loop s₀ at by n i₀ s i = n - i
+μ-loop s₀ at by n moved₀ s moved = n - moved
 
--- src/lib.rt:47:5
+-- src/lib.rt:89:5
 loop-holds : tie.Need-loop-holds Inv-loop μ-loop
 loop-holds c = (omega arith, refl, simp (add-zero, sub-zero))
 
--- src/lib.rt:48:19
-add-x : tie.Need-add-x Inv-loop μ-loop
-add-x c = omega arith
+-- src/lib.rt:89:17
+sub-loop : tie.Need-sub-loop Inv-loop μ-loop
+sub-loop c = omega arith
 
--- src/lib.rt:48:19
-add-x-2 : tie.Need-add-x-2 Inv-loop μ-loop
-add-x-2 c = omega arith
+-- src/lib.rt:90:20
+add-shift12 : tie.Need-add-shift12 Inv-loop μ-loop
+add-shift12 c = omega arith
 
--- src/lib.rt:48:17
-slice-read-x : tie.Need-slice-read-x Inv-loop μ-loop
-slice-read-x c = omega arith
+-- src/lib.rt:90:9
+shift12-requires : tie.Need-shift12-requires Inv-loop μ-loop
+shift12-requires c κs = omega arith
 
--- src/lib.rt:49:11
-add-s : tie.Need-add-s Inv-loop μ-loop
-add-s c = omega arith
-
--- src/lib.rt:49:9
-slice-write-s : tie.Need-slice-write-s Inv-loop μ-loop
-slice-write-s c = omega arith
-
--- src/lib.rt:50:9
+-- src/lib.rt:91:9
 add-moved : tie.Need-add-moved Inv-loop μ-loop
 add-moved c = omega arith
 
--- src/lib.rt:47:5
+-- src/lib.rt:89:5
 loop-less : tie.Need-loop-less Inv-loop μ-loop
 loop-less c = omega arith
 
--- src/lib.rt:47:5
+-- src/lib.rt:89:5
 loop-again : tie.Need-loop-again Inv-loop μ-loop
-loop-again c =
-    let l = c .before .before in
-    let a = l .before .args in
-    (omega arith, simp length-set (l .loop .inv .1), shift-turn (l .loop .s) (a .at) (a .by) (l .loop .moved) (a .n) (omega arith) (omega arith) ∙ l .loop .inv .2)
+loop-again c = let a = c .before .before .before .before .before .before .before .args in let l = c .before .before .before .before .before .loop in let t = c .before .before .shift12 .last .0 in (omega arith, ap length (c .before .before .shift12 .ensures) ∙ length-sets (l .s) (a .at + l .moved) (part (l .s) (a .at + l .moved + a .by) 12) ∙ l .inv .1, shift-turns (l .s) t (a .at) (a .by) (l .moved) 12 (a .n) (omega arith) (omega arith) (omega arith) (c .before .before .shift12 .ensures) ∙ l .inv .2)
 
--- src/lib.rt:42:1
+-- src/lib.rt:93:21
+add-shift-singly : tie.Need-add-shift-singly Inv-loop μ-loop
+add-shift-singly c = omega arith
+
+-- src/lib.rt:93:37
+sub-shift-singly : tie.Need-sub-shift-singly Inv-loop μ-loop
+sub-shift-singly c = omega arith
+
+-- src/lib.rt:93:5
+shift-singly-requires : tie.Need-shift-singly-requires Inv-loop μ-loop
+shift-singly-requires c κs = omega arith
+
+-- src/lib.rt:84:1
 same-length : tie.Need-same-length Inv-loop μ-loop
-same-length c = c .before .loop .inv .1
+same-length c = let a = c .before .before .before .before .before .before .before .args in let l = c .before .before .before .before .before .loop in ap length (c .before .before .shift-singly .ensures) ∙ length-sets (l .s) (a .at + l .moved) (part (l .s) (a .at + l .moved + a .by) (a .n - l .moved)) ∙ l .inv .1
 
--- src/lib.rt:42:1
+-- src/lib.rt:84:1
 returns : tie.Need-returns Inv-loop μ-loop
-returns c =
-    let l = c .before in
-    let a = l .before .args in
-    shift-done (l .loop .s) _ (a .at + l .loop .moved) (a .at + a .by + l .loop .moved) (a .n - l .loop .moved) (omega arith) (l .loop .inv .2)
+returns c = let a = c .before .before .before .before .before .before .before .args in let l = c .before .before .before .before .before .loop in let e : a .at + l .moved + a .by ≡ a .at + a .by + l .moved = omega arith in c .before .before .shift-singly .ensures ∙ ap (λ (j : ℕ). sets (l .s) (a .at + l .moved) (part (l .s) j (a .n - l .moved))) e ∙ l .inv .2
 
 pub shift-spec : {M : Type 1} → statement M
 shift-spec =
@@ -74,13 +76,14 @@ shift-spec =
     Inv-loop
     μ-loop
     loop-holds
-    add-x
-    add-x-2
-    slice-read-x
-    add-s
-    slice-write-s
+    sub-loop
+    add-shift12
+    shift12-requires
     add-moved
     loop-less
     loop-again
+    add-shift-singly
+    sub-shift-singly
+    shift-singly-requires
     same-length
     returns)

@@ -16,6 +16,7 @@ use Rattle.cells.specs.View.{bytesOf}
 use Rattle.valid.specs.Valid.{stateLength}
 use Rattle.state.specs.In.{stateIn, IsState}
 use Rattle.moves.specs.Move.{canRaw, movedRaw}
+use Rattle.state.proofs.In
 use Rattle.running.proofs.Turns
 use borrow.Author.Needs.{needs}
 use native.Mathlib.Omega.{arith}
@@ -37,7 +38,7 @@ loop-holds c = (omega arith, refl, λ j h. absurd (omega arith))
 
 -- src/lib.rt:20:12
 move-one-requires : tie.Need-move-one-requires Inv-loop μ-loop
-move-one-requires c κs = let a = c .before .before .before .before .args in let s = now (a .state) in let l = c .before .before .loop in let rf = Turns.room-for s (λ j. omega (arith, c .before .before .before .slice-known .given j)) (a .n) (c .before .before .before .before .pre) (Turns.few s (λ j. omega (arith, c .before .before .before .slice-known .given j)) (a .n) (c .before .before .before .before .pre)) in (rw (ap length (l .inv .1)) rf, omega arith)
+move-one-requires c κs = let a = c .before .before .before .before .args in let s = now (a .state) in let l = c .before .before .loop in let rf = In.room-for s (λ j. omega (arith, c .before .before .before .slice-known .given j)) (a .n) (c .before .before .before .before .pre) (In.few s (λ j. omega (arith, c .before .before .before .slice-known .given j)) (a .n) (c .before .before .before .before .pre)) in (rw (ap length (l .inv .1)) rf, omega arith)
 
 -- src/lib.rt:21:13
 same-length : tie.Need-same-length Inv-loop μ-loop
