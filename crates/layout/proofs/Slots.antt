@@ -5,8 +5,8 @@ use mathlib.Core.List.{List, [], _∷_, _++_, append-nil, append-assoc}
 use native.Mathlib.Omega.{arith}
 use native.Mathlib.Nat.{add-zero, zero-mul, suc-mul}
 use lib.Dec.{lit<, lit≤}
-use lib.ListN.{length, getD, take, drop, set, replicate, length-replicate, length-append, length-drop, length-set}
-use lib.Seq.{sets, sets-eq, length-take-le, drop-drop, take-all, drop-at, take-at, drop-append-add, length-sets}
+use lib.ListN.{length, getD, take, drop, set, replicate, length-replicate, length-append, length-drop, length-set, take-append-drop}
+use lib.Seq.{sets, sets-eq, length-take-le, drop-drop, take-all, drop-at, take-at, drop-append-add, drop-append-le, length-sets}
 use Rattle.le.specs.Bytes.{le, enc, part, Bytes}
 use Rattle.le.proofs.Laws.{length-enc}
 use Rattle.le.specs.Layout.{encFields, decFields, encRows, decRows, total, offset}
@@ -81,41 +81,56 @@ slot-zeros (suc k) =
     let e : suc k * 12 ≡ 12 + k * 12 = omega arith in
     ap (λ (l : List ℕ). replicate 12 0 ++ l) (slot-zeros k) ∙ lib.ListN.replicate-append-replicate 12 (k * 12) 0 ∙ ap (λ (j : ℕ). replicate j 0) (sym e)
 
-shifted-rows : (k : ℕ) (l : List Slot) → length l ≡ 16 → k ≤ 16 → encRows encSlot noSlot 16 (shifted k l) ≡ drop (k * 12) (encRows encSlot noSlot 16 l) ++ replicate (k * 12) 0
-shifted-rows k l h hk =
-    let m : 16 ≡ 16 - k + k = omega arith in
-    let q : 16 ≡ k + (16 - k) = omega arith in
-    ap (λ (n : ℕ). encRows encSlot noSlot n (shifted k l)) m
-    ∙ rows-split encSlot noSlot 12 slot-len (16 - k) k (drop k l) (replicate k noSlot) (length-drop k l ∙ omega arith)
-    ∙ ap₂ _++_ (sym (ap (λ (n : ℕ). drop (k * 12) (encRows encSlot noSlot n l)) q ∙ rows-drop encSlot noSlot 12 slot-len k (16 - k) l (h ∙ q))) (slot-zeros k)
+-- the bytes of 16 slots: of the first n, and of the others
+rows-two : (n : ℕ) (l : List Slot) → length l ≡ 16 → n ≤ 16 → encRows encSlot noSlot 16 l ≡ encRows encSlot noSlot n (take n l) ++ encRows encSlot noSlot (16 - n) (drop n l)
+rows-two n l h hn =
+    let q : 16 ≡ n + (16 - n) = omega arith in
+    ap₂ (λ (m : ℕ) (x : List Slot). encRows encSlot noSlot m x) q (sym (take-append-drop n l))
+    ∙ rows-split encSlot noSlot 12 slot-len n (16 - n) (take n l) (drop n l) (length-take-le n l (rw h hn))
+
+shifted-rows : (k n : ℕ) (l : List Slot) → length l ≡ 16 → k ≤ n → n ≤ 16
+    → encRows encSlot noSlot 16 (shifted k n l) ≡ drop (k * 12) (encRows encSlot noSlot n (take n l)) ++ (replicate (k * 12) 0 ++ encRows encSlot noSlot (16 - n) (drop n l))
+shifted-rows k n l h hk hn =
+    let m : 16 ≡ n - k + (k + (16 - n)) = omega arith in
+    let q : n ≡ k + (n - k) = omega arith in
+    let first : length (take n l) ≡ n = length-take-le n l (rw h hn) in
+    ap (λ (j : ℕ). encRows encSlot noSlot j (shifted k n l)) m
+    ∙ rows-split encSlot noSlot 12 slot-len (n - k) (k + (16 - n)) (drop k (take n l)) (replicate k noSlot ++ drop n l) (length-drop k (take n l) ∙ ap (λ (x : ℕ). x - k) first)
+    ∙ ap₂ _++_ (sym (ap (λ (j : ℕ). drop (k * 12) (encRows encSlot noSlot j (take n l))) q ∙ rows-drop encSlot noSlot 12 slot-len k (n - k) (take n l) (first ∙ q)))
+    (rows-split encSlot noSlot 12 slot-len k (16 - n) (replicate k noSlot) (drop n l) (length-replicate k noSlot) ∙ ap (λ (x : List ℕ). x ++ encRows encSlot noSlot (16 - n) (drop n l)) (slot-zeros k))
 
 -- the bytes moved down and the freed ones cleared
-pub slots-shift : (r : Raw) (k : ℕ) → RawOk r → k ≤ 16
-    → sets (sets (encRaw r) 64 (part (encRaw r) (64 + k * 12) (192 - k * 12))) (256 - k * 12) (replicate (k * 12) 0) ≡ encRaw (withSlots (shifted k (r .slots)) r)
+pub slots-shift : (r : Raw) (k n : ℕ) → RawOk r → k ≤ n → n ≤ 16
+    → sets (sets (encRaw r) 64 (part (encRaw r) (64 + k * 12) (n * 12 - k * 12))) (64 + (n * 12 - k * 12)) (replicate (k * 12) 0) ≡ encRaw (withSlots (shifted k n (r .slots)) r)
 unfolding encRaw
-slots-shift r k ok h =
+slots-shift r k n ok h hn =
     let hd = encFields headWidths (r .nums) in
     let rows = encRows encSlot noSlot 16 (r .slots) in
+    let some = encRows encSlot noSlot n (take n (r .slots)) in
+    let other = encRows encSlot noSlot (16 - n) (drop n (r .slots)) in
     let m : ℕ = k * 12 in
-    let dr = drop m rows in
+    let w : ℕ = n * 12 - k * 12 in
+    let dr = drop m some in
     let zs : List ℕ = replicate m 0 in
     let hl : length hd ≡ 64 = head-len (r .nums) in
-    let rl : length rows ≡ 192 = slots-len (r .slots) in
-    let dl : length dr ≡ 192 - m = length-drop m rows ∙ ap (λ (x : ℕ). x - m) rl in
+    let two : rows ≡ some ++ other = rows-two n (r .slots) (ok .many) hn in
+    let sl : length some ≡ n * 12 = length-rows encSlot noSlot 12 slot-len n (take n (r .slots)) in
+    let dl : length dr ≡ w = length-drop m some ∙ ap (λ (x : ℕ). x - m) sl in
     let zl : length zs ≡ m = length-replicate m 0 in
-    let al : length rows ≡ length (dr ++ zs) = rl ∙ sym (length-append dr zs ∙ ap₂ _+_ dl zl ∙ omega arith) in
-    let moved : part (hd ++ rows) (64 + m) (192 - m) ≡ dr =
-    ap (take (192 - m)) (ap (λ (x : ℕ). drop (x + m) (hd ++ rows)) (sym hl) ∙ drop-append-add hd rows m) ∙ take-all (192 - m) dr (omega arith) in
+    let al : length some ≡ length (dr ++ zs) = sl ∙ sym (length-append dr zs ∙ ap₂ _+_ dl zl ∙ omega arith) in
+    let moved : part (hd ++ rows) (64 + m) w ≡ dr =
+    ap (take w) (ap (λ (x : ℕ). drop (x + m) (hd ++ rows)) (sym hl) ∙ drop-append-add hd rows m ∙ ap (drop m) two ∙ drop-append-le m some other (rw sl (omega arith))) ∙ take-at dr other w dl in
     let first : sets (hd ++ rows) 64 dr ≡ hd ++ sets rows 0 dr = in-slots r 0 dr in
-    let at : 256 - m ≡ length hd + (192 - m) = rw hl (omega arith) in
-    let cat : 192 - m ≡ 0 + length dr = rw dl (omega arith) in
-    ap (λ (l : List ℕ). sets (sets (hd ++ rows) 64 l) (256 - m) zs) moved
-    ∙ ap (λ (l : List ℕ). sets l (256 - m) zs) first
+    let at : 64 + w ≡ length hd + w = rw hl (omega arith) in
+    let cat : w ≡ 0 + length dr = rw dl (omega arith) in
+    ap (λ (l : List ℕ). sets (sets (hd ++ rows) 64 l) (64 + w) zs) moved
+    ∙ ap (λ (l : List ℕ). sets l (64 + w) zs) first
     ∙ ap (λ (j : ℕ). sets (hd ++ sets rows 0 dr) j zs) at
-    ∙ sets-right hd (sets rows 0 dr) (192 - m) zs
+    ∙ sets-right hd (sets rows 0 dr) w zs
     ∙ ap (λ (l : List ℕ). hd ++ l)
-    (ap (λ (j : ℕ). sets (sets rows 0 dr) j zs) cat ∙ sym (sets-append rows 0 dr zs) ∙ sets-whole rows (dr ++ zs) al
-    ∙ sym (shifted-rows k (r .slots) (ok .many) h))
+    (ap (λ (j : ℕ). sets (sets rows 0 dr) j zs) cat ∙ sym (sets-append rows 0 dr zs) ∙ ap (λ (l : List ℕ). sets l 0 (dr ++ zs)) two
+    ∙ sets-left some other 0 (dr ++ zs) (rw (sym al) (omega arith)) ∙ ap (λ (l : List ℕ). l ++ other) (sets-whole some (dr ++ zs) al) ∙ append-assoc dr zs other
+    ∙ sym (shifted-rows k n (r .slots) (ok .many) h hn))
 
 all-app : (x y : List Slot) → All SlotOk x → All SlotOk y → All SlotOk (x ++ y)
 all-app [] y h k = k
@@ -130,12 +145,21 @@ all-zeros : (k : ℕ) → All SlotOk (replicate k noSlot)
 all-zeros zero = tt
 all-zeros (suc k) = ((lit< tt, lit< tt), all-zeros k)
 
-pub shift-ok : (r : Raw) (k : ℕ) → RawOk r → k ≤ 16 → RawOk (withSlots (shifted k (r .slots)) r)
-shift-ok r k ok h = record {
-  heads = ok .heads;
-  many = length-append (drop k (r .slots)) (replicate k noSlot) ∙ ap₂ _+_ (length-drop k (r .slots) ∙ ap (λ (x : ℕ). x - k) (ok .many)) (length-replicate k noSlot) ∙ omega arith;
-  good = all-app (drop k (r .slots)) (replicate k noSlot) (all-drop k (r .slots) (ok .good)) (all-zeros k);
-}
+all-take : (k : ℕ) (l : List Slot) → All SlotOk l → All SlotOk (take k l)
+all-take zero l h = tt
+all-take (suc k) [] h = tt
+all-take (suc k) (a ∷ l) h = (h .0, all-take k l (h .1))
+
+pub shift-ok : (r : Raw) (k n : ℕ) → RawOk r → k ≤ n → n ≤ 16 → RawOk (withSlots (shifted k n (r .slots)) r)
+shift-ok r k n ok h hn =
+    let l = r .slots in
+    let first : length (drop k (take n l)) ≡ n - k = length-drop k (take n l) ∙ ap (λ (x : ℕ). x - k) (length-take-le n l (rw (ok .many) hn)) in
+    let rest : length (replicate k noSlot ++ drop n l) ≡ k + (16 - n) = length-append (replicate k noSlot) (drop n l) ∙ ap₂ _+_ (length-replicate k noSlot) (length-drop n l ∙ ap (λ (x : ℕ). x - n) (ok .many)) in
+    record {
+      heads = ok .heads;
+      many = length-append (drop k (take n l)) (replicate k noSlot ++ drop n l) ∙ ap₂ _+_ first rest ∙ omega arith;
+      good = all-app (drop k (take n l)) (replicate k noSlot ++ drop n l) (all-drop k (take n l) (all-take n l (ok .good))) (all-app (replicate k noSlot) (drop n l) (all-zeros k) (all-drop n l (ok .good)));
+    }
 
 -- ---- the code's stores
 
@@ -147,12 +171,12 @@ slot-put p p₁ p₂ j t v n b h e₁ e₂ =
     ∙ ap (λ (l : List ℕ). sets l (64 + j * 12) (encSlot (record { stamp = t; value = v }))) (leaf-none p n b)
     ∙ slot-set (decRaw p) j (record { stamp = t; value = v }) (raw-ok p b) h
 
-pub slots-drop : (p p₁ p₂ : List ℕ) (k : ℕ) → length p ≡ 256 → Bytes p → k ≤ 16
-    → p₁ ≡ sets p 64 (part p (64 + k * 12) (192 - k * 12)) → p₂ ≡ sets p₁ (256 - k * 12) (replicate (k * 12) 0) → p₂ ≡ encRaw (dropped k (decRaw p))
-slots-drop p p₁ p₂ k n b h e₁ e₂ =
-    e₂ ∙ ap (λ (l : List ℕ). sets l (256 - k * 12) (replicate (k * 12) 0)) e₁
-    ∙ ap (λ (l : List ℕ). sets (sets l 64 (part l (64 + k * 12) (192 - k * 12))) (256 - k * 12) (replicate (k * 12) 0)) (leaf-none p n b)
-    ∙ slots-shift (decRaw p) k (raw-ok p b) h
+pub slots-drop : (p p₁ p₂ : List ℕ) (k n : ℕ) → length p ≡ 256 → Bytes p → k ≤ n → n ≤ 16
+    → p₁ ≡ sets p 64 (part p (64 + k * 12) (n * 12 - k * 12)) → p₂ ≡ sets p₁ (64 + (n * 12 - k * 12)) (replicate (k * 12) 0) → p₂ ≡ encRaw (dropped k n (decRaw p))
+slots-drop p p₁ p₂ k n l b h hn e₁ e₂ =
+    e₂ ∙ ap (λ (x : List ℕ). sets x (64 + (n * 12 - k * 12)) (replicate (k * 12) 0)) e₁
+    ∙ ap (λ (x : List ℕ). sets (sets x 64 (part x (64 + k * 12) (n * 12 - k * 12))) (64 + (n * 12 - k * 12)) (replicate (k * 12) 0)) (leaf-none p l b)
+    ∙ slots-shift (decRaw p) k n (raw-ok p b) h hn
 
 pub slots-many : (s : List ℕ) → length (decRaw s .slots) ≡ 16
 unfolding decRaw

@@ -136,9 +136,9 @@ change i f st = record { rows = set (st .rows) i (f (rowAt st i)); spare = st .s
 abbrev pub changeAll : (Raw → Raw) → Raws → Raws
 changeAll f st = record { rows = map f (st .rows); spare = st .spare }
 
--- the first k slots dropped, and as many free ones at the end
-abbrev pub shifted : ℕ → List Slot → List Slot
-shifted k l = drop k l ++ replicate k noSlot
+-- of the first n slots k dropped, as many free ones behind the rest of the n, and the others as they are
+abbrev pub shifted : (k n : ℕ) → List Slot → List Slot
+shifted k n l = drop k (take n l) ++ (replicate k noSlot ++ drop n l)
 
 abbrev pub slotAt : ℕ → Raw → Slot
 slotAt j r = getD (r .slots) j noSlot
@@ -146,5 +146,5 @@ slotAt j r = getD (r .slots) j noSlot
 abbrev pub withSlot : ℕ → ℕ → ℕ → Raw → Raw
 withSlot j t v r = withSlots (set (r .slots) j (record { stamp = t; value = v })) r
 
-abbrev pub dropped : ℕ → Raw → Raw
-dropped k r = withSlots (shifted k (r .slots)) r
+abbrev pub dropped : (k n : ℕ) → Raw → Raw
+dropped k n r = withSlots (shifted k n (r .slots)) r

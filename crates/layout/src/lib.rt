@@ -62,12 +62,13 @@ pub fn put_slot(r: &mut [u8], j: usize, t: u64, v: u64)
     le::put(r, at + 4, 8, v);
 }
 
-// Drops the first k slots of a record: the others move down, the freed ones are cleared.
-pub fn drop_slots(r: &mut [u8], k: usize)
-    requires { ⌜ (length (now r) ≡ 256) × (k ≤ 16) ⌝ }
-    ensures { λ _. ⌜ now (r .exit) ≡ encRaw (dropped k (decRaw (now (r .entry)))) ⌝ }
+// Drops the first k of the first n slots of a record: the rest of the n move down, and as many become free behind them.
+pub fn drop_slots(r: &mut [u8], k: usize, n: usize)
+    requires { ⌜ (length (now r) ≡ 256) × (k ≤ n) × (n ≤ 16) ⌝ }
+    ensures { λ _. ⌜ now (r .exit) ≡ encRaw (dropped k n (decRaw (now (r .entry)))) ⌝ }
 {
     let m = k * 12;
-    le::shift(r, 64, m, 192 - m);
-    le::clear(r, 256 - m, m);
+    let rest = n * 12 - m;
+    le::shift(r, 64, m, rest);
+    le::clear(r, 64 + rest, m);
 }

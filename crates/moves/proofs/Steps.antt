@@ -39,7 +39,7 @@ released-ok w r ok =
     let k = below w (min (num countF r) room) (r .slots) in
     let h = below-le w (min (num countF r) room) (r .slots) in
     let c = num-small r countF ok (lit< tt) in
-    num-ok (dropped k r) countF (num countF r - k) (shift-ok r k ok (omega arith)) (omega arith)
+    num-ok (dropped k (min (num countF r) room) r) countF (num countF r - k) (shift-ok r k (min (num countF r) room) ok (omega arith) (omega arith)) (omega arith)
 
 pub argIn-below : (n a : ℕ) → 0 < n → argIn n a < n
 argIn-below n a h = go (ltb a n) refl

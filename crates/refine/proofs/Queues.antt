@@ -4,7 +4,8 @@ use mathlib.Core.Path.{_≡_, refl, sym, ap, ap₂, _∙_}
 use mathlib.Core.List.{List, [], _∷_, _++_, map, append-nil, append-assoc}
 use mathlib.Core.Bool.{Bool, true, false, cond}
 use native.Mathlib.Omega.{arith}
-use lib.ListN.{length, getD, set, drop, replicate, length-append, length-map}
+use native.Mathlib.Nat.{sub-zero}
+use lib.ListN.{length, getD, set, take, drop, replicate, length-append, length-map, take-append-drop, replicate-append-replicate}
 use lib.Dec.{ltb}
 use lib.IntN.{ℤ}
 use mir.Syntax.{w64}
@@ -109,22 +110,41 @@ counts w (suc n) (e ∷ l) h = go (ltb (e .stamp) w) refl (counts w n l (omega a
     go true q i = rw (gone-cons w n e l, drop-cons w e l, q) (omega arith)
     go false q i = rw (gone-cons w n e l, drop-cons w e l, q) (omega arith)
 
-leaves : (w n : ℕ) (l : List Event) → length l ≤ n → shifted (gone w n l) (padded n l) ≡ padded n (dropBelow w l)
-leaves w n [] h = rw (gone-nil w n, drop-nil w) (append-nil (padded n []))
+pad-none : (n : ℕ) → padTo n noSlot [] ≡ replicate n noSlot
+unfolding padTo
+pad-none zero = refl
+pad-none (suc n) = ap (_∷_ noSlot) (pad-none n)
+
+-- the slots behind the held events are free
+free : (n : ℕ) (l : List Event) → length l ≤ n → drop (length l) (padded n l) ≡ replicate (n - length l) noSlot
+free n [] h = pad-none n ∙ ap (λ (j : ℕ). replicate j noSlot) (sym (sub-zero n))
+free zero (e ∷ l) h = absurd (omega arith)
+free (suc n) (e ∷ l) h =
+    let q : suc n - suc (length l) ≡ n - length l = omega arith in
+    ap (drop (suc (length l))) (padded-cons n e l) ∙ free n l (omega arith) ∙ ap (λ (j : ℕ). replicate j noSlot) (sym q)
+
+leaves : (w n : ℕ) (l : List Event) → length l ≤ n → shifted (gone w n l) (length l) (padded n l) ≡ padded n (dropBelow w l)
+leaves w n [] h = rw (gone-nil w n, drop-nil w)
 leaves w zero (e ∷ l) h = absurd (omega arith)
 leaves w (suc n) (e ∷ l) h = go (ltb (e .stamp) w) refl (leaves w n l (omega arith))
   where
-    go : (b : Bool) → ltb (e .stamp) w ≡ b → shifted (gone w n l) (padded n l) ≡ padded n (dropBelow w l) → shifted (gone w (suc n) (e ∷ l)) (padded (suc n) (e ∷ l)) ≡ padded (suc n) (dropBelow w (e ∷ l))
+    go : (b : Bool) → ltb (e .stamp) w ≡ b → shifted (gone w n l) (length l) (padded n l) ≡ padded n (dropBelow w l)
+        → shifted (gone w (suc n) (e ∷ l)) (suc (length l)) (padded (suc n) (e ∷ l)) ≡ padded (suc n) (dropBelow w (e ∷ l))
     go true q i =
         let k = gone w n l in
+        let m = length l in
         let c : length (map slotOf (dropBelow w l)) ≤ n = rw (length-map (dropBelow w l) slotOf) (omega (arith, counts w n l (omega arith))) in
-        let x = drop k (padded n l) in
+        let x = drop k (take m (padded n l)) in
+        let zs : replicate k noSlot ++ drop m (padded n l) ≡ replicate (k + (n - m)) noSlot =
+        ap (λ (z : List Slot). replicate k noSlot ++ z) (free n l (omega arith)) ∙ replicate-append-replicate k (n - m) noSlot in
         rw (gone-cons w n e l, drop-cons w e l, q, padded-cons n e l)
-        (ap (λ (z : List Slot). x ++ z) (last-zero k)
-        ∙ sym (append-assoc x (replicate k noSlot) (noSlot ∷ []))
+        (ap (λ (z : List Slot). x ++ noSlot ∷ z) zs
+        ∙ ap (λ (z : List Slot). x ++ z) (last-zero (k + (n - m)))
+        ∙ ap (λ (z : List Slot). x ++ (z ++ noSlot ∷ [])) (sym zs)
+        ∙ sym (append-assoc x (replicate k noSlot ++ drop m (padded n l)) (noSlot ∷ []))
         ∙ ap (λ (z : List Slot). z ++ noSlot ∷ []) i
         ∙ pad-snoc n noSlot (map slotOf (dropBelow w l)) c)
-    go false q i = rw (gone-cons w n e l, drop-cons w e l, q) (append-nil (padded (suc n) (e ∷ l)))
+    go false q i = rw (gone-cons w n e l, drop-cons w e l, q) (take-append-drop (suc (length l)) (padded (suc n) (e ∷ l)))
 
 pub release-of : (w : ℕ) (c : Cell) → length (c .held) ≤ room → released w (ofCell c) ≡ ofCell (withHeld (dropBelow w (c .held)) c)
 unfolding released ofCell

@@ -1,12 +1,12 @@
 -- What each leaf makes of a record: the scheme of its stores, and the cases of each definition.
 use Prim.Native.Nat.{ℕ, zero, suc, _+_, _*_, _-_, _^_, _<_, _≤_, min}
 use mathlib.Core.Path.{_≡_, refl, sym, ap, ap₂, _∙_}
-use mathlib.Core.List.{List, append-nil}
+use mathlib.Core.List.{List}
 use mathlib.Core.Bool.{Bool, true, false, not, cond}
 use native.Mathlib.Omega.{arith}
 use native.Mathlib.Nat.{sub-zero}
 use lib.Dec.{lit<, lit≤, ltb, eqb}
-use lib.ListN.{length, getD}
+use lib.ListN.{length, getD, take-append-drop}
 use lib.Seq.{set-getD}
 use borrow.Author.Tests.{lt-ltb, le-ltb, eq-eqb, ne-eqb, not-true, not-false}
 use Rattle.le.specs.Bytes.{Bytes}
@@ -164,6 +164,10 @@ module _ (s : ℕ) (r : Raw) where
     unfolding lowered
     lower-less e h = rw e (omega arith)
 
+    pub lower-le : readsRow s r ≡ true → lowered s r acc ≤ num boundF r
+    unfolding lowered
+    lower-le e = rw e (omega arith)
+
     pub lower-else : readsRow s r ≡ true → acc ≤ num boundF r → lowered s r acc ≡ acc
     unfolding lowered
     lower-else e h = rw e (omega arith)
@@ -183,14 +187,14 @@ module _ (least : ℕ) (r : Raw) where
 
 -- n and m are the count and the held read before the stores
 pub release-is : (w n m k : ℕ) (r : Raw) → n ≡ num countF r → m ≡ min (num countF r) room → k ≡ below w m (r .slots)
-    → released w r ≡ withNum countF (n - k) (dropped k r)
+    → released w r ≡ withNum countF (n - k) (dropped k m r)
 unfolding released
 release-is w n m k r e h q = rw (q, h, e)
 
 pub release-none : (w m : ℕ) (r : Raw) → m ≡ min (num countF r) room → 0 ≡ below w m (r .slots) → released w r ≡ r
 release-none w m r h q =
     release-is w (num countF r) m 0 r refl h q
-    ∙ ap₂ (λ (l : List ℕ) (k : List Slot). record { nums = l; slots = k }) (rw sub-zero (set-getD (r .nums) countF 0)) (append-nil (r .slots))
+    ∙ ap₂ (λ (l : List ℕ) (k : List Slot). record { nums = l; slots = k }) (rw sub-zero (set-getD (r .nums) countF 0)) (take-append-drop m (r .slots))
 
 -- ---- every leaf keeps the numbers within their widths
 

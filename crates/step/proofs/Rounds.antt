@@ -50,9 +50,9 @@ least-le s zero rs = omega arith
 least-le s (suc i) [] = omega arith
 least-le s (suc i) (r ∷ rs) = rw (least-more s r rs) (let h = lowered-le s r (leastRow s rs) in let k = least-le s i rs in omega arith)
 
--- a reader at or below the floor ends the search
-pub least-floor : (s n least f i : ℕ) (p : List ℕ) → least ≡ leastRow s (drop i (decode n p .rows)) → least ≤ f → max least f ≡ max (leastRow s (decode n p .rows)) f
-least-floor s n least f i p e h = let k = least-le s i (decode n p .rows) in omega arith
+-- a reader at or below the floor, with bound x, ends the search
+pub least-floor : (s n x least f i : ℕ) (p : List ℕ) → least ≡ leastRow s (drop i (decode n p .rows)) → least ≤ f → x ≤ f → max x f ≡ max (leastRow s (decode n p .rows)) f
+least-floor s n x least f i p e h l = let k = least-le s i (decode n p .rows) in omega arith
 
 pub least-end : (s n acc : ℕ) (p : List ℕ) (i : ℕ) → i ≡ 0 → acc ≡ leastRow s (drop i (decode n p .rows)) → acc ≡ leastRow s (decode n p .rows)
 least-end s n acc p i e inv = rw e at inv
@@ -119,7 +119,7 @@ below-floor f w w′ (suc n) (x ∷ l) e q = go (decLt (x .stamp) w)
 release-floor : (f w w′ : ℕ) (r : Raw) → f ≡ slotAt 0 r .stamp → max w f ≡ max w′ f → released w r ≡ released w′ r
 unfolding released
 release-floor f w w′ r e q =
-    ap (λ (k : ℕ). withNum countF (num countF r - k) (dropped k r)) (below-floor f w w′ (min (num countF r) room) (r .slots) e q)
+    ap (λ (k : ℕ). withNum countF (num countF r - k) (dropped k (min (num countF r) room) r)) (below-floor f w w′ (min (num countF r) room) (r .slots) e q)
 
 waiting-floor : (f x y : ℕ) (r : Raw) → max x f ≡ max y f → max (waitingRow x r) f ≡ max (waitingRow y r) f
 unfolding waitingRow

@@ -79,8 +79,9 @@ below w (suc n) (e ∷ l) = cond (ltb (e .stamp) w) (suc (below w n l)) 0
 unfoldable pub released : ℕ → Raw → Raw
 unfolding below
 released w r =
-    let k = below w (min (num countF r) room) (r .slots) in
-    withNum countF (num countF r - k) (dropped k r)
+    let n = min (num countF r) room in
+    let k = below w n (r .slots) in
+    withNum countF (num countF r - k) (dropped k n r)
 
 unfoldable pub releasedRow : ℕ → Raws → Raws
 unfolding released waitingRow leastRow

@@ -4,7 +4,7 @@ ghost use Prim.Native.Nat.{_*_, _+_, _≤_, _<_, min, max};
 ghost use lib.ListN.{length};
 ghost use Rattle.layout.specs.Record as layout;
 ghost use Rattle.layout.specs.Record.{encRaw, decRaw, encode, decode, change, changeAll};
-ghost use Rattle.step.specs.Step.{pushed, readsRow, toldLast, toldValue, toldPrior, toldSince, toldDelay, toldRow, lowered, leastRow, waitingRow, below, released, releasedRow, offered};
+ghost use Rattle.step.specs.Step.{pushed, readsRow, toldLast, toldValue, toldPrior, toldSince, toldDelay, toldRow, leastRow, waitingRow, below, released, releasedRow, offered};
 use limits::Bound;
 use limits::Queue;
 
@@ -157,21 +157,6 @@ pub fn tell_all(state: &mut [u8], n: usize, s: u64, t: u32, v: u64)
     }
 }
 
-// The lesser of the given bound and the record's own, if it reads stream s.
-fn lower(r: &[u8], s: u64, least: u64) -> u64
-    requires { ⌜ length (now r) ≡ 256 ⌝ }
-    ensures { λ x. ⌜ x ≡ lowered s (decRaw (now (r .entry))) least ⌝ }
-{
-    if !reads(r, s) {
-        return least;
-    }
-    let bound = layout::word_at(r, 1);
-    if bound < least {
-        return bound;
-    }
-    least
-}
-
 // The least bound of the readers of stream s, the horizon if none of the n records reads it. Where it is not above floor
 // any number up to floor will do, so that the first such reader ends the search.
 fn least_reader(state: &[u8], n: usize, s: u64, floor: u64) -> u64
@@ -184,9 +169,14 @@ fn least_reader(state: &[u8], n: usize, s: u64, floor: u64) -> u64
         i -= 1;
         let at = i * 256;
         let end = at + 256;
-        least = lower(&state[at..end], s, least);
-        if least <= floor {
-            return least;
+        if reads(&state[at..end], s) {
+            let bound = layout::word_at(&state[at..end], 1);
+            if bound <= floor {
+                return bound;
+            }
+            if bound < least {
+                least = bound;
+            }
         }
     }
     least
@@ -241,11 +231,12 @@ pub fn release(r: &mut [u8], w: u64)
     ensures { λ _. ⌜ now (r .exit) ≡ encRaw (released w (decRaw (now (r .entry)))) ⌝ }
 {
     let n = layout::byte_at(r, 4);
-    let k = leading(r, held(r), w);
+    let m = held(r);
+    let k = leading(r, m, w);
     if k == 0 {
         return;
     }
-    layout::drop_slots(r, k);
+    layout::drop_slots(r, k, m);
     layout::put_byte(r, 4, n - k as u64);
 }
 

@@ -1,17 +1,19 @@
-use Prim.Native.Nat.{ℕ, _+_, _-_, _*_, _<_, _≤_}
+use lib.Dec.{lit≤}
+use Prim.Native.Nat.{ℕ, _+_, _-_, _*_, _<_, _≤_, max}
 use mathlib.Core.Path.{_≡_, refl, sym, ap, ap₂, _∙_}
 use mathlib.Core.List.{List}
 use borrow.Author.Tests.{not-true, not-false}
 use borrow.Rule.Slice.PartMut.{midOf, putMid, same-len-mid}
 use lib.ListN.{length, drop}
 use denote.Ref.{now}
-use Rattle.layout.specs.Record.{Raw, decRaw, encRaw, encode, decode, num, withNum, withSlot, dropped, rowAt, change, changeAll, opF, aF, bF, outF, countF, flagF, priorFlagF, boundF, nextF, keptF, valueF, priorF}
+use Rattle.layout.specs.Record.{Slot, Raw, decRaw, encRaw, encode, decode, num, withNum, withSlot, slotAt, dropped, rowAt, change, changeAll, opF, aF, bF, outF, countF, flagF, priorFlagF, boundF, nextF, keptF, valueF, priorF}
 use Rattle.layout.proofs.Laws.{num-ok, raw-len, row-mid, lent, encode-decode}
 use Rattle.layout.proofs.Slots.{slot-ok, shift-ok, slots-many}
 use Rattle.layout.proofs.Loops.{left, each-turn, each-end, each-all, row-len}
 use Rattle.step.specs.Step.{pushed, readsRow, toldLast, toldValue, toldPrior, toldSince, toldDelay, toldRow, lowered, leastRow, waitingRow, below, released, releasedRow, offered}
 use Rattle.step.proofs.Leaves
 use Rattle.step.proofs.Rounds
+use mathlib.Core.Bool.{true, false}
 use borrow.Author.Needs.{needs}
 use native.Mathlib.Omega.{arith}
 use Rattle.step.proofs.release.Statement.{statement}
@@ -24,45 +26,45 @@ use Rattle.layout.proofs.put_byte.Reads as put-byte-reads
 use Rattle.step.proofs.held.Reads as held-reads
 use Rattle.step.proofs.leading.Reads as leading-reads
 
--- src/lib.rt:239:9
+-- src/lib.rt:233:9
 byte-at-requires : tie.Need-byte-at-requires
 byte-at-requires c κs = search needs
 
--- src/lib.rt:240:24
+-- src/lib.rt:234:9
 held-requires : tie.Need-held-requires
 held-requires c κs = search needs
 
--- src/lib.rt:240:9
+-- src/lib.rt:235:9
 leading-requires : tie.Need-leading-requires
 leading-requires c κs = search needs
 
--- src/lib.rt:242:9
+-- src/lib.rt:237:9
 same-length : tie.Need-same-length
 same-length c = search needs
 
--- src/lib.rt:242:9
+-- src/lib.rt:237:9
 returns : tie.Need-returns
-returns c = let a = c .before .before .before .before .before .before .before .args in let p = now (a .r) in let r = decRaw p in Leaves.none p (released (a .w)) (omega arith) (λ i. omega (arith, c .before .before .before .before .before .before .slice-known .given i)) (Leaves.release-none (a .w) (c .before .before .held .result) r (c .before .before .held .ensures .0) (sym (c .if1 .taken) ∙ c .before .leading .ensures .0))
+returns c = let a = c .before .before .before .before .before .before .before .before .args in let p = now (a .r) in let r = decRaw p in Leaves.none p (released (a .w)) (omega arith) (λ i. omega (arith, c .before .before .before .before .before .before .before .slice-known .given i)) (Leaves.release-none (a .w) (c .before .before .before .held .result) r (c .before .before .before .held .ensures .0) (sym (c .if1 .taken) ∙ c .before .leading .ensures .0))
 
--- src/lib.rt:244:5
+-- src/lib.rt:239:5
 drop-slots-requires : tie.Need-drop-slots-requires
 drop-slots-requires c κs = search needs
 
--- src/lib.rt:245:28
+-- src/lib.rt:240:28
 sub-put-byte : tie.Need-sub-put-byte
 sub-put-byte c = search needs
 
--- src/lib.rt:245:5
+-- src/lib.rt:240:5
 put-byte-requires : tie.Need-put-byte-requires
 put-byte-requires c κs = search needs
 
--- src/lib.rt:235:1
+-- src/lib.rt:229:1
 same-length-2 : tie.Need-same-length-2
 same-length-2 c = search needs
 
--- src/lib.rt:235:1
+-- src/lib.rt:229:1
 returns-2 : tie.Need-returns-2
-returns-2 c = let a = c .before .before .before .before .before .before .before .before .before .before .before .before .before .before .before .args in let p = now (a .r) in let r = decRaw p in Leaves.two p (c .before .before .before .before .before .before .drop-slots .last .0) (c .before .before .put-byte .last .0) (released (a .w)) (dropped (c .before .before .before .before .before .before .before .before .before .leading .result)) (withNum countF (c .before .before .before .before .before .before .before .before .before .before .before .before .byte-at .result - c .before .before .before .before .before .before .before .before .before .leading .result)) (λ i. omega (arith, c .before .before .before .before .before .before .before .before .before .before .before .before .before .before .slice-known .given i)) (λ x ok. shift-ok x (c .before .before .before .before .before .before .before .before .before .leading .result) ok (omega arith)) (c .before .before .before .before .before .before .drop-slots .ensures) (c .before .before .put-byte .ensures) (Leaves.release-is (a .w) (c .before .before .before .before .before .before .before .before .before .before .before .before .byte-at .result) (c .before .before .before .before .before .before .before .before .before .before .held .result) (c .before .before .before .before .before .before .before .before .before .leading .result) r (c .before .before .before .before .before .before .before .before .before .before .before .before .byte-at .ensures .0) (c .before .before .before .before .before .before .before .before .before .before .held .ensures .0) (c .before .before .before .before .before .before .before .before .before .leading .ensures .0))
+returns-2 c = let a = c .before .before .before .before .before .before .before .before .before .before .before .before .before .before .before .before .args in let p = now (a .r) in let r = decRaw p in Leaves.two p (c .before .before .before .before .before .before .drop-slots .last .0) (c .before .before .put-byte .last .0) (released (a .w)) (dropped (c .before .before .before .before .before .before .before .before .before .leading .result) (c .before .before .before .before .before .before .before .before .before .before .before .held .result)) (withNum countF (c .before .before .before .before .before .before .before .before .before .before .before .before .before .byte-at .result - c .before .before .before .before .before .before .before .before .before .leading .result)) (λ i. omega (arith, c .before .before .before .before .before .before .before .before .before .before .before .before .before .before .before .slice-known .given i)) (λ x ok. shift-ok x (c .before .before .before .before .before .before .before .before .before .leading .result) (c .before .before .before .before .before .before .before .before .before .before .before .held .result) ok (omega arith) (omega arith)) (c .before .before .before .before .before .before .drop-slots .ensures) (c .before .before .put-byte .ensures) (Leaves.release-is (a .w) (c .before .before .before .before .before .before .before .before .before .before .before .before .before .byte-at .result) (c .before .before .before .before .before .before .before .before .before .before .before .held .result) (c .before .before .before .before .before .before .before .before .before .leading .result) r (c .before .before .before .before .before .before .before .before .before .before .before .before .before .byte-at .ensures .0) (c .before .before .before .before .before .before .before .before .before .before .before .held .ensures .0) (c .before .before .before .before .before .before .before .before .before .leading .ensures .0))
 
 pub release-spec : {M : Type 1} → statement M
 release-spec =
