@@ -17,7 +17,7 @@ use Rattle.printer.specs.Print.{eventText}
 use Rattle.replaying.specs.declared.Place.{Place}
 use Rattle.replaying.specs.declared.Place.the-variants.{Run, Collect, Rest}
 use Rattle.replaying.specs.Replay.{callOf, refusal, allMoves, turn, ran, roundAfter, afterOutput, collected, step, Prints, here, on}
-use Rattle.replaying.specs.Session.{Replays, ends, goes, lineIn, printedOf, offerIn, offersOf}
+use Rattle.replaying.specs.Session.{Replays, ends, goes, lineIn, printedOf, otherIn, othersOf}
 use Rattle.replaying.proofs.Steps.{after-next, after-last, collected-event, collected-none, collected-state, ran-rest, ran-moved, ran-state}
 use Rattle.replaying.proofs.Bytes.{Fine, reply-fine, run-same, collect-same}
 use Rattle.replaying.proofs.Nearer.{step-fine}
@@ -44,10 +44,10 @@ printed-append s (c ∷ cs) ds =
     let l = lineIn c (seenIn c (reply c s)) in let t = reply c s .buffer in
     ap (λ (x : List ℕ). l ++ x) (printed-append t cs ds) ∙ sym (append-assoc l (printedOf (seenFrom t cs)) (printedOf (seenFrom (bufferAfter t cs) ds)))
 
-offers-append : (cs ds : List Call) → offersOf (cs ++ ds) ≡ offersOf cs ++ offersOf ds
-unfolding offersOf
+offers-append : (cs ds : List Call) → othersOf (cs ++ ds) ≡ othersOf cs ++ othersOf ds
+unfolding othersOf
 offers-append [] ds = refl
-offers-append (c ∷ cs) ds = ap (λ (x : List Call). offerIn c ++ x) (offers-append cs ds) ∙ sym (append-assoc (offerIn c) (offersOf cs) (offersOf ds))
+offers-append (c ∷ cs) ds = ap (λ (x : List Call). otherIn c ++ x) (offers-append cs ds) ∙ sym (append-assoc (otherIn c) (othersOf cs) (othersOf ds))
 
 typed-append : (cs ds : List Call) → AllTyped cs → AllTyped ds → AllTyped (cs ++ ds)
 typed-append [] ds h k = k
@@ -57,18 +57,18 @@ typed-append (c ∷ cs) ds h k = (h .0, typed-append cs ds (h .1) k)
 pub record Made (s : List ℕ) (offers : List Call) (printed t : List ℕ) : Type 0 where
   pub calls : List Call
   pub typed : AllTyped calls
-  pub offered : offersOf calls ≡ offers
+  pub offered : othersOf calls ≡ offers
   pub lines : printed ≡ printedOf (seenFrom s calls)
   pub buffer : t ≡ bufferAfter s calls
 
 made-none : (s : List ℕ) → Made s [] [] s
-unfolding seenFrom bufferAfter printedOf offersOf
+unfolding seenFrom bufferAfter printedOf othersOf
 made-none s = record { calls = []; typed = tt; offered = refl; lines = refl; buffer = refl }
 
-made-one : (s : List ℕ) (c : Call) → Typed c → Made s (offerIn c) (lineIn c (seenIn c (reply c s))) (reply c s .buffer)
-unfolding seenFrom bufferAfter printedOf offersOf
+made-one : (s : List ℕ) (c : Call) → Typed c → Made s (otherIn c) (lineIn c (seenIn c (reply c s))) (reply c s .buffer)
+unfolding seenFrom bufferAfter printedOf othersOf
 made-one s c h =
-    record { calls = c ∷ []; typed = (h, tt); offered = append-nil (offerIn c); lines = sym (append-nil (lineIn c (seenIn c (reply c s)))); buffer = refl }
+    record { calls = c ∷ []; typed = (h, tt); offered = append-nil (otherIn c); lines = sym (append-nil (lineIn c (seenIn c (reply c s)))); buffer = refl }
 
 made-then : {s : List ℕ} {os : List Call} {w t : List ℕ} {ps : List Call} {v u : List ℕ} → Made s os w t → Made t ps v u → Made s (os ++ ps) (w ++ v) u
 made-then {s} x y =

@@ -132,6 +132,7 @@ replay-told text s done rs typed w t x =
     let h = after-load text s done (m .calls) (m .typed) in
     record {
       calls = m .calls;
+      typed = m .typed;
       offers = m .offered;
       lines = m .lines ∙ ap printedOf (h .seen);
       claim = h .claim;

@@ -6,7 +6,7 @@ use mathlib.Core.List.{List, [], _∷_, _++_, map}
 use lib.Dec.{eqb}
 use Rattle.machine.specs.State.{Declared, loaded}
 use Rattle.machine.specs.Calls.{Call, reading, progress, moving, running, collecting}
-use Rattle.runs.specs.History.{Seen, log}
+use Rattle.runs.specs.History.{Seen, AllTyped, log}
 use Rattle.runs.specs.Claim.{Claim, AtRest}
 use Rattle.engine.specs.Reply.{reply}
 use Rattle.trace.specs.declared.Record.{Record}
@@ -33,23 +33,24 @@ unfoldable pub printedOf : List Seen → List ℕ
 printedOf [] = []
 printedOf (x ∷ xs) = lineIn (x .made) x ++ printedOf xs
 
--- the offers among the calls
-abbrev pub offerIn : Call → List Call
-offerIn (reading s t v) = reading s t v ∷ []
-offerIn (progress s y) = progress s y ∷ []
-offerIn (moving s) = []
-offerIn (running n) = []
-offerIn (collecting s) = []
+-- the calls that are neither a run nor a collect
+abbrev pub otherIn : Call → List Call
+otherIn (reading s t v) = reading s t v ∷ []
+otherIn (progress s y) = progress s y ∷ []
+otherIn (moving s) = moving s ∷ []
+otherIn (running n) = []
+otherIn (collecting s) = []
 
-unfoldable pub offersOf : List Call → List Call
-offersOf [] = []
-offersOf (c ∷ cs) = offerIn c ++ offersOf cs
+unfoldable pub othersOf : List Call → List Call
+othersOf [] = []
+othersOf (c ∷ cs) = otherIn c ++ othersOf cs
 
 -- What a replay of the records on a plan has printed comes from calls
 pub record Told (ds : List Declared) (rs : List Record) (printed : List ℕ) : Type 1 where
   pub calls : List Call
-  -- that are the offers of the records, each once and in their order, with runs and collects between
-  pub offers : offersOf calls ≡ map callOf rs
+  pub typed : AllTyped calls
+  -- that are the offers of the records, each once and in their order, with runs and collects between and nothing else
+  pub offers : othersOf calls ≡ map callOf rs
   -- whose answers are the printed lines: one for each event handed out and each refused offer, and none besides
   pub lines : printed ≡ printedOf (log calls (loaded ds))
   -- of which demands 2 and 3 hold, and that end at rest: so the events printed of an output are a beginning of the truth, and
