@@ -1,6 +1,6 @@
 -- Every call brings a replay nearer to rest.
 use Prim.Native.Nat.{ℕ, _+_, _*_, _-_, _<_, _≤_}
-use mathlib.Core.Path.{_≡_, sym}
+use mathlib.Core.Path.{_≡_, refl, sym, ap}
 use mathlib.Core.Bool.{Bool, true, false, true≢false}
 use mathlib.Core.Logic.{_⊎_, inl, inr}
 use mathlib.Core.List.{List}
@@ -11,13 +11,21 @@ use Rattle.machine.specs.Calls.{running, collecting}
 use Rattle.operators.specs.Limits.{streamLimit}
 use Rattle.engine.specs.Reply.{Reply, reply}
 use Rattle.resting.specs.Left.{left}
-use Rattle.resting.proofs.Bytes.{run-left, collect-left, collect-stays}
+use Rattle.resting.proofs.Bytes.{run-left, collect-left}
 use Rattle.replaying.specs.declared.Place.{Place}
 use Rattle.replaying.specs.declared.Place.the-variants.{Run, Collect, Rest}
 use Rattle.replaying.specs.declared.Stand.{Stand}
 use Rattle.replaying.specs.Replay.{allMoves, ran, roundAfter, afterOutput, collected, step, Turned}
 use Rattle.replaying.specs.Rank.{isRest, more, callsLeft, rank}
-use Rattle.replaying.proofs.Steps.{ran-rest, ran-moved, after-next, after-last, collected-event, collected-none}
+use Rattle.replaying.proofs.Bytes.{Fine, reply-not, reply-fine, collect-same}
+use Rattle.replaying.proofs.Steps.{ran-rest, ran-moved, after-next, after-last, collected-event, collected-none, collected-state, ran-state}
+
+-- a step leaves what its call leaves
+pub step-fine : (p : Place) (s : List ℕ) → (isRest p ≡ true → Fine s) → Fine (step p s .state)
+unfolding step
+step-fine (Run busy) s f = rw (ran-state busy (reply (running allMoves) s) .0) (reply-fine (running allMoves) s)
+step-fine (Collect i busy) s f = rw (collected-state i busy (reply (collecting i) s)) (reply-fine (collecting i) s)
+step-fine Rest s f = f refl
 
 more-few : (b : Bool) → more b ≤ 34
 more-few true = omega arith
@@ -42,7 +50,21 @@ lower l l′ c c′ h k = omega arith
 same : (l l′ c c′ : ℕ) → l′ ≤ l → c′ < c → l′ * 68 + c′ < l * 68 + c
 same l l′ c c′ h k = omega arith
 
-module _ (s : List ℕ) (b : Bytes s) where
+module _ (s : List ℕ) (f : Fine s) where
+  run-less : left (reply (running allMoves) s .buffer) + reply (running allMoves) s .moves ≤ left s
+  run-less = go f
+    where
+      go : Fine s → left (reply (running allMoves) s .buffer) + reply (running allMoves) s .moves ≤ left s
+      go (inl b) = run-left s b allMoves
+      go (inr e) = rw (reply-not s e (running allMoves)) (omega arith)
+
+  collect-less : (i : ℕ) → reply (collecting i) s .number ≡ 0 → left (reply (collecting i) s .buffer) < left s
+  collect-less i = go f
+    where
+      go : Fine s → reply (collecting i) s .number ≡ 0 → left (reply (collecting i) s .buffer) < left s
+      go (inl b) = collect-left s b i
+      go (inr e) = rw (reply-not s e (collecting i)) (λ z. absurd (omega arith))
+
   run-falls : (busy : Bool) → rank (ran busy (reply (running allMoves) s) .place) (ran busy (reply (running allMoves) s) .state) < rank (Run busy) s
   run-falls busy = go (ℕ-discrete (reply (running allMoves) s .moves) 0)
     where
@@ -50,7 +72,7 @@ module _ (s : List ℕ) (b : Bytes s) where
       r = reply (running allMoves) s
 
       h : left (reply (running allMoves) s .buffer) + reply (running allMoves) s .moves ≤ left s
-      h = run-left s b allMoves
+      h = run-less
 
       go : Dec (reply (running allMoves) s .moves ≡ 0) → rank (ran busy (reply (running allMoves) s) .place) (ran busy (reply (running allMoves) s) .state) < rank (Run busy) s
       go (yes e) = rw (ran-rest busy (reply (running allMoves) s) e) (same (left s) (left (reply (running allMoves) s .buffer)) (33 + more busy) (1 + (31 - 0) + more busy) (omega (arith, h)) (omega arith))
@@ -62,9 +84,9 @@ module _ (s : List ℕ) (b : Bytes s) where
   collect-falls i busy = go (ℕ-discrete (reply (collecting i) s .number) 0)
     where
       go : Dec (reply (collecting i) s .number ≡ 0) → rank (collected i busy (reply (collecting i) s) .place) (collected i busy (reply (collecting i) s) .state) < rank (Collect i busy) s
-      go (yes e) = rw (collected-event i busy (reply (collecting i) s) e) (lower (left s) (left (reply (collecting i) s .buffer)) (1 + (31 - i) + more busy) (1 + (31 - i) + 34) (collect-left s b i e) (omega arith))
+      go (yes e) = rw (collected-event i busy (reply (collecting i) s) e) (lower (left s) (left (reply (collecting i) s .buffer)) (1 + (31 - i) + more busy) (1 + (31 - i) + 34) (collect-less i e) (omega arith))
       go (no e) =
-          let h = collect-stays s b i e in
+          let h = ap left (collect-same s f i e) in
           rw (collected-none i busy (reply (collecting i) s) e)
           (same (left s) (left (reply (collecting i) s .buffer)) (1 + (31 - i) + more busy) (callsLeft (afterOutput i busy)) (omega (arith, h)) (after-fewer i busy))
 
@@ -75,7 +97,7 @@ module _ (s : List ℕ) (b : Bytes s) where
   step-falls Rest e = absurd (true≢false e)
 
 pub turn-nearer : (q : Place) (t : List ℕ) → Bytes t → isRest q ≡ false → {o : List ℕ} {end : ℕ} {r : Stand} {o′ t′ : List ℕ} → Turned (step q t) o end r o′ t′ → rank (r .place) t′ < rank q t
-turn-nearer q t b e x = rw (x .place, x .state) (step-falls t b q e)
+turn-nearer q t b e x = rw (x .place, x .state) (step-falls t (inl b) q e)
 
 -- ## A loop of turns: nothing was done yet, or the replay is nearer to rest
 

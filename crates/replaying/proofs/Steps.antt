@@ -43,6 +43,15 @@ pub collected-none : (i : ℕ) (busy : Bool) (r : Reply) → (r .number ≡ 0 �
 unfolding collected
 collected-none i busy r e = rw (ne-eqb (r .number) 0 e)
 
+-- whether something was handed out or not, the state is the collect's
+pub collected-state : (i : ℕ) (busy : Bool) (r : Reply) → collected i busy r .state ≡ r .buffer
+unfolding collected
+collected-state i busy r = go (eqb (r .number) 0)
+  where
+    go : (b : Bool) → cond b (turn (Collect i true) (eventText i (r .stamp) (r .value)) (r .buffer)) (turn (afterOutput i busy) [] (r .buffer)) .state ≡ r .buffer
+    go true = refl
+    go false = refl
+
 -- ## A run
 
 pub ran-rest : (busy : Bool) (r : Reply) → r .moves ≡ 0 → ran busy r ≡ turn (Collect 0 busy) [] (r .buffer)

@@ -1,2 +1,3 @@
 pub mod Replay
 pub mod Rank
+pub mod Session

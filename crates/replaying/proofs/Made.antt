@@ -1,0 +1,169 @@
+-- The calls that a replay makes on a buffer: what is seen of them, what is printed of them, and where they leave it.
+use Prim.Native.Nat.{ℕ, _+_, _<_, _≤_}
+use mathlib.Core.Path.{_≡_, refl, sym, ap, ap₂, _∙_}
+use mathlib.Core.Bool.{Bool, true, false, true≢false, cond}
+use mathlib.Core.List.{List, [], _∷_, _++_, map, append-nil, append-assoc}
+use native.Mathlib.Omega.{arith}
+use native.Mathlib.Decide.{decLt, ℕ-discrete}
+use lib.Dec.{eqb}
+use Rattle.machine.specs.Calls.{Call, running, collecting}
+use Rattle.runs.specs.History.{Seen, Typed, AllTyped}
+use Rattle.operators.specs.Limits.{streamLimit}
+use Rattle.engine.specs.Reply.{Reply, reply}
+use Rattle.engine.specs.History.{seenIn}
+use Rattle.trace.specs.declared.Record.{Record}
+use Rattle.trace.specs.declared.Record.the-variants.{Reading, Progress}
+use Rattle.printer.specs.Print.{eventText}
+use Rattle.replaying.specs.declared.Place.{Place}
+use Rattle.replaying.specs.declared.Place.the-variants.{Run, Collect, Rest}
+use Rattle.replaying.specs.Replay.{callOf, refusal, allMoves, turn, ran, roundAfter, afterOutput, collected, step, Prints, here, on}
+use Rattle.replaying.specs.Session.{Replays, ends, goes, lineIn, printedOf, otherIn, othersOf}
+use Rattle.replaying.proofs.Steps.{after-next, after-last, collected-event, collected-none, collected-state, ran-rest, ran-moved, ran-state}
+use Rattle.replaying.proofs.Bytes.{Fine, reply-fine, run-same, collect-same}
+use Rattle.replaying.proofs.Nearer.{step-fine}
+
+-- ## Lists of calls on a buffer
+
+unfoldable pub seenFrom : List ℕ → List Call → List Seen
+seenFrom s [] = []
+seenFrom s (c ∷ cs) = seenIn c (reply c s) ∷ seenFrom (reply c s .buffer) cs
+
+unfoldable pub bufferAfter : List ℕ → List Call → List ℕ
+bufferAfter s [] = s
+bufferAfter s (c ∷ cs) = bufferAfter (reply c s .buffer) cs
+
+buffer-append : (s : List ℕ) (cs ds : List Call) → bufferAfter s (cs ++ ds) ≡ bufferAfter (bufferAfter s cs) ds
+unfolding bufferAfter
+buffer-append s [] ds = refl
+buffer-append s (c ∷ cs) ds = buffer-append (reply c s .buffer) cs ds
+
+printed-append : (s : List ℕ) (cs ds : List Call) → printedOf (seenFrom s (cs ++ ds)) ≡ printedOf (seenFrom s cs) ++ printedOf (seenFrom (bufferAfter s cs) ds)
+unfolding seenFrom bufferAfter printedOf
+printed-append s [] ds = refl
+printed-append s (c ∷ cs) ds =
+    let l = lineIn c (seenIn c (reply c s)) in let t = reply c s .buffer in
+    ap (λ (x : List ℕ). l ++ x) (printed-append t cs ds) ∙ sym (append-assoc l (printedOf (seenFrom t cs)) (printedOf (seenFrom (bufferAfter t cs) ds)))
+
+offers-append : (cs ds : List Call) → othersOf (cs ++ ds) ≡ othersOf cs ++ othersOf ds
+unfolding othersOf
+offers-append [] ds = refl
+offers-append (c ∷ cs) ds = ap (λ (x : List Call). otherIn c ++ x) (offers-append cs ds) ∙ sym (append-assoc (otherIn c) (othersOf cs) (othersOf ds))
+
+typed-append : (cs ds : List Call) → AllTyped cs → AllTyped ds → AllTyped (cs ++ ds)
+typed-append [] ds h k = k
+typed-append (c ∷ cs) ds h k = (h .0, typed-append cs ds (h .1) k)
+
+-- from s to t, with these offers and these bytes printed
+pub record Made (s : List ℕ) (offers : List Call) (printed t : List ℕ) : Type 0 where
+  pub calls : List Call
+  pub typed : AllTyped calls
+  pub offered : othersOf calls ≡ offers
+  pub lines : printed ≡ printedOf (seenFrom s calls)
+  pub buffer : t ≡ bufferAfter s calls
+
+made-none : (s : List ℕ) → Made s [] [] s
+unfolding seenFrom bufferAfter printedOf othersOf
+made-none s = record { calls = []; typed = tt; offered = refl; lines = refl; buffer = refl }
+
+made-one : (s : List ℕ) (c : Call) → Typed c → Made s (otherIn c) (lineIn c (seenIn c (reply c s))) (reply c s .buffer)
+unfolding seenFrom bufferAfter printedOf othersOf
+made-one s c h =
+    record { calls = c ∷ []; typed = (h, tt); offered = append-nil (otherIn c); lines = sym (append-nil (lineIn c (seenIn c (reply c s)))); buffer = refl }
+
+made-then : {s : List ℕ} {os : List Call} {w t : List ℕ} {ps : List Call} {v u : List ℕ} → Made s os w t → Made t ps v u → Made s (os ++ ps) (w ++ v) u
+made-then {s} x y =
+    let b = x .buffer in
+    record {
+      calls = x .calls ++ y .calls;
+      typed = typed-append (x .calls) (y .calls) (x .typed) (y .typed);
+      offered = offers-append (x .calls) (y .calls) ∙ ap₂ _++_ (x .offered) (y .offered);
+      lines = ap₂ _++_ (x .lines) (y .lines ∙ ap (λ (l : List ℕ). printedOf (seenFrom l (y .calls))) b) ∙ sym (printed-append s (x .calls) (y .calls));
+      buffer = y .buffer ∙ ap (λ (l : List ℕ). bufferAfter l (y .calls)) b ∙ sym (buffer-append s (x .calls) (y .calls));
+    }
+
+-- ## From one place to the next
+
+-- a run makes no move, and none of the first k streams has an event to hand out
+pub record Still (k : ℕ) (s : List ℕ) : Type 0 where
+  pub moves : reply (running allMoves) s .moves ≡ 0
+  pub waits : (i : ℕ) → i < k → reply (collecting i) s .number ≡ 0 → ⊥
+
+-- what is known of the state at a place
+abbrev Known : Place → List ℕ → Type 0
+Known (Run busy) s = Unit {0}
+Known (Collect i busy) s = (i < streamLimit) × (busy ≡ false → Still i s)
+Known Rest s = Still streamLimit s
+
+collect-line : (i : ℕ) (busy : Bool) (r : Reply) → collected i busy r .printed ≡ lineIn (collecting i) (seenIn (collecting i) r)
+unfolding collected
+collect-line i busy r = go (eqb (r .number) 0)
+  where
+    go : (b : Bool) → cond b (turn (Collect i true) (eventText i (r .stamp) (r .value)) (r .buffer)) (turn (afterOutput i busy) [] (r .buffer)) .printed ≡ cond b (eventText i (r .stamp) (r .value)) []
+    go true = refl
+    go false = refl
+
+step-made : (p : Place) (s : List ℕ) → Known p s → Made s [] (step p s .printed) (step p s .state)
+unfolding step
+step-made (Run busy) s h = let r = ran-state busy (reply (running allMoves) s) in rw (r .0, r .1) (made-one s (running allMoves) (omega arith))
+step-made (Collect i busy) s h =
+    rw (collect-line i busy (reply (collecting i) s), collected-state i busy (reply (collecting i) s)) (made-one s (collecting i) (let l = h .0 in omega arith))
+step-made Rest s h = made-none s
+
+module _ (s : List ℕ) (f : Fine s) where
+  run-known : (busy : Bool) → Known (ran busy (reply (running allMoves) s) .place) (ran busy (reply (running allMoves) s) .state)
+  run-known busy = go (ℕ-discrete (reply (running allMoves) s .moves) 0)
+    where
+      go : Dec (reply (running allMoves) s .moves ≡ 0) → Known (ran busy (reply (running allMoves) s) .place) (ran busy (reply (running allMoves) s) .state)
+      go (yes e) =
+          rw (ran-rest busy (reply (running allMoves) s) e, run-same s f allMoves e)
+          (omega arith, λ q. record { moves = e; waits = λ i l. absurd (omega arith) })
+      go (no n) = rw (ran-moved busy (reply (running allMoves) s) n) tt
+
+  -- one stream more has nothing to hand out
+  after-known : (i : ℕ) (busy : Bool) → (reply (collecting i) s .number ≡ 0 → ⊥) → Known (Collect i busy) s → Known (afterOutput i busy) s
+  after-known i busy n h = go (decLt (i + 1) streamLimit)
+    where
+      more : (k : ℕ) → k ≤ i + 1 → Still i s → Still k s
+      more k l x = record { moves = x .moves; waits = λ j m. one j (omega arith) (ℕ-discrete j i) }
+        where
+          one : (j : ℕ) → j < i + 1 → Dec (j ≡ i) → reply (collecting j) s .number ≡ 0 → ⊥
+          one j m (yes e) = rw e n
+          one j m (no d) = x .waits j (omega arith)
+
+      round : (b : Bool) → streamLimit ≤ i + 1 → (b ≡ false → Still i s) → Known (roundAfter b) s
+      round true l x = tt
+      round false l x = more streamLimit l (x refl)
+
+      go : Dec (i + 1 < streamLimit) → Known (afterOutput i busy) s
+      go (yes l) = rw (sym (after-next i busy l)) (l, λ q. more (i + 1) (omega arith) (h .1 q))
+      go (no l) = let m : streamLimit ≤ i + 1 = omega arith in rw (sym (after-last i busy m)) (round busy m (h .1))
+
+  collect-known : (i : ℕ) (busy : Bool) → Known (Collect i busy) s → Known (collected i busy (reply (collecting i) s) .place) (collected i busy (reply (collecting i) s) .state)
+  collect-known i busy h = go (ℕ-discrete (reply (collecting i) s .number) 0)
+    where
+      go : Dec (reply (collecting i) s .number ≡ 0) → Known (collected i busy (reply (collecting i) s) .place) (collected i busy (reply (collecting i) s) .state)
+      go (yes e) = rw (collected-event i busy (reply (collecting i) s) e) (h .0, λ q. absurd (true≢false q))
+      go (no n) = rw (collected-none i busy (reply (collecting i) s) n, collect-same s f i n) (after-known i busy n h)
+
+  step-known : (p : Place) → Known p s → Known (step p s .place) (step p s .state)
+  unfolding step
+  step-known (Run busy) h = run-known busy
+  step-known (Collect i busy) h = collect-known i busy h
+  step-known Rest h = h
+
+-- ## From one line to the next
+
+prints-made : {p : Place} {s w : List ℕ} {q : Place} {t : List ℕ} → Prints p s w q t → Fine s → Known p s → Made s [] w t × Known q t
+prints-made {p} {s} here f h = (made-none s, h)
+prints-made (on {p} {s} x) f h = let r = prints-made x (step-fine p s (λ e. f)) (step-known s f p h) in (made-then (step-made p s h) (r .0), r .1)
+
+-- what is printed of an offer is the number of its refusal
+offer-made : (r : Record) (s : List ℕ) → Typed (callOf r) → Made s (callOf r ∷ []) (refusal (reply (callOf r) s .number)) (reply (callOf r) s .buffer)
+offer-made (Reading i t v) s h = made-one s (callOf (Reading i t v)) h
+offer-made (Progress i y) s h = made-one s (callOf (Progress i y)) h
+
+pub replays-made : {s : List ℕ} {rs : List Record} {w t : List ℕ} → Replays s rs w t → Fine s → AllTyped (map callOf rs) → Made s (map callOf rs) w t × Still streamLimit t
+replays-made (ends x) f h = prints-made x f tt
+replays-made (goes {t = t} {r = r} x y) f h =
+    let m = replays-made y (reply-fine (callOf r) t) (h .1) in
+    (made-then (made-then (prints-made x f tt .0) (offer-made r t (h .0))) (m .0), m .1)
