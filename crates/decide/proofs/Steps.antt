@@ -1,9 +1,10 @@
 -- The turns of a search: the candidate of an event, the better of two, and when the reach ends.
-use Prim.Native.Nat.{ℕ, suc, _+_, _<_, _≤_}
+use Prim.Native.Nat.{ℕ, suc, _+_, _<_, _≤_, min}
 use mathlib.Core.Path.{_≡_, refl, sym, ap, _∙_}
 use mathlib.Core.Bool.{Bool, true, false, cond, _&&_}
 use mathlib.Core.List.{List, [], _∷_, map}
 use native.Mathlib.Omega.{arith}
+use native.Mathlib.Decide.{decLt}
 use lib.Dec.{leb, ltb}
 use lib.ListN.{length, getD}
 use borrow.Author.Tests.{lt-ltb, le-ltb, le-leb, lt-leb}
@@ -56,22 +57,53 @@ pub near-le : (g : Bool) (e : Eqn) (o a b : Cell) (c best r : ℕ) → r ≡ nea
 unfolding pick
 near-le g e o a b c best r q = rw q (pick-le (test g e o a b) (o .bound) best (c ∷ []))
 
--- ---- the loop over the slots of a record, from the last down
+-- ---- the candidates in any order
 
-module _ (g : Bool) (e : Eqn) (o a b : Cell) (hi : ℕ) where
-  pub scan-start : (l : List Slot) (n : ℕ) → hi ≡ search g e o a b hi (left l n n)
+module _ (f : ℕ → Bool) (lo : ℕ) where
+  abbrev near : ℕ → ℕ → ℕ
+  near c m = cond (leb lo c && ltb c m && f c) c m
+
+  near-min : (c m : ℕ) → near c m ≡ cond (leb lo c && f c) (min c m) m
+  near-min c m = go (leb lo c) (f c) (decLt c m)
+    where
+      go : (p q : Bool) → Dec (c < m) → cond (p && ltb c m && q) c m ≡ cond (p && q) (min c m) m
+      go false q d = refl
+      go true true (yes l) = rw (lt-ltb c m l) (omega arith)
+      go true true (no l) = let k : m ≤ c = omega arith in rw (le-ltb c m k) (omega arith)
+      go true false (yes l) = rw (lt-ltb c m l)
+      go true false (no l) = let k : m ≤ c = omega arith in rw (le-ltb c m k)
+
+  near-swap : (c d m : ℕ) → near d (near c m) ≡ near c (near d m)
+  near-swap c d m =
+      near-min d (near c m) ∙ ap (λ (x : ℕ). cond (leb lo d && f d) (min d x) x) (near-min c m)
+      ∙ go (leb lo c && f c) (leb lo d && f d)
+      ∙ sym (near-min c (near d m) ∙ ap (λ (x : ℕ). cond (leb lo c && f c) (min c x) x) (near-min d m))
+    where
+      go : (p q : Bool) → cond q (min d (cond p (min c m) m)) (cond p (min c m) m) ≡ cond p (min c (cond q (min d m) m)) (cond q (min d m) m)
+      go true true = omega arith
+      go true false = refl
+      go false true = refl
+      go false false = refl
+
+  -- the first candidate may as well be looked at before the others
+  pick-first : (c m : ℕ) (cs : List ℕ) → pick f lo (near c m) cs ≡ pick f lo m (c ∷ cs)
   unfolding pick
-  scan-start l n = sym (ap (search g e o a b hi) (left-none l n n (omega arith)))
+  pick-first c m [] = refl
+  pick-first c m (d ∷ cs) = ap (near d) (pick-first c m cs) ∙ near-swap c d (pick f lo m cs)
 
-  pub scan-turn : (l : List Slot) (i n x : ℕ) → i < n → n ≤ length l → x ≡ getD l i noSlot .stamp
-      → nearer g e o a b (candidateOf g e o a x) (search g e o a b hi (left l (i + 1) n)) ≡ search g e o a b hi (left l i n)
+-- ---- the loop over the slots of a record, from the first on
+
+module _ (g : Bool) (e : Eqn) (o a b : Cell) where
+  pub scan-end : (l : List Slot) (i n best : ℕ) → n ≤ i → search g e o a b best (left l i n) ≡ best
   unfolding pick
-  scan-turn l i n x h k w =
-      ap (λ (s : ℕ). nearer g e o a b (candidateOf g e o a s) (search g e o a b hi (left l (i + 1) n))) w
-      ∙ sym (ap (search g e o a b hi) (left-more l i n h k))
+  scan-end l i n best h = ap (search g e o a b best) (left-none l i n h)
 
-  pub scan-le : (es : List Event) (r : ℕ) → r ≡ search g e o a b hi es → r ≤ hi
-  scan-le es r q = rw q (pick-le (test g e o a b) (o .bound) hi (map (candidateOf g e o a) (stamps es)))
+  pub scan-turn : (l : List Slot) (i n x c best : ℕ) → i < n → n ≤ length l → x ≡ getD l i noSlot .stamp → c ≡ candidateOf g e o a x
+      → search g e o a b (nearer g e o a b c best) (left l (i + 1) n) ≡ search g e o a b best (left l i n)
+  scan-turn l i n x c best h k w q =
+      ap (λ (y : ℕ). search g e o a b (nearer g e o a b y best) (left l (i + 1) n)) (q ∙ ap (candidateOf g e o a) w)
+      ∙ pick-first (test g e o a b) (o .bound) (candidateOf g e o a (getD l i noSlot .stamp)) best (map (candidateOf g e o a) (stamps (left l (i + 1) n)))
+      ∙ sym (ap (search g e o a b best) (left-more l i n h k))
 
 -- ---- the two tests
 

@@ -98,19 +98,20 @@ fn candidate(give: bool, l: Look, a: &[u8], s: u64) -> u64
     s + 1
 }
 
-// The least candidate of the held events of q that passes, at or above the bound and below hi, or hi.
+// The least candidate of the held events of q that passes, at or above the bound and below hi, or hi. From the oldest event
+// on: once one has passed, later ones are not tested.
 fn scan(give: bool, l: Look, a: &[u8], b: &[u8], q: &[u8], hi: u64) -> u64
     requires { ⌜ Sound l × (length (now a) ≡ 256) × (length (now b) ≡ 256) × (length (now q) ≡ 256) × (hi ≤ horizon) ⌝ }
     ensures { λ r. ⌜ (r ≡ searchIn give l (now (a .entry)) (now (b .entry)) hi (heldOf (decRaw (now (q .entry))))) × (r ≤ hi) ⌝ }
 {
     let n = step::held(q);
     let mut best = hi;
-    let mut i = n;
-    while 0 < i {
-        i -= 1;
+    let mut i = 0;
+    while i < n {
         let stamp = layout::stamp_at(q, i);
         let c = candidate(give, l, a, stamp);
         best = closer(give, l, a, b, c, best);
+        i += 1;
     }
     best
 }

@@ -5,13 +5,14 @@ use mathlib.Core.Bool.{Bool, true, false, not, cond, _&&_}
 use mathlib.Core.List.{List, [], _∷_}
 use native.Mathlib.Omega.{arith}
 use lib.Dec.{ltb, leb, eqb, lit<}
-use lib.ListN.{length}
+use lib.ListN.{length, set}
+use lib.Seq.{set-getD}
 use borrow.Author.Tests.{lt-ltb, le-ltb, eq-eqb, ne-eqb, ltb-true}
 use Rattle.meaning.specs.Events.{horizon}
-use Rattle.machine.specs.State.{room}
+use Rattle.machine.specs.State.{room, Kept}
 use Rattle.machine.specs.Step.{absorb}
 use Rattle.le.specs.Bytes.{Bytes}
-use Rattle.layout.specs.Record.{Slot, Raw, Raws, num, withNum, dropped, encode, decode, rowAt, change, changeAll, opF, aF, bF, countF, boundF}
+use Rattle.layout.specs.Record.{Slot, Raw, Raws, noRaw, num, withNum, dropped, encode, decode, rowAt, change, changeAll, opF, aF, bF, countF, boundF}
 use Rattle.layout.proofs.Laws.{RawOk, RawsOk, raws-ok, row-ok, change-ok, changeAll-ok, num-ok, num-small, whole-then}
 use Rattle.layout.proofs.Slots.{shift-ok}
 use Rattle.look.specs.Look.{lookOf}
@@ -20,6 +21,21 @@ use Rattle.step.specs.Step.{pushed, toldRow, leastRow, waitingRow, below, relea
 use Rattle.step.proofs.Leaves.{push-ok, told-ok}
 use Rattle.moves.specs.Move.{argIn, ownIn, firstIn, secondIn, absorbedRaw, releasedArgs, releasedAll, silentRaw, eventRaw}
 use Rattle.moves.proofs.Fits.{absorbed-fits, kept-ok}
+
+-- ---- a stream that is no last and no delay keeps nothing
+
+kept-none : (k : Kept) (r : Raw) → num opF r < 18 → keptRow k r ≡ r
+unfolding keptRow
+kept-none k r h =
+    let p : num opF r ≡ 18 → ⊥ = λ q. absurd (omega arith) in
+    let l : num opF r ≡ 19 → ⊥ = λ q. absurd (omega arith) in
+    rw (ne-eqb _ _ p, ne-eqb _ _ l)
+
+pub absorb-none : (n i : ℕ) (st : Raws) → num opF (rowAt st i) < 18 → absorbedRaw n i st ≡ st
+unfolding absorbedRaw
+absorb-none n i st h =
+    let k = absorb (ownIn i st .eqn) (ownIn i st) (firstIn n i st) (secondIn n i st) in
+    ap (λ (l : List Raw). record { rows = l; spare = st .spare }) (ap (set (st .rows) i) (kept-none k (rowAt st i) h) ∙ set-getD (st .rows) i noRaw)
 
 -- ---- the records keep within their widths
 

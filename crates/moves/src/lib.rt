@@ -94,14 +94,18 @@ fn kept(state: &[u8], n: usize, i: usize) -> Kept
     absorb::absorbed(&state[at..end], &state[a..a_end], &state[b..b_end])
 }
 
-// Brings what stream i keeps up to date.
+// Brings what stream i keeps up to date: a last or a delay, the others keep nothing.
 fn absorb_row(state: &mut [u8], n: usize, i: usize)
     requires { ⌜ (n * 256 ≤ length (now state)) × (i < n) ⌝ }
     ensures { λ _. ⌜ now (state .exit) ≡ encode n (absorbedRaw n i (decode n (now (state .entry)))) ⌝ }
 {
-    let k = kept(state, n, i);
     let at = i * 256;
     let end = at + 256;
+    let op = layout::byte_at(&state[at..end], 0);
+    if op < 18 {
+        return;
+    }
+    let k = kept(state, n, i);
     absorb::keep(&mut state[at..end], k);
 }
 
