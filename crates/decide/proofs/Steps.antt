@@ -116,11 +116,19 @@ module _ (e : Eqn) (o a b : Cell) (t : ℕ) where
   unfolding test
   test-stop g q = ap (λ (h : Bool). test h e o a b t) (sym q)
 
-  pub stop-last : numberOf e ≡ 18 → has (machine.view b t) ≡ true → ltb (a .bound) t ≡ machine.stops e o a b t
-  stop-last q h = is-last (λ e. ltb (a .bound) t ≡ machine.stops e o a b t) (λ x y. rw h) e q
+  pub go-last : numberOf e ≡ 18 → t ≤ a .bound → false ≡ machine.stops e o a b t
+  go-last q h = is-last (λ e. false ≡ machine.stops e o a b t) (λ x y. rw (le-ltb (a .bound) t h) (none-and (has (machine.view b t)))) e q
+    where
+      none-and : (p : Bool) → false ≡ (p && false)
+      none-and true = refl
+      none-and false = refl
 
-  pub go-last : numberOf e ≡ 18 → has (machine.view b t) ≡ false → false ≡ machine.stops e o a b t
-  go-last q h = is-last (λ e. false ≡ machine.stops e o a b t) (λ x y. rw h) e q
+  pub stop-last : numberOf e ≡ 18 → a .bound < t → has (machine.view b t) ≡ machine.stops e o a b t
+  stop-last q h = is-last (λ e. has (machine.view b t) ≡ machine.stops e o a b t) (λ x y. rw (lt-ltb (a .bound) t h) (and-true (has (machine.view b t)))) e q
+    where
+      and-true : (p : Bool) → p ≡ (p && true)
+      and-true true = refl
+      and-true false = refl
 
   pub stop-delay : (z : ℕ) → numberOf e ≡ 19 → z ≡ machine.point o b t → ltb (a .bound) z ≡ machine.stops e o a b t
   stop-delay z q h = is-delay (λ e. ltb (a .bound) z ≡ machine.stops e o a b t) (λ x y. ap (ltb (a .bound)) h) e q

@@ -30,11 +30,11 @@ fn stops(l: Look, b: &[u8], t: u64) -> bool
     let number = l.number;
     match number {
         18 => {
-            let y = held::find(b, t);
-            if gives::is_some(y) {
-                return l.abound < t;
+            if t <= l.abound {
+                return false;
             }
-            false
+            let y = held::find(b, t);
+            gives::is_some(y)
         }
         19 => {
             let k = l.kept;
