@@ -3,9 +3,14 @@
 ghost use Prim.Native.Nat.{_-_, _<_, _≤_};
 ghost use mathlib.Core.Path.{_≡_};
 ghost use mathlib.Core.Bool.{false};
+ghost use mathlib.Core.List.{List};
 ghost use lib.ListN.{length, take, drop};
+ghost use Rattle.engine.specs.Reply.{reply};
+ghost use Rattle.trace.specs.declared.Record.{Record};
+ghost use Rattle.replaying.specs.Replay.{callOf};
 ghost use Rattle.replaying.specs.Rank.{isRest, rank};
 ghost use Rattle.replay.specs.Within.{within};
+ghost use Rattle.replay.specs.Played.{Goes, Settles, Follows, Offered, Played};
 use libc::STDOUT_FILENO;
 use replaying::Place;
 use trace::Line;
@@ -36,15 +41,18 @@ fn print_refused(number: u32) {
 }
 
 // Offers a record, and prints the number of the refusal if it is refused.
-fn offer(state: &mut [u8], record: Record) {
+fn offer(state: &mut [u8], read: Record)
+    ensures { λ _. ⌜ now (state .exit) ≡ reply (callOf read) (now (state .entry)) .buffer ⌝ }
+{
     let mut out = io::buffer();
-    let end = replaying::offer(state, record, &mut out, 0);
+    let end = replaying::offer(state, read, &mut out, 0);
     io::write_all(STDOUT_FILENO, &out[..end]);
 }
 
 // Goes on from a place for as many events as a buffer holds, and prints them.
 fn print_some(state: &mut [u8], place: Place) -> Place
-    ensures { λ r. ⌜ (isRest place ≡ false → rank r (now (state .exit)) < rank place (now (state .entry))) ⌝ }
+    ensures goes { λ r. ⌜ Goes place (now (state .entry)) r (now (state .exit)) ⌝ }
+    ensures nearer { λ r. ⌜ (isRest place ≡ false → rank r (now (state .exit)) < rank place (now (state .entry))) ⌝ }
 {
     let mut out = io::buffer();
     let stand = replaying::fill(state, place, &mut out);
@@ -54,7 +62,9 @@ fn print_some(state: &mut [u8], place: Place) -> Place
 }
 
 // Runs to rest and prints what is collected, until nothing moves or waits.
-fn settle(state: &mut [u8]) {
+fn settle(state: &mut [u8])
+    ensures { λ _. ⌜ Settles (now (state .entry)) (now (state .exit)) ⌝ }
+{
     let mut place = Place::Run { busy: false };
     while !replaying::is_rest(place) {
         place = print_some(state, place);
@@ -63,7 +73,8 @@ fn settle(state: &mut [u8]) {
 
 // Replays the line at a position. A bad line ends the replay.
 fn replay_line(state: &mut [u8], text: &[u8], at: usize) -> After
-    ensures { λ r. ⌜ within r (length (now (text .entry))) ⌝ }
+    ensures inside { λ r. ⌜ within r (length (now (text .entry))) ⌝ }
+    ensures follows { λ r. ⌜ Follows (now (text .entry)) at (now (state .entry)) r (now (state .exit)) ⌝ }
 {
     let Line::Read(found, next) = trace::read(text, at) else {
         print_refused(BAD_LINE);
@@ -94,7 +105,9 @@ fn ready(fd: i32, buffer: &mut [u8], from: usize, end: usize) -> Window
 
 // Replays the trace line by line. A proved loop has to end, and nothing says that a file does: it counts its lines down, from
 // a number that no trace uses up.
-fn replay_trace(fd: i32, state: &mut [u8]) {
+fn replay_trace(fd: i32, state: &mut [u8])
+    ensures { λ _. ⌜ ((rs : List Record) × Offered (now (state .entry)) rs (now (state .exit))) ⌝ }
+{
     let mut buffer = io::buffer();
     let mut from: usize = 0;
     let mut end: usize = 0;
@@ -150,6 +163,19 @@ fn load(state: &mut [u8]) -> u32 {
     engine::tessla_load(state, &text[..n])
 }
 
+// Settles, and replays the trace. A file that can't be opened counts as empty.
+fn play(state: &mut [u8])
+    ensures { λ _. ⌜ Played (now (state .entry)) (now (state .exit)) ⌝ }
+{
+    settle(state);
+    let fd = open(b"trace.txt");
+    if fd < 0 {
+        return;
+    }
+    replay_trace(fd, state);
+    libc::close(fd);
+}
+
 fn main() {
     let mut state = [0u8; 12288];
     let number = load(&mut state);
@@ -157,11 +183,5 @@ fn main() {
         print_refused(number);
         return;
     }
-    settle(&mut state);
-    let fd = open(b"trace.txt");
-    if fd < 0 {
-        return;
-    }
-    replay_trace(fd, &mut state);
-    libc::close(fd);
+    play(&mut state);
 }

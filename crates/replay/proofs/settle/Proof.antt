@@ -1,39 +1,54 @@
--- `replay::settle` meets its contract.
-use mathlib.Core.Path.{_≡_, refl, sym, _∙_}
+use mathlib.Core.Path.{_≡_, refl, sym, subst, _∙_}
 use Prim.Native.Nat.{_-_}
-use borrow.Author.Tests.{not-true}
+use borrow.Author.Tests.{not-true, not-false}
 use lib.ListN.{length}
+use denote.Ref.{now}
 use Rattle.replaying.specs.Rank.{rank}
+use Rattle.replaying.specs.Replay.{start}
+use Rattle.replay.specs.Played.{Goes}
+use Rattle.replay.proofs.Order
 use borrow.Author.Needs.{needs}
+use native.Mathlib.Omega.{arith}
 use Rattle.replay.proofs.settle.Statement.{statement}
 use Rattle.replay.proofs.settle.Tie as tie
+use Rattle.replay.proofs.settle.Reads as reads
+use Rattle.replay.proofs.settle.Lts as lts
+use Rattle.replay.proofs.print_some.Reads as print-some-reads
+use Rattle.replaying.proofs.is_rest.Reads as is-rest-reads
 
 abbrev Inv-loop : tie.InvT-loop
-Inv-loop state₀ place₀ state place = length state ≡ length state₀
+Inv-loop state₀ place₀ state place = (length state ≡ length state₀) × Goes start state₀ place state
 
 abbrev μ-loop : tie.MeasureT-loop
 μ-loop state₀ place₀ state place = rank place state
 
+-- src/main.rt:69:5
 loop-holds : tie.Need-loop-holds Inv-loop μ-loop
-loop-holds c = refl
+loop-holds c = (refl, Order.goes-here start (now (c .before .args .state)))
 
+-- src/main.rt:69:12
 is-rest-requires : tie.Need-is-rest-requires Inv-loop μ-loop
 is-rest-requires c κs = search needs
 
+-- src/main.rt:70:9
 print-some-requires : tie.Need-print-some-requires Inv-loop μ-loop
 print-some-requires c κs = search needs
 
+-- src/main.rt:69:5
 loop-less : tie.Need-loop-less Inv-loop μ-loop
-loop-less c = c .before .before .print-some .ensures (sym (c .before .before .before .before .before .is-rest .ensures) ∙ not-true (c .before .before .before .before .before .is-rest .result) (c .before .before .before .before .if1 .taken))
+loop-less c = c .before .before .print-some .ensures .1 (sym (c .before .before .before .before .before .is-rest .ensures) ∙ not-true (c .before .before .before .before .before .is-rest .result) (c .before .before .before .before .if1 .taken))
 
+-- src/main.rt:69:5
 loop-again : tie.Need-loop-again Inv-loop μ-loop
-loop-again c = c .before .before .print-some .kept .0 ∙ c .before .before .before .before .before .before .loop .inv
+loop-again c = (c .before .before .print-some .kept .0 ∙ c .before .before .before .before .before .before .loop .inv .0, Order.goes-on (c .before .before .before .before .before .before .loop .inv .1) (c .before .before .print-some .ensures .0))
 
+-- src/main.rt:65:1
 same-length : tie.Need-same-length Inv-loop μ-loop
-same-length c = c .before .before .loop .inv
+same-length c = c .before .before .loop .inv .0
 
+-- src/main.rt:65:1
 returns : tie.Need-returns Inv-loop μ-loop
-returns c = search needs
+returns c = Order.goes-rest (c .before .before .loop .place) (sym (c .before .is-rest .ensures) ∙ not-false (c .before .is-rest .result) (c .if1 .left)) (c .before .before .loop .inv .1)
 
 pub settle-spec : {M : Type 1} → statement M
 settle-spec =
