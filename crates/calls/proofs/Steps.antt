@@ -1,14 +1,12 @@
 -- The steps of collect one after the other.
-use Prim.Native.Nat.{ℕ, _+_, _*_, _^_, _<_, _≤_}
-use mathlib.Core.Path.{_≡_, refl, sym, ap, _∙_}
+use Prim.Native.Nat.{ℕ, _+_, _<_}
+use mathlib.Core.Path.{_≡_}
 use mathlib.Core.List.{List}
 use native.Mathlib.Omega.{arith}
-use lib.Dec.{lit<}
-use lib.ListN.{length, getD}
 use Rattle.le.specs.Bytes.{Bytes}
-use Rattle.le.proofs.RoundTrip.{All, all-at}
-use Rattle.layout.specs.Record.{Slot, Raw, Raws, noSlot, num, withNum, slotAt, encRaw, decRaw, encode, decode, rowAt, change, nextF}
-use Rattle.layout.proofs.Laws.{RawOk, SlotOk, raw-ok, raws-ok, row-ok, change-ok, num-ok, whole-then}
+use Rattle.le.proofs.RoundTrip.{all-at}
+use Rattle.layout.specs.Record.{Raw, noSlot, withNum, slotAt, encode, decode, rowAt, change, nextF}
+use Rattle.layout.proofs.Laws.{RawOk, SlotOk, raws-ok, row-ok, change-ok, num-ok, whole-then}
 use Rattle.step.specs.Step.{releasedRow}
 use Rattle.calls.specs.Numbers.{collectedRaw}
 

@@ -1,30 +1,28 @@
 -- A sound cell's record keeps within its widths, and is read back as the cell.
-use Prim.Native.Nat.{ℕ, zero, suc, _+_, _*_, _-_, _^_, _<_, _≤_, min}
+use Prim.Native.Nat.{ℕ, zero, suc, _-_, _^_, _<_, _≤_, min}
 use mathlib.Core.Path.{_≡_, refl, sym, ap, ap₂, _∙_}
-use mathlib.Core.List.{List, [], _∷_, _++_, map}
-use mathlib.Core.Bool.{Bool, true, false, not, cond}
+use mathlib.Core.List.{List, [], _∷_, map}
+use mathlib.Core.Bool.{Bool, true, false, not}
 use mathlib.Core.Option.{Option, none, some}
 use native.Mathlib.Omega.{arith}
-use native.Mathlib.Nat.{lt-of-lt-of-le}
-use lib.Dec.{eqb, lit<, T}
+use lib.Dec.{eqb, lit<}
 use lib.IntN.{ℤ, pos, negsuc}
-use lib.Signed.{mag}
-use lib.ListN.{length, getD, take, drop, replicate, length-map}
+use lib.ListN.{length, take}
 use mir.Syntax.{w64}
-use mir.Val.{ofZ, toZ, SFits}
+use mir.Val.{ofZ, toZ}
 use mir.Facts.{toZ-ofZ}
-use Rattle.meaning.specs.Plan.{Unary, time, neg, plus, Calc, add, sub, mul, div, rem, lt, le, eq, Binary, calc, keep, merge, Eqn, input, nil, unit, one, two, last, delay, reads}
+use Rattle.meaning.specs.Plan.{Unary, time, neg, plus, add, sub, mul, div, rem, lt, le, eq, Binary, calc, keep, merge, Eqn, input, nil, unit, one, two, last, delay, reads}
 use Rattle.meaning.specs.Plan as plan
 use Rattle.meaning.specs.Events.{Event, ev, horizon}
 use Rattle.machine.specs.State.{Kept, Cell, room, noKept}
 use Rattle.operators.specs.Operators.{numberOf, firstOf, secondOf, valueOf, eqnOf}
 use Rattle.operators.proofs.Laws.{eqn-back}
-use Rattle.le.proofs.RoundTrip.{All, Small}
-use Rattle.layout.specs.Record.{Slot, Raw, noSlot, num, headWidths, opF, countF}
+use Rattle.le.proofs.RoundTrip.{All}
+use Rattle.layout.specs.Record.{noSlot}
 use Rattle.layout.proofs.Laws.{RawOk, SlotOk}
 use Rattle.cells.specs.View.{flag, flagOf, bitsOf, KeptNums, keptNums, slotOf, padTo, rawOf, ofCell}
 use Rattle.cells.specs.Back.{optional, eventOf, heldOf, keptOf, toCell}
-use Rattle.cells.specs.Sound.{IsValue, IsOptional, AllBelow, Rising, IsNext, LastKept, DelayKept, IsKept, SoundCell}
+use Rattle.cells.specs.Sound.{IsValue, IsOptional, AllBelow, Rising, IsNext, IsKept, SoundCell}
 
 -- ---- numbers below their widths
 

@@ -9,7 +9,7 @@ use lib.Dec.{leb, ltb}
 use lib.ListN.{length, getD}
 use borrow.Author.Tests.{lt-ltb, le-ltb, le-leb, lt-leb}
 use Rattle.meaning.specs.Plan.{Eqn, input, nil, unit, one, two, last, delay}
-use Rattle.meaning.specs.Events.{Event, has}
+use Rattle.meaning.specs.Events.{has}
 use Rattle.machine.specs.State.{Cell}
 use Rattle.machine.specs.Reach as machine
 use Rattle.operators.specs.Operators.{numberOf}

@@ -1,18 +1,14 @@
 -- The answers of load, case by case.
 use Prim.Native.Nat.{ℕ}
 use mathlib.Core.Path.{_≡_, sym, _∙_}
-use mathlib.Core.Bool.{true, cond}
 use mathlib.Core.List.{List}
-use lib.Dec.{eqb}
 use lib.ListN.{length}
 use borrow.Author.Tests.{eq-eqb, ne-eqb}
-use Rattle.machine.specs.State.{loaded}
-use Rattle.cells.specs.View.{bytesOf}
 use Rattle.valid.specs.Valid.{stateLength}
-use Rattle.plan.specs.Rules.{number, declared}
+use Rattle.plan.specs.Rules.{number}
 use Rattle.load.specs.Filled.{filled}
 use Rattle.load.proofs.Taken.{taken-filled}
-use Rattle.engine.specs.Reply.{Reply, notState}
+use Rattle.engine.specs.Reply.{notState}
 use Rattle.engine.specs.Load.{loadOf, loadReply}
 
 module _ (text s : List ℕ) where

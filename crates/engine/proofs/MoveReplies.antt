@@ -1,17 +1,17 @@
 -- The answers of move and run, case by case.
-use Prim.Native.Nat.{ℕ, zero, suc, _+_, _*_, _<_, _≤_}
+use Prim.Native.Nat.{ℕ, _<_}
 use mathlib.Core.Path.{_≡_, refl, sym, ap, ap₂, _∙_}
-use mathlib.Core.List.{List, [], _∷_}
+use mathlib.Core.List.{List}
 use mathlib.Core.Bool.{Bool, true, false, not, cond}
 use native.Mathlib.Omega.{arith}
 use lib.Dec.{ltb, eqb}
-use lib.IntN.{ℤ, pos}
+use lib.IntN.{pos}
 use lib.ListN.{length}
-use borrow.Author.Tests.{lt-ltb, le-ltb, ltb-true, ltb-false, not-false}
+use borrow.Author.Tests.{ltb-true}
 use Rattle.meaning.specs.Plan.{isInput}
-use Rattle.machine.specs.State.{Cell, State, cellAt}
+use Rattle.machine.specs.State.{cellAt}
 use Rattle.machine.specs.Step.{canMove, comesIn, move}
-use Rattle.machine.specs.Calls.{Call, moving, running, Outcome, refused, done, unless, arrivals, noEquation, moveOne, run, call}
+use Rattle.machine.specs.Calls.{moving, running, refused, done, arrivals, noEquation, moveOne, run, call}
 use Rattle.machine.proofs.Outcomes.{run-number}
 use Rattle.le.specs.Bytes.{Bytes}
 use Rattle.layout.specs.Record.{Raw, Raws, num, encode, decode, rowAt, opF}

@@ -1,11 +1,11 @@
 -- The answers of the offers and of collect, case by case.
-use Prim.Native.Nat.{ℕ, zero, suc, _+_, _*_, _-_, _^_, _<_, _≤_}
+use Prim.Native.Nat.{ℕ, suc, _*_, _-_, _<_, _≤_}
 use mathlib.Core.Path.{_≡_, refl, sym, ap, ap₂, _∙_}
 use mathlib.Core.List.{List, [], _∷_, map}
 use mathlib.Core.Bool.{Bool, true, false, not, cond}
 use mathlib.Core.Option.{Option, none, some}
 use native.Mathlib.Omega.{arith}
-use lib.Dec.{ltb, leb, eqb, T}
+use lib.Dec.{ltb, leb}
 use lib.IntN.{ℤ, pos}
 use lib.ListN.{length, getD, set, length-set, length-map}
 use borrow.Author.Tests.{ltb-true, ltb-false, leb-false, not-false}
@@ -17,20 +17,19 @@ use Rattle.machine.specs.State.{Cell, State, cellAt, room, withBound, withNext}
 use Rattle.machine.specs.Step.{advance, absorbed, write, told, tell, release, releases, raise}
 use Rattle.machine.specs.Calls.{Call, reading, progress, collecting, Outcome, refused, unless, done, arrivals, noInput, offerReading, offerProgress, oldest, handOut, collect, call}
 use Rattle.le.specs.Bytes.{Bytes}
-use Rattle.layout.specs.Record.{Slot, Raw, Raws, noSlot, encode, decode, rowAt, slotAt, change, withNum, boundF}
+use Rattle.layout.specs.Record.{Slot, Raws, noSlot, encode, decode, rowAt, slotAt, change, withNum, boundF}
 use Rattle.cells.specs.View.{slotOf, padTo, ofCell, rawsOf, bytesOf}
-use Rattle.cells.specs.Back.{stateOf}
 use Rattle.cells.specs.Sound.{IsValue, Rising, SoundCell, Sound}
 use Rattle.cells.proofs.Widths.{value-back}
 use Rattle.valid.specs.Valid.{stateLength, count, valid}
-use Rattle.state.proofs.Whole.{ValidFacts, valid-facts, state-length, decoded, valid-bytes, valid-sound}
+use Rattle.state.proofs.Whole.{valid-facts, state-length, decoded, valid-bytes, valid-sound}
 use Rattle.step.specs.Step.{offered}
 use Rattle.calls.specs.Numbers.{readingRaw, progressRaw, waitingSlot, collectRaw, collectedRaw}
 use Rattle.refine.proofs.Whole.{row-of}
 use Rattle.refine.proofs.Calls.{absent-at, reading-number, progress-number, progress-of, step-of}
 use Rattle.refine.proofs.Collects.{Waiting, nothing, waits, waiting-is, slot-in, collect-number, collect-of}
 use Rattle.state.specs.In.{stateIn}
-use Rattle.engine.specs.Reply.{Reply, notState, replyOf, reply}
+use Rattle.engine.specs.Reply.{notState, replyOf, reply}
 
 -- ---- number 15
 

@@ -1,5 +1,5 @@
 -- The whole theorem, over bytes: any history of loads and calls on a lent buffer.
-use Prim.Native.Nat.{ℕ, zero, suc, _^_, _<_, _≤_}
+use Prim.Native.Nat.{ℕ, zero, suc, _<_}
 use mathlib.Core.Path.{_≡_, refl, sym, ap, ap₂, _∙_, subst}
 use mathlib.Core.Bool.{Bool, true, false, cond}
 use mathlib.Core.Option.{Option, none, some}
@@ -11,7 +11,7 @@ use borrow.Author.Tests.{eqb-true, eqb-false, ne-eqb}
 use Rattle.meaning.specs.Plan.{reads, eqnAt}
 use Rattle.meaning.proofs.CycleTest.{test-sound}
 use Rattle.machine.specs.State.{Declared, State, loaded}
-use Rattle.machine.specs.Calls.{Call, reading, progress, moving, running, collecting, Outcome, call}
+use Rattle.machine.specs.Calls.{Call, reading, progress, moving, running, collecting, call}
 use Rattle.runs.specs.History.{Seen, seenOf, Typed, AllTyped, after, log}
 use Rattle.runs.specs.Claim as claim
 use Rattle.runs.specs.Claim.{Keeps}
@@ -25,13 +25,13 @@ use Rattle.valid.specs.Valid.{stateLength, valid}
 use Rattle.state.specs.In.{stateIn}
 use Rattle.state.proofs.Whole.{bytes-valid}
 use Rattle.plan.specs.Rules.{number, declared}
-use Rattle.plan.specs.Taken.{StreamKeeps, Each, KeepsRules}
+use Rattle.plan.specs.Taken.{Each, KeepsRules}
 use Rattle.plan.proofs.Taken.{taken-rendered}
 use Rattle.load.proofs.Fresh.{loaded-sound}
 use Rattle.state.proofs.In.{bytes-in}
 use Rattle.engine.specs.Reply.{Reply, notState, replyOf, reply}
 use Rattle.engine.specs.Load.{loadOf, loadReply}
-use Rattle.engine.specs.History.{Act, load, make, answer, left, seenIn, Since, noted, since, TypedAct, AllTypedActs, Holds, HoldsOf}
+use Rattle.engine.specs.History.{Act, load, make, answer, left, seenIn, Since, noted, since, TypedAct, AllTypedActs, HoldsOf}
 
 -- ---- a plan that keeps the written rules is one that the theorem on runs speaks of
 

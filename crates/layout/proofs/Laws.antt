@@ -1,18 +1,17 @@
 -- Laws of the raw state's bytes.
 use Prim.Native.Nat.{ℕ, zero, suc, _+_, _*_, _-_, _^_, _<_, _≤_}
 use mathlib.Core.Path.{_≡_, refl, sym, ap, ap₂, _∙_}
-use mathlib.Core.List.{List, [], _∷_, _++_, map, append-nil, append-assoc}
+use mathlib.Core.List.{List, _++_, append-assoc}
 use native.Mathlib.Omega.{arith}
 use native.Mathlib.Nat.{add-zero}
-use lib.Dec.{lit<, lit≤}
 use borrow.Rule.Slice.PartMut.{midOf, putMid}
-use lib.ListN.{length, getD, take, drop, set, length-set, length-map, length-append, length-drop, take-append-drop}
-use lib.Seq.{sets, sets-eq, length-take-le, drop-drop, take-at, drop-at, getD-set-same, set-set, set-getD}
+use lib.ListN.{length, getD, take, drop, length-set, length-map, length-append, length-drop, take-append-drop}
+use lib.Seq.{sets, sets-eq, length-take-le, drop-drop, take-at, drop-at}
 use Rattle.le.specs.Bytes.{le, enc, part, Bytes}
-use Rattle.le.proofs.Laws.{length-enc, le-enc, take-bytes, drop-bytes, part-below}
+use Rattle.le.proofs.Laws.{length-enc, take-bytes, drop-bytes, part-below}
 use Rattle.le.specs.Layout.{encFields, decFields, encRows, decRows, total, offset}
-use Rattle.layout.specs.Record.{Slot, Raw, Raws, noSlot, noRaw, headWidths, slotWidths, slotNums, num, withNum, withSlots, encSlot, decSlot, encRaw, decRaw, encode, decode, rowAt, change, changeAll}
-use Rattle.le.proofs.Fields.{sets-left, sets-right, sets-whole, length-fields, fields-set, fields-dec, length-rows, rows-set, rows-dec, length-decRows, rows-get, fields-get, part-part}
+use Rattle.layout.specs.Record.{Slot, Raw, Raws, noSlot, noRaw, headWidths, slotWidths, slotNums, num, withNum, encSlot, decSlot, encRaw, decRaw, encode, decode, rowAt, change, changeAll}
+use Rattle.le.proofs.Fields.{sets-left, sets-whole, length-fields, fields-set, fields-dec, length-rows, rows-set, rows-dec, length-decRows, rows-get, fields-get, part-part}
 use Rattle.le.proofs.RoundTrip.{All, Small, fields-enc, rows-enc, fields-small, nums-len, small-set, small-at, rows-all, all-at, all-set, all-map}
 
 -- ---- lengths

@@ -1,15 +1,14 @@
 -- Loops over rows: one turn each, in the form "what is left decides".
-use Prim.Native.Nat.{ℕ, zero, suc, _+_, _*_, _-_, _<_, _≤_}
+use Prim.Native.Nat.{ℕ, suc, _+_, _*_, _-_, _<_, _≤_}
 use mathlib.Core.Path.{_≡_, refl, sym, ap, ap₂, _∙_}
-use mathlib.Core.List.{List, [], _∷_, _++_, map, append-assoc}
+use mathlib.Core.List.{List, _++_, append-assoc}
 use native.Mathlib.Omega.{arith}
-use native.Mathlib.Nat.{zero-mul, suc-mul}
 use borrow.Rule.Slice.PartMut.{midOf, putMid, mid-len}
-use lib.ListN.{length, getD, take, drop, length-append, length-drop}
-use lib.Seq.{length-take-le, take-take, drop-drop, take-at, drop-at, drop-cons, take-nil}
-use Rattle.le.specs.Layout.{encRows, decRows, eachRow}
+use lib.ListN.{length, take, drop, length-append}
+use lib.Seq.{length-take-le, take-at, drop-at}
+use Rattle.le.specs.Layout.{eachRow}
 use Rattle.le.proofs.RoundTrip.{each-rows}
-use Rattle.layout.specs.Record.{Raw, Raws, noRaw, encRaw, decRaw, encode, decode, changeAll}
+use Rattle.layout.specs.Record.{Raw, noRaw, encRaw, decRaw, encode, decode, changeAll}
 
 -- rows i to i + n - 1 changed by g
 abbrev pub left : (List ℕ → List ℕ) → ℕ → ℕ → List ℕ → List ℕ

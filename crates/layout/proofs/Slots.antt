@@ -1,18 +1,18 @@
 -- Laws of the slots of a record.
-use Prim.Native.Nat.{ℕ, zero, suc, _+_, _*_, _-_, _^_, _<_, _≤_}
+use Prim.Native.Nat.{ℕ, zero, suc, _+_, _*_, _-_, _<_, _≤_}
 use mathlib.Core.Path.{_≡_, refl, sym, ap, ap₂, _∙_}
 use mathlib.Core.List.{List, [], _∷_, _++_, append-nil, append-assoc}
 use native.Mathlib.Omega.{arith}
-use native.Mathlib.Nat.{add-zero, zero-mul, suc-mul}
+use native.Mathlib.Nat.{add-zero}
 use lib.Dec.{lit<, lit≤}
 use lib.ListN.{length, getD, take, drop, set, replicate, length-replicate, length-append, length-drop, length-set, take-append-drop}
-use lib.Seq.{sets, sets-eq, length-take-le, drop-drop, take-all, drop-at, take-at, drop-append-add, drop-append-le, length-sets}
+use lib.Seq.{sets, length-take-le, drop-drop, take-at, drop-append-add, drop-append-le}
 use Rattle.le.specs.Bytes.{le, enc, part, Bytes}
 use Rattle.le.proofs.Laws.{length-enc}
-use Rattle.le.specs.Layout.{encFields, decFields, encRows, decRows, total, offset}
-use Rattle.layout.specs.Record.{Slot, Raw, noSlot, headWidths, slotWidths, withSlots, withSlot, shifted, dropped, encSlot, decSlot, encRaw, decRaw}
-use Rattle.le.proofs.Fields.{sets-left, sets-right, sets-whole, length-rows, rows-set, rows-get, fields-get, part-part, length-decRows}
-use Rattle.layout.proofs.Laws.{SlotOk, RawOk, slot-len, head-len, slots-len, raw-len, leaf-none, raw-ok}
+use Rattle.le.specs.Layout.{encFields, decFields, encRows}
+use Rattle.layout.specs.Record.{Slot, Raw, noSlot, headWidths, withSlots, withSlot, shifted, dropped, encSlot, decSlot, encRaw, decRaw}
+use Rattle.le.proofs.Fields.{sets-left, sets-right, sets-whole, length-rows, rows-set, rows-get, part-part, length-decRows}
+use Rattle.layout.proofs.Laws.{SlotOk, RawOk, slot-len, head-len, leaf-none, raw-ok}
 use Rattle.le.proofs.RoundTrip.{All, all-set, rows-split, rows-drop, sets-append}
 
 -- a store in the slots' bytes

@@ -1,8 +1,8 @@
 -- Laws of stores into bytes that lie by a layout: one for every field, one for every row.
 use Prim.Native.Nat.{ℕ, zero, suc, _+_, _*_, _<_, _≤_}
-use mathlib.Core.Path.{_≡_, refl, sym, ap, ap₂, _∙_, subst}
+use mathlib.Core.Path.{_≡_, refl, sym, ap, ap₂, _∙_}
 use mathlib.Core.List.{List, [], _∷_, _++_}
-use native.Mathlib.Nat.{zero-add, zero-mul, suc-mul, add-assoc, le-add-right, le-of-suc-le-suc}
+use native.Mathlib.Nat.{zero-add, zero-mul, suc-mul, le-of-suc-le-suc}
 use native.Mathlib.Omega.{arith}
 use lib.ListN.{length, getD, take, drop, set, length-append, length-set, length-drop, take-append-drop}
 use lib.Seq.{sets, set-append-left, length-take-le, take-take, drop-drop}

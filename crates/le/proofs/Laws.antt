@@ -1,12 +1,11 @@
 -- Laws of little-endian numbers and of runs of bytes.
 use Prim.Native.Nat.{ℕ, zero, suc, _+_, _*_, _/_, _%_, _^_, _<_, _≤_, _-_}
-use mathlib.Core.Path.{_≡_, refl, sym, ap, ap₂, _∙_, subst}
-use mathlib.Core.List.{List, [], _∷_, _++_}
-use native.Mathlib.Nat.{div-add-mod, mod-lt, mod-eq-of-lt, add-mul-div-left, add-mul-mod-self-left, div-eq-of-lt, div-lt-iff-lt-mul, pow-suc, add-zero, mul-lt-mul-of-pos-left, lt-of-lt-of-le, le-trans, pow-le-pow-right, sub-zero}
+use mathlib.Core.Path.{_≡_, refl, sym, ap, ap₂, _∙_}
+use mathlib.Core.List.{List, [], _∷_}
+use native.Mathlib.Nat.{mod-lt, div-lt-iff-lt-mul, pow-suc, add-zero, lt-of-lt-of-le, pow-le-pow-right, sub-zero}
 use native.Mathlib.Omega.{arith}
-use native.Mathlib.Numerals.{add-one}
 use lib.ListN.{length, getD, take, drop, set, replicate, length-take, length-set}
-use lib.Seq.{getD-drop, getD-take, drop-cons, sets, drop-set-lt, length-sets}
+use lib.Seq.{getD-drop, drop-cons, sets, drop-set-lt, length-sets}
 use lib.Dec.{lit<, lit≤}
 use Rattle.le.specs.Bytes.{le, enc, part, Bytes}
 

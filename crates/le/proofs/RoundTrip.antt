@@ -4,11 +4,11 @@ use mathlib.Core.Path.{_≡_, refl, sym, ap, ap₂, _∙_}
 use mathlib.Core.List.{List, [], _∷_, _++_, map, append-assoc}
 use native.Mathlib.Omega.{arith}
 use native.Mathlib.Nat.{add-zero, zero-add, zero-mul, suc-mul}
-use lib.ListN.{length, getD, take, drop, set, length-append, drop-of-length-le}
+use lib.ListN.{length, getD, take, drop, set, drop-of-length-le}
 use lib.Seq.{sets, take-at, drop-at, drop-drop, take-take, take-nil, drop-cons, drop-append-add}
-use Rattle.le.specs.Bytes.{le, enc, part, Bytes}
+use Rattle.le.specs.Bytes.{le, enc, Bytes}
 use Rattle.le.proofs.Laws.{length-enc, le-enc, take-bytes, drop-bytes, part-below}
-use Rattle.le.specs.Layout.{encFields, decFields, encRows, decRows, total, offset, eachRow, fold}
+use Rattle.le.specs.Layout.{encFields, decFields, encRows, decRows, eachRow, fold}
 
 -- ---- numbers within their widths
 

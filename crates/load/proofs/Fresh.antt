@@ -1,14 +1,14 @@
 -- The state that load fills is sound.
-use Prim.Native.Nat.{ℕ, zero, suc, _<_, _≤_}
-use mathlib.Core.Path.{_≡_, refl, sym, ap, _∙_, subst}
+use Prim.Native.Nat.{ℕ, zero, suc, _<_}
+use mathlib.Core.Path.{_≡_, refl, ap, _∙_, subst}
 use mathlib.Core.Bool.{Bool, true, false, _&&_}
 use mathlib.Core.List.{List, [], _∷_, map}
 use native.Mathlib.Omega.{arith}
 use lib.Dec.{T}
-use lib.ListN.{length, getD}
+use lib.ListN.{length}
 use Rattle.meaning.specs.Plan.{Eqn, input, nil, unit, one, two, last, delay, isInput, reads, Plan}
 use Rattle.meaning.specs.Cycle.{acyclic}
-use Rattle.machine.specs.State.{Cell, State, Declared, noKept, fresh, loaded, absent, cellAt}
+use Rattle.machine.specs.State.{Declared, noKept, fresh, loaded, cellAt}
 use Rattle.machine.specs.State as state
 use Rattle.operators.specs.Limits.{streamLimit}
 use Rattle.cycle.specs.Graph as graph

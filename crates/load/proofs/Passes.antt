@@ -3,12 +3,11 @@ use Prim.Native.Nat.{ℕ, zero, suc, _+_, _*_, _-_, _^_, _<_, _≤_, _%_}
 use mathlib.Core.Path.{_≡_, refl, sym, ap, _∙_}
 use mathlib.Core.List.{List}
 use native.Mathlib.Omega.{arith}
-use native.Mathlib.Nat.{mod-lt}
 use lib.ListN.{length}
 use borrow.Rule.Slice.PartMut.{midOf, putMid}
 use Rattle.le.specs.Bytes.{Bytes}
-use Rattle.layout.specs.Record.{Raw, Raws, withNum, rowAt, change, encRaw, decRaw, encode, decode, opF, aF, bF, outF, kF}
-use Rattle.layout.proofs.Laws.{RawOk, RawsOk, raw-ok, raws-ok, num-ok, leaf-then, row-ok, change-ok, lent, decode-encode}
+use Rattle.layout.specs.Record.{Raw, Raws, withNum, rowAt, change, encRaw, decRaw, decode, opF, aF, bF, outF, kF}
+use Rattle.layout.proofs.Laws.{RawOk, raw-ok, raws-ok, num-ok, leaf-then, row-ok, change-ok, lent, decode-encode}
 use Rattle.text.specs.declared.Fields.{Fields}
 use Rattle.text.specs.declared.Lines.{Lines}
 use Rattle.text.specs.declared.Lines.the-variants as Lines

@@ -1,14 +1,14 @@
 -- The plan part of number 15: the plans of valid states are just those that a taken text gives.
-use Prim.Native.Nat.{ℕ, zero, suc, _<_, _≤_}
-use mathlib.Core.Path.{_≡_, refl, sym, ap, ap₂, _∙_, subst}
+use Prim.Native.Nat.{ℕ, suc, _<_}
+use mathlib.Core.Path.{_≡_, refl, ap, _∙_}
 use mathlib.Core.Bool.{Bool, true, false, _&&_}
 use mathlib.Core.List.{List, [], _∷_, map}
 use native.Mathlib.Omega.{arith}
 use lib.Dec.{T}
-use lib.ListN.{length, getD, length-map}
+use lib.ListN.{length, length-map}
 use Rattle.meaning.specs.Plan.{isInput, reads, Plan}
 use Rattle.meaning.specs.Cycle.{acyclic}
-use Rattle.machine.specs.State.{Cell, State, Declared, fresh, loaded, cellAt}
+use Rattle.machine.specs.State.{Cell, State, Declared, loaded, cellAt}
 use Rattle.machine.specs.State as state
 use Rattle.operators.specs.Limits.{streamLimit}
 use Rattle.cycle.specs.Graph as graph

@@ -1,12 +1,11 @@
 -- A taken text fills the state with the streams that it declares: a sound state, of a plan that keeps the rules.
-use Prim.Native.Nat.{ℕ, zero, suc, _+_, _*_, _-_, _^_, _<_, _≤_, _%_}
-use mathlib.Core.Path.{_≡_, refl, sym, ap, ap₂, _∙_, subst}
-use mathlib.Core.Bool.{Bool, true, false, _&&_}
-use mathlib.Core.Option.{none}
-use mathlib.Core.List.{List, [], _∷_, _++_, map, append-assoc, append-nil}
+use Prim.Native.Nat.{ℕ, zero, suc, _+_, _*_, _-_, _≤_, _%_}
+use mathlib.Core.Path.{_≡_, refl, sym, ap, ap₂, _∙_}
+use mathlib.Core.Bool.{true}
+use mathlib.Core.List.{List, [], _∷_, _++_, map, append-assoc}
 use native.Mathlib.Omega.{arith}
 use native.Mathlib.Nat.{mod-eq-of-lt}
-use lib.Dec.{eqb, T}
+use lib.Dec.{eqb}
 use lib.ListN.{length, getD, set, replicate, length-map, length-append, length-replicate, replicate-append-replicate}
 use mir.Syntax.{w64}
 use mir.Val.{ofZ, toZ}
@@ -14,11 +13,10 @@ use mir.Facts.{ofZ-toZ}
 use Rattle.le.specs.Bytes.{Bytes, le}
 use Rattle.le.specs.Layout.{encRows, decFields, decRows}
 use Rattle.le.proofs.RoundTrip.{All}
-use Rattle.layout.specs.Record.{Raw, Raws, Slot, noSlot, noRaw, withNum, change, encRaw, decRaw, decSlot, encode, decode}
-use Rattle.layout.proofs.Laws.{RawOk, RawsOk, raw-ok, raw-dec, decode-encode}
-use Rattle.meaning.specs.Plan.{Eqn, input, nil, unit, one, two, last, delay, isInput, reads, eqnAt}
-use Rattle.meaning.proofs.CycleTest.{test-sound}
-use Rattle.machine.specs.State.{Cell, State, Declared, noKept, fresh, loaded, cellAt}
+use Rattle.layout.specs.Record.{Raw, Raws, noSlot, noRaw, change, encRaw, decRaw, decSlot, encode, decode}
+use Rattle.layout.proofs.Laws.{RawOk, raw-ok, raw-dec, decode-encode}
+use Rattle.meaning.specs.Plan.{Eqn, input, nil, unit, one, two, last, delay}
+use Rattle.machine.specs.State.{State, Declared, noKept, fresh, loaded}
 use Rattle.operators.specs.Operators.{numberOf, firstOf, secondOf, valueOf}
 use Rattle.operators.specs.Limits.{streamLimit}
 use Rattle.operators.proofs.Laws.{number-back}
@@ -29,13 +27,12 @@ use Rattle.text.specs.declared.Fields.{Fields}
 use Rattle.text.specs.declared.Lines.{Lines}
 use Rattle.text.specs.declared.Lines.the-variants as Lines
 use Rattle.text.specs.declared.Head.{Head}
-use Rattle.text.specs.Grammar.{stream, head}
+use Rattle.text.specs.Grammar.{stream}
 use Rattle.render.proofs.Heads.{head-fits}
 use Rattle.plan.specs.Rules.{keeps, allKeep, formed, streams, eqnFrom, declaredFrom, declared, number}
 use Rattle.plan.proofs.Forms.{fieldsIn}
-use Rattle.plan.proofs.Noted.{read-sound}
 use Rattle.plan.proofs.Noted as noted
-use Rattle.plan.proofs.Taken.{value-of, first-of, second-of, Parts, taken-parts, parts-declared}
+use Rattle.plan.proofs.Taken.{value-of, first-of, second-of, taken-parts, parts-declared}
 use Rattle.plan.proofs.Second.{none-refused, next-read, Stored, taken-stored}
 use Rattle.load.specs.Filled.{stored, next, written, filled, filledHead}
 

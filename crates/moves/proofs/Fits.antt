@@ -1,25 +1,24 @@
 -- What is brought up to date keeps within the widths of the record's fields.
-use Prim.Native.Nat.{ℕ, zero, suc, pred, _+_, _-_, _^_, _<_, _≤_, min, max}
-use mathlib.Core.Path.{_≡_, refl, sym, ap, _∙_}
+use Prim.Native.Nat.{ℕ, zero, suc, pred, _-_, _^_, _<_, _≤_, min}
 use mathlib.Core.Bool.{Bool, true, false, cond}
 use mathlib.Core.Option.{Option, none, some}
 use mathlib.Core.List.{List, [], _∷_, map}
 use native.Mathlib.Omega.{arith}
-use lib.Dec.{eqb, lit<, lit≤}
+use lib.Dec.{eqb, lit<}
 use lib.IntN.{ℤ}
-use lib.ListN.{length, take}
+use lib.ListN.{take}
 use mir.Syntax.{w64}
 use mir.Val.{toZ}
 use mir.Facts.{sfits-toZ}
 use Rattle.meaning.specs.Plan.{Eqn, input, nil, unit, one, two, last, delay}
-use Rattle.meaning.specs.Events.{Event, Stream, found, orElse, horizon}
+use Rattle.meaning.specs.Events.{found, horizon}
 use Rattle.meaning.specs.Table.{latest}
 use Rattle.machine.specs.State.{Cell, Kept, room, noKept}
-use Rattle.machine.specs.Reach.{view, pastLatest, valueAt}
+use Rattle.machine.specs.Reach.{view, valueAt}
 use Rattle.machine.specs.Step.{later, absorb}
 use Rattle.machine.proofs.Window.{past-le}
 use Rattle.le.proofs.RoundTrip.{All}
-use Rattle.layout.specs.Record.{Slot, Raw, num, opF, countF, flagF, priorFlagF, boundF, keptF, valueF, priorF}
+use Rattle.layout.specs.Record.{Slot, Raw, num, opF, countF, flagF, priorFlagF, keptF, valueF, priorF}
 use Rattle.layout.proofs.Laws.{RawOk, SlotOk, num-small, num-ok}
 use Rattle.cells.specs.View.{flagOf, bitsOf}
 use Rattle.cells.specs.Back.{optional, eventOf, heldOf, keptOf, toCell}
@@ -28,7 +27,7 @@ use Rattle.cells.proofs.Widths.{bits-below}
 use Rattle.sound.proofs.Values.{or-value, cond-value, latest-value, Holds}
 use Rattle.look.specs.Look.{lookOf}
 use Rattle.absorb.specs.Keep.{keptRow}
-use Rattle.absorb.proofs.Laws.{kept-last, kept-delay, kept-else, last-ok, value-ok, prior-ok}
+use Rattle.absorb.proofs.Laws.{last-ok, value-ok, prior-ok}
 use Rattle.absorb.specs.Keep.{lastKept, valueKept, priorKept, delayKept}
 use Rattle.step.proofs.Leaves.{cond-ok}
 

@@ -1,31 +1,29 @@
 -- The numbers and steps of the offers and of collect on raw records are the machine's.
-use Prim.Native.Nat.{ℕ, zero, suc, _+_, _*_, _-_, _<_, _≤_, min}
-use mathlib.Core.Path.{_≡_, refl, sym, ap, ap₂, _∙_}
-use mathlib.Core.List.{List, [], _∷_, _++_, map}
+use Prim.Native.Nat.{ℕ, zero, suc, _-_, _<_, _≤_}
+use mathlib.Core.Path.{_≡_, refl, sym, ap, _∙_}
+use mathlib.Core.List.{List, [], _∷_, map}
 use mathlib.Core.Bool.{Bool, true, false, not, cond}
-use mathlib.Core.Option.{Option, none, some}
 use native.Mathlib.Omega.{arith}
 use native.Mathlib.Numerals.{add-one}
 use lib.Dec.{ltb, leb, eqb}
-use lib.IntN.{ℤ, pos}
-use lib.ListN.{length, getD, set, length-set, length-map, length-append, List·getD-eq-default}
-use lib.Seq.{getD-set-same, set-set, set-getD}
-use borrow.Author.Tests.{lt-ltb, le-ltb, eq-eqb, ne-eqb, ltb-true, ltb-false, eqb-true}
+use lib.IntN.{ℤ}
+use lib.ListN.{length, set, length-set, length-map, length-append, List·getD-eq-default}
+use lib.Seq.{getD-set-same, set-set}
+use borrow.Author.Tests.{ltb-true, ltb-false}
 use mir.Syntax.{w64}
 use mir.Val.{ofZ}
-use Rattle.meaning.specs.Plan.{Unary, time, neg, plus, Calc, add, sub, mul, div, rem, lt, le, eq, Binary, calc, keep, merge, Eqn, input, nil, unit, one, two, last, delay, isInput, reads}
+use Rattle.meaning.specs.Plan.{Unary, time, neg, plus, add, sub, mul, div, rem, lt, le, eq, Binary, calc, keep, merge, Eqn, input, nil, unit, one, two, last, delay, isInput, reads}
 use Rattle.meaning.specs.Plan as plan
 use Rattle.meaning.specs.Events.{Event, ev, horizon}
-use Rattle.machine.specs.State.{Kept, Cell, State, absent, cellAt, room, withBound, withHeld, withNext, withKept}
-use Rattle.machine.specs.Step.{argA, argB, advance, absorb, absorbed, write, told, tell, release, releases, raise, dropBelow}
-use Rattle.machine.specs.Calls.{Outcome, refused, unless, noInput, offerReading, offerProgress, oldest, handOut, collect, arrivals, done}
+use Rattle.machine.specs.State.{Kept, Cell, State, absent, cellAt, room, withBound, withKept}
+use Rattle.machine.specs.Step.{argA, argB, advance, absorb, absorbed, write, told, tell, release, releases, raise}
+use Rattle.machine.specs.Calls.{Outcome, unless, noInput, offerReading, offerProgress, arrivals, done}
 use Rattle.operators.specs.Operators.{numberOf, unaryNumber, binaryNumber}
-use Rattle.layout.specs.Record.{Slot, Raw, Raws, noSlot, num, withNum, slotAt, rowAt, change, changeAll, opF, outF, countF, boundF, nextF}
-use Rattle.cells.specs.View.{flag, slotOf, padTo, ofCell, rawsOf}
-use Rattle.step.specs.Step.{pushed, toldRow, below, releasedRow, offered}
-use Rattle.calls.specs.Numbers.{readingRow, readingRaw, progressRow, progressRaw, waitingSlot, collectRow, collectRaw, collectedRaw}
-use Rattle.refine.proofs.Rows.{cond-same}
-use Rattle.refine.proofs.Queues.{bound-of, next-of, push-of}
+use Rattle.layout.specs.Record.{Raw, Raws, num, withNum, rowAt, change, changeAll, opF, countF, boundF}
+use Rattle.cells.specs.View.{ofCell, rawsOf}
+use Rattle.step.specs.Step.{pushed, toldRow, releasedRow, offered}
+use Rattle.calls.specs.Numbers.{readingRow, readingRaw, progressRow, progressRaw}
+use Rattle.refine.proofs.Queues.{bound-of, push-of}
 use Rattle.refine.proofs.Whole.{row-of, change-of, tell-of, release-row-of}
 
 -- ---- inputs by their number

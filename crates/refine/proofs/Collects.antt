@@ -1,22 +1,20 @@
 -- Collect on raw records is the machine's.
-use Prim.Native.Nat.{ℕ, zero, suc, _+_, _*_, _-_, _<_, _≤_, min}
-use mathlib.Core.Path.{_≡_, refl, sym, ap, ap₂, _∙_}
-use mathlib.Core.Logic.{_⊎_, inl, inr}
+use Prim.Native.Nat.{ℕ, zero, suc, _+_, _-_, _<_, _≤_, min}
+use mathlib.Core.Path.{_≡_, refl, sym, ap, _∙_}
 use mathlib.Core.List.{List, [], _∷_, map}
 use mathlib.Core.Bool.{Bool, true, false, not, cond}
-use mathlib.Core.Option.{Option, none, some}
+use mathlib.Core.Option.{none, some}
 use native.Mathlib.Omega.{arith}
 use native.Mathlib.Numerals.{add-one}
-use lib.Dec.{ltb, leb, eqb}
-use lib.IntN.{ℤ, pos}
+use lib.Dec.{ltb, eqb}
 use lib.ListN.{length, getD, set, length-set}
 use lib.Seq.{getD-set-same}
 use borrow.Author.Tests.{lt-ltb, le-ltb, le-leb, lt-leb, ltb-true, ltb-false}
-use Rattle.meaning.specs.Events.{Event, ev}
+use Rattle.meaning.specs.Events.{Event}
 use Rattle.machine.specs.State.{Cell, State, absent, cellAt, room, withNext}
 use Rattle.machine.specs.Step.{release}
-use Rattle.machine.specs.Calls.{Outcome, refused, unless, oldest, handOut, collect}
-use Rattle.layout.specs.Record.{Slot, Raw, Raws, noSlot, num, withNum, slotAt, rowAt, change, outF, countF, nextF}
+use Rattle.machine.specs.Calls.{Outcome, unless, oldest, handOut, collect}
+use Rattle.layout.specs.Record.{Slot, Raw, noSlot, num, withNum, slotAt, rowAt, outF, countF, nextF}
 use Rattle.cells.specs.View.{flag, slotOf, padTo, ofCell, rawsOf}
 use Rattle.step.specs.Step.{below, releasedRow}
 use Rattle.calls.specs.Numbers.{waitingSlot, collectRow, collectRaw, collectedRaw}

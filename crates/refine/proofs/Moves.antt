@@ -1,32 +1,30 @@
 -- A move on raw records is the machine's, on every sound state.
-use Prim.Native.Nat.{ℕ, zero, suc, _+_, _*_, _-_, _<_, _≤_, min}
+use Prim.Native.Nat.{ℕ, suc, _-_, _<_, _≤_}
 use mathlib.Core.Path.{_≡_, refl, sym, ap, ap₂, _∙_}
-use mathlib.Core.List.{List, [], _∷_, _++_}
+use mathlib.Core.List.{List, [], _∷_}
 use mathlib.Core.Bool.{Bool, true, false, not, cond, _&&_}
-use mathlib.Core.Option.{Option, none, some}
 use native.Mathlib.Omega.{arith}
 use native.Mathlib.Numerals.{add-one}
-use native.Mathlib.Decide.{decLt}
 use lib.Dec.{T, ltb, leb, eqb, lit<}
 use lib.IntN.{ℤ}
-use lib.ListN.{length, getD, set, length-set}
+use lib.ListN.{length, set, length-set}
 use lib.Seq.{getD-set-same}
-use borrow.Author.Tests.{lt-ltb, le-ltb, ltb-true, leb-false}
+use borrow.Author.Tests.{lt-ltb, le-ltb, leb-false}
 use mir.Syntax.{w64}
 use mir.Val.{ofZ}
-use Rattle.meaning.specs.Plan.{Unary, time, neg, plus, Calc, add, sub, mul, div, rem, lt, le, eq, Binary, calc, keep, merge, Eqn, input, nil, unit, one, two, last, delay, isInput, reads}
+use Rattle.meaning.specs.Plan.{Unary, time, neg, plus, add, sub, mul, div, rem, lt, le, eq, Binary, calc, keep, merge, Eqn, input, nil, unit, one, two, last, delay, isInput, reads}
 use Rattle.meaning.specs.Plan as plan
 use Rattle.meaning.specs.Events.{Event, ev, horizon}
-use Rattle.machine.specs.State.{Kept, Cell, State, absent, cellAt, room, withBound, withHeld, withKept}
+use Rattle.machine.specs.State.{Kept, Cell, State, absent, cellAt, room, withKept}
 use Rattle.machine.specs.Reach.{Next, event, silent, decide}
 use Rattle.machine.specs.Step.{argA, argB, advance, absorb, absorbed, write, tell, release, releases, raise, newBound, added, ahead, canMove, comesIn, move}
 use Rattle.machine.proofs.Frame.{absorbed-frame, tell-frame}
 use Rattle.operators.specs.Operators.{numberOf, firstOf, secondOf, unaryNumber, binaryNumber}
 use Rattle.layout.specs.Record.{Raw, Raws, num, withNum, rowAt, change, changeAll, opF, aF, bF, countF, boundF}
-use Rattle.cells.specs.View.{keptNums, ofCell, rawsOf}
+use Rattle.cells.specs.View.{ofCell, rawsOf}
 use Rattle.cells.specs.Sound.{AllBelow, IsKept, SoundCell, Sound}
 use Rattle.cells.proofs.Widths.{cell-back}
-use Rattle.sound.proofs.Steps.{Comes, silence, one-event, comes-values, set-sound, advance-sound, write-sound, tell-sound, release-sound}
+use Rattle.sound.proofs.Steps.{Comes, silence, comes-values, set-sound, advance-sound, write-sound, tell-sound, release-sound}
 use Rattle.sound.proofs.Calls.{ahead-fine}
 use Rattle.machine.proofs.Moves.{can-up}
 use Rattle.look.specs.Look.{lookOf}

@@ -5,7 +5,7 @@ use mathlib.Core.List.{List, [], _∷_, _++_, map, append-nil, append-assoc}
 use mathlib.Core.Bool.{Bool, true, false, cond}
 use native.Mathlib.Omega.{arith}
 use native.Mathlib.Nat.{sub-zero}
-use lib.ListN.{length, getD, set, take, drop, replicate, length-append, length-map, take-append-drop, replicate-append-replicate}
+use lib.ListN.{length, set, take, drop, replicate, length-append, length-map, take-append-drop, replicate-append-replicate}
 use lib.Dec.{ltb}
 use lib.IntN.{ℤ}
 use mir.Syntax.{w64}
@@ -14,7 +14,7 @@ use borrow.Author.Tests.{lt-ltb}
 use Rattle.meaning.specs.Events.{Event, ev}
 use Rattle.machine.specs.State.{Cell, room, withHeld, withNext, withBound}
 use Rattle.machine.specs.Step.{advance, dropBelow}
-use Rattle.layout.specs.Record.{Slot, Raw, noSlot, num, withNum, shifted, countF, boundF, nextF}
+use Rattle.layout.specs.Record.{Slot, Raw, noSlot, withNum, shifted, countF, boundF, nextF}
 use Rattle.cells.specs.View.{slotOf, padTo, ofCell}
 use Rattle.step.specs.Step.{pushed, below, released}
 

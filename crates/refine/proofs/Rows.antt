@@ -1,26 +1,22 @@
 -- What each raw step makes of a cell's record is the record of what the machine makes of the cell.
-use Prim.Native.Nat.{ℕ, zero, suc, _+_, _-_, _<_, _≤_, min}
-use mathlib.Core.Path.{_≡_, refl, sym, ap, ap₂, _∙_}
-use mathlib.Core.List.{List, [], _∷_, _++_, map, append-nil, append-assoc}
-use mathlib.Core.Bool.{Bool, true, false, cond, _||_, _&&_}
-use mathlib.Core.Option.{Option, none, some}
-use native.Mathlib.Omega.{arith}
-use native.Mathlib.Numerals.{add-one}
-use lib.ListN.{length, getD, set, drop, replicate, length-append, length-map}
+use Prim.Native.Nat.{ℕ, _+_, _-_, min}
+use mathlib.Core.Path.{_≡_, refl, sym, ap, _∙_}
+use mathlib.Core.List.{List}
+use mathlib.Core.Bool.{Bool, true, false, cond, _||_}
 use lib.Dec.{ltb, eqb}
 use lib.IntN.{ℤ}
 use mir.Syntax.{w64}
 use mir.Val.{ofZ}
-use borrow.Author.Tests.{lt-ltb, eqb-true}
-use Rattle.meaning.specs.Plan.{Unary, time, neg, plus, Calc, add, sub, mul, div, rem, lt, le, eq, Binary, calc, keep, merge, Eqn, input, nil, unit, one, two, last, delay}
+use borrow.Author.Tests.{eqb-true}
+use Rattle.meaning.specs.Plan.{Unary, time, neg, plus, add, sub, mul, div, rem, lt, le, eq, Binary, calc, keep, merge, Eqn, input, nil, unit, one, two, last, delay}
 use Rattle.meaning.specs.Plan as plan
-use Rattle.meaning.specs.Events.{Event, ev}
-use Rattle.machine.specs.State.{Kept, Cell, room, withHeld, withNext, withBound, withKept}
-use Rattle.machine.specs.Step.{advance, readsIt, valueTold, priorTold, sinceTold, keptTold, told, dropBelow}
-use Rattle.operators.specs.Operators.{numberOf, firstOf, secondOf, valueOf}
-use Rattle.layout.specs.Record.{Slot, Raw, noSlot, num, withNum, shifted, countF, boundF, nextF}
-use Rattle.cells.specs.View.{KeptNums, keptNums, flag, slotOf, padTo, rawOf, ofCell}
-use Rattle.step.specs.Step.{pushed, readsRow, toldLast, toldValue, toldPrior, toldSince, toldDelay, toldRow, lowered, waitingRow, below, released}
+use Rattle.meaning.specs.Events.{Event}
+use Rattle.machine.specs.State.{Kept, Cell}
+use Rattle.machine.specs.Step.{readsIt, valueTold, priorTold, sinceTold, keptTold, told}
+use Rattle.operators.specs.Operators.{numberOf, firstOf, secondOf}
+use Rattle.layout.specs.Record.{Raw}
+use Rattle.cells.specs.View.{KeptNums, keptNums, flag, rawOf, ofCell}
+use Rattle.step.specs.Step.{readsRow, toldLast, toldValue, toldPrior, toldSince, toldDelay, toldRow, lowered, waitingRow}
 
 or-cond : (p q : Bool) → cond p true q ≡ (p || q)
 or-cond true q = refl

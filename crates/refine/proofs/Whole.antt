@@ -1,16 +1,15 @@
 -- The steps of the whole raw state are the machine's.
-use Prim.Native.Nat.{ℕ, zero, suc, _+_, _*_, _-_, _<_, _≤_, min}
+use Prim.Native.Nat.{ℕ, zero, suc, _*_, _-_, _<_, _≤_}
 use mathlib.Core.Path.{_≡_, refl, sym, ap, ap₂, _∙_}
 use mathlib.Core.List.{List, [], _∷_, map}
-use mathlib.Core.Bool.{Bool, true, false, cond}
 use native.Mathlib.Omega.{arith}
 use lib.ListN.{length, getD, set, replicate, length-set, length-map}
 use lib.IntN.{ℤ}
 use mir.Syntax.{w64}
 use mir.Val.{ofZ}
-use Rattle.meaning.specs.Events.{Event, ev, horizon}
-use Rattle.machine.specs.State.{Cell, State, absent, cellAt, room, withHeld}
-use Rattle.machine.specs.Step.{readsIt, told, tell, leastReader, leastWaiting, dropBelow, release}
+use Rattle.meaning.specs.Events.{ev}
+use Rattle.machine.specs.State.{Cell, State, cellAt, room, withHeld}
+use Rattle.machine.specs.Step.{told, tell, leastReader, leastWaiting, dropBelow, release}
 use Rattle.layout.specs.Record.{Raw, Raws, noRaw, rowAt, change, changeAll}
 use Rattle.cells.specs.View.{ofCell, rawsOf}
 use Rattle.step.specs.Step.{toldRow, lowered, leastRow, waitingRow, released, releasedRow}

@@ -7,10 +7,10 @@ use Rattle.engine.specs.Reply.{reply}
 use Rattle.trace.specs.declared.Record.{Record}
 use Rattle.replaying.specs.declared.Place.{Place}
 use Rattle.replaying.specs.declared.Place.the-variants.{Run, Collect, Rest}
-use Rattle.replaying.specs.Replay.{callOf, refusal, step, Prints, here, on, start}
+use Rattle.replaying.specs.Replay.{callOf, refusal, step, Prints, here, on}
 use Rattle.replaying.specs.Rank.{isRest}
 use Rattle.replaying.specs.Session.{Replays, ends, goes}
-use Rattle.replay.specs.Played.{Goes, Settles, Offered, none, more, Played}
+use Rattle.replay.specs.Played.{Goes, Settles, Offered, none, more}
 
 pub goes-here : (p : Place) (s : List ℕ) → Goes p s p s
 goes-here p s = ([], here)

@@ -1,16 +1,16 @@
 -- One move of a run, and the run that is left after it.
-use Prim.Native.Nat.{ℕ, zero, suc, _+_, _*_, _-_, _<_, _≤_}
+use Prim.Native.Nat.{ℕ, zero, suc, _+_, _-_, _<_, _≤_}
 use mathlib.Core.Path.{_≡_, refl, sym, ap, ap₂, _∙_}
-use mathlib.Core.Logic.{_⊎_, inl, inr}
-use mathlib.Core.List.{List, [], _∷_}
-use mathlib.Core.Bool.{Bool, true, false, not, cond}
+use mathlib.Core.Logic.{inl, inr}
+use mathlib.Core.List.{List, []}
+use mathlib.Core.Bool.{Bool, true, false, cond}
 use native.Mathlib.Omega.{arith}
 use lib.Dec.{T, ltb}
 use lib.ListN.{length}
-use borrow.Author.Tests.{lt-ltb, le-ltb, ltb-true, ltb-false}
+use borrow.Author.Tests.{lt-ltb, le-ltb, ltb-true}
 use Rattle.machine.specs.State.{State, cellAt}
 use Rattle.machine.specs.Reach.{least}
-use Rattle.machine.specs.Step.{canMove, comesIn, newBound, ahead, raise, move}
+use Rattle.machine.specs.Step.{canMove, comesIn, newBound, ahead, move}
 use Rattle.machine.specs.Calls.{Outcome, done, oneMore, arrivals, lowest, run}
 use Rattle.machine.proofs.Search.{least-is}
 use Rattle.machine.proofs.Frame.{raise-size}

@@ -1,30 +1,29 @@
 -- Every call keeps a sound state sound, in whatever state.
-use Prim.Native.Nat.{ℕ, zero, suc, _+_, _-_, _^_, _<_, _≤_, min}
-use mathlib.Core.Path.{_≡_, refl, sym, ap, _∙_}
+use Prim.Native.Nat.{ℕ, zero, suc, _-_, _<_, _≤_}
+use mathlib.Core.Path.{_≡_, refl, sym}
 use mathlib.Core.Bool.{Bool, true, false, not, cond}
 use mathlib.Core.Option.{Option, none, some}
 use mathlib.Core.List.{List, [], _∷_}
 use native.Mathlib.Omega.{arith}
 use native.Mathlib.Decide.{decLt}
-use lib.Dec.{T, ltb, leb, eqb, ltb→lt, leb→le, nltb→le, nleb→lt}
+use lib.Dec.{T, ltb, leb, nltb→le, nleb→lt}
 use lib.IntN.{ℤ}
-use lib.Signed.{mag}
 use lib.ListN.{length, set}
 use borrow.Author.Tests.{ltb-true}
 use Rattle.meaning.specs.Plan.{Eqn, input, nil, unit, one, two, last, delay, isInput}
-use Rattle.meaning.specs.Events.{Event, ev, has, horizon}
+use Rattle.meaning.specs.Events.{Event, ev, horizon}
 use Rattle.meaning.proofs.Tests.{Is, yes!, no!, look}
-use Rattle.machine.specs.State.{Cell, State, cellAt, room, withBound, withNext}
-use Rattle.machine.specs.Reach.{least, stops, limit, reach, first, gives, Next, event, silent, nextOf, decide}
-use Rattle.machine.specs.Step.{argA, argB, raise, release, newBound, added, ahead, canMove, comesIn, move}
-use Rattle.machine.specs.Calls.{Call, reading, progress, moving, running, collecting, Outcome, refused, done, unless, noInput, noEquation, offerReading, offerProgress, moveOne, lowest, run, oldest, handOut, collect, call, arrivals}
+use Rattle.machine.specs.State.{Cell, State, cellAt, room, withNext}
+use Rattle.machine.specs.Reach.{stops, limit, reach, first, gives, Next, event, nextOf, decide}
+use Rattle.machine.specs.Step.{argA, argB, newBound, added, ahead, canMove, comesIn, move}
+use Rattle.machine.specs.Calls.{Call, reading, progress, moving, running, collecting, noInput, noEquation, offerReading, offerProgress, moveOne, lowest, run, oldest, handOut, collect, call}
 use Rattle.machine.proofs.Search.{least-le}
 use Rattle.machine.proofs.Cells.{beyond}
 use Rattle.machine.proofs.Frame.{input-there, output-there}
-use Rattle.machine.proofs.Moves.{first-ge, can-up, lowest-can, no-input}
+use Rattle.machine.proofs.Moves.{first-ge, can-up, lowest-can}
 use Rattle.machine.proofs.Outcomes.{unless-cases, equation-there, run-more, run-ends}
-use Rattle.cells.specs.Sound.{IsValue, IsOptional, Rising, SoundCell, Sound}
-use Rattle.sound.proofs.Values.{Holds, holds, gives-value}
+use Rattle.cells.specs.Sound.{IsValue, IsOptional, Rising, Sound}
+use Rattle.sound.proofs.Values.{gives-value}
 use Rattle.sound.proofs.Steps.{cell-holds, Comes, silence, one-event, raise-sound, bound-sound, next-sound, release-sound}
 
 -- ---- a move

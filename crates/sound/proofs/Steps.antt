@@ -1,29 +1,29 @@
 -- Each part of a step keeps a sound state sound: a cell written, the readers told, events let go, a mark of collection.
-use Prim.Native.Nat.{ℕ, zero, suc, pred, _+_, _-_, _<_, _≤_, min, max}
-use mathlib.Core.Path.{_≡_, refl, sym, ap, ap₂, _∙_, subst}
-use mathlib.Core.Bool.{Bool, true, false, not, cond, _&&_, _||_}
+use Prim.Native.Nat.{ℕ, zero, suc, pred, _+_, _-_, _<_, _≤_}
+use mathlib.Core.Path.{_≡_, refl, sym, ap, _∙_}
+use mathlib.Core.Bool.{Bool, true, false, cond, _&&_}
 use mathlib.Core.Option.{Option, none, some}
 use mathlib.Core.List.{List, [], _∷_, _++_, map, append-nil}
 use native.Mathlib.Omega.{arith}
-use native.Mathlib.Decide.{decLt, ℕ-discrete}
-use lib.Dec.{T, ltb, eqb, leb, ltb→lt}
+use native.Mathlib.Decide.{decLt}
+use lib.Dec.{ltb, eqb}
 use lib.IntN.{ℤ}
 use lib.ListN.{length, getD, length-set, length-map, length-append, set}
 use lib.Seq.{ext-getD}
-use borrow.Author.Tests.{ltb-true, eqb-true, eq-eqb, ne-eqb}
-use Rattle.meaning.specs.Plan.{Eqn, input, nil, unit, one, two, last, delay, isInput, reads}
-use Rattle.meaning.specs.Events.{Event, ev, found, orElse, horizon}
+use borrow.Author.Tests.{ltb-true, eqb-true, eq-eqb}
+use Rattle.meaning.specs.Plan.{Eqn, input, nil, unit, one, two, last, delay, reads}
+use Rattle.meaning.specs.Events.{Event, ev, horizon}
 use Rattle.meaning.specs.Table.{latest}
 use Rattle.meaning.specs.Cycle.{acyclic}
-use Rattle.machine.specs.State.{Kept, Cell, State, absent, cellAt, room, noKept, planOf, withBound, withHeld, withNext, withKept}
-use Rattle.machine.specs.Reach.{view, pastLatest, valueAt}
+use Rattle.machine.specs.State.{Kept, Cell, State, absent, cellAt, room, planOf, withBound, withHeld, withNext, withKept}
+use Rattle.machine.specs.Reach.{view, valueAt}
 use Rattle.machine.specs.Step.{argA, argB, advance, later, absorb, absorbed, write, valueTold, priorTold, sinceTold, keptTold, told, tell, leastWaiting, dropBelow, release, releases, raise}
 use Rattle.machine.proofs.Cells.{set-cases, told-at}
 use Rattle.machine.proofs.Window.{past-le}
 use Rattle.machine.proofs.Rising.{drop-shorter}
 use Rattle.machine.proofs.Release.{among, release-at, release-size, releases-at, releases-size}
 use Rattle.operators.specs.Limits.{streamLimit}
-use Rattle.cells.specs.Sound.{IsValue, IsOptional, AllBelow, Rising, IsNext, LastKept, DelayKept, IsKept, SoundCell, Sound}
+use Rattle.cells.specs.Sound.{IsValue, Rising, IsNext, DelayKept, IsKept, SoundCell, Sound}
 use Rattle.sound.proofs.Values.{or-value, cond-value, latest-value, Holds, holds}
 
 -- ---- a state with the same equations, every cell sound

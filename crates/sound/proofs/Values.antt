@@ -1,24 +1,23 @@
 -- Whatever an equation gives or keeps of sound cells is a value.
-use Prim.Native.Nat.{ℕ, zero, suc, pred, _-_, _^_, _<_, _≤_}
-use mathlib.Core.Path.{_≡_, refl, sym, ap, _∙_}
-use mathlib.Core.Bool.{Bool, true, false, not, cond, _&&_}
+use Prim.Native.Nat.{ℕ, zero, suc, _-_, _^_, _<_}
+use mathlib.Core.Path.{_≡_, refl}
+use mathlib.Core.Bool.{Bool, true, false, cond}
 use mathlib.Core.Option.{Option, none, some}
 use mathlib.Core.List.{List, [], _∷_}
 use native.Mathlib.Omega.{arith}
-use lib.Dec.{T, ltb, eqb, leb, lit<}
+use lib.Dec.{ltb, eqb, leb, lit<}
 use lib.IntN.{ℤ, pos, negsuc, negℤ, _+ℤ_, _-ℤ_, _*ℤ_}
-use lib.Signed.{mag, ltZ, leZ, quotZ, remZ}
+use lib.Signed.{ltZ, leZ, quotZ, remZ}
 use borrow.Author.Tests.{ltb-true, leb-true}
-use Rattle.num.specs.declared.Answer.{Answer}
 use Rattle.num.specs.declared.Answer.the-variants.{Value, Outside, ZeroDivisor}
-use Rattle.num.specs.Arithmetic.{leastValue, pastValues, fit, isZero, truth, same, negated, added, subtracted, multiplied, divided, remainder, less, atMost, equal}
+use Rattle.num.specs.Arithmetic.{fit, isZero, truth, same, negated, added, subtracted, multiplied, divided, remainder, less, atMost, equal}
 use Rattle.meaning.specs.Plan.{Unary, time, neg, set, plus, Calc, add, sub, mul, div, rem, lt, le, eq, Binary, calc, keep, merge, Eqn, input, nil, unit, one, two, last, delay}
 use Rattle.meaning.specs.Events.{Event, Stream, found, orElse, horizon}
 use Rattle.meaning.specs.Table.{valueOf, one-at, calculated, two-at, unit-at, latest, last-at, delay-at}
 use Rattle.machine.specs.State.{Cell, Kept}
-use Rattle.machine.specs.Reach.{view, valueAt, due, point, gives}
+use Rattle.machine.specs.Reach.{view, due, point, gives}
 use Rattle.operators.specs.Operators as operators
-use Rattle.cells.specs.Sound.{IsValue, IsOptional, Rising, LastKept, DelayKept, IsKept, SoundCell}
+use Rattle.cells.specs.Sound.{IsValue, IsOptional, Rising, IsKept, SoundCell}
 
 -- ---- arithmetic
 

@@ -1,37 +1,33 @@
 -- A record that passes number 15's tests is the record of the cell that it gives, and the cell is sound.
-use Prim.Native.Nat.{ℕ, zero, suc, _+_, _*_, _-_, _^_, _<_, _≤_, min}
-use mathlib.Core.Path.{_≡_, refl, sym, ap, ap₂, _∙_, subst}
-use mathlib.Core.List.{List, [], _∷_, _++_, map}
-use mathlib.Core.Bool.{Bool, true, false, not, cond, _&&_, _||_}
-use mathlib.Core.Option.{Option, none, some}
+use Prim.Native.Nat.{ℕ, zero, suc, _+_, _*_, _-_, _^_, _<_, _≤_}
+use mathlib.Core.Path.{_≡_, refl, sym, subst}
+use mathlib.Core.List.{List, [], _∷_}
+use mathlib.Core.Bool.{Bool, true, false, not, cond, _&&_}
+use mathlib.Core.Option.{none}
 use native.Mathlib.Omega.{arith}
-use lib.Dec.{eqb, ltb, leb, lit<, lit≤, T}
+use lib.Dec.{eqb, ltb, leb, lit<, lit≤}
 use lib.IntN.{ℤ, pos}
-use lib.ListN.{length, getD, take, drop, length-map}
-use lib.Seq.{length-take-le}
-use borrow.Author.Tests.{eqb-true, eqb-false, ltb-true, leb-true, lt-ltb, ne-eqb, eq-eqb, le-leb}
+use lib.ListN.{getD, drop}
+use borrow.Author.Tests.{eqb-true, ltb-true, leb-true, ne-eqb, eq-eqb, le-leb}
 use mir.Syntax.{w64}
 use mir.Val.{ofZ, toZ}
 use mir.Facts.{ofZ-toZ}
-use Rattle.meaning.specs.Plan.{Unary, time, neg, plus, Calc, add, sub, mul, div, rem, lt, le, eq, Binary, calc, keep, merge, Eqn, input, nil, unit, one, two, last, delay, isInput, reads}
-use Rattle.meaning.specs.Plan as plan
+use Rattle.meaning.specs.Plan.{isInput, reads}
 use Rattle.meaning.specs.Events.{horizon}
-use Rattle.machine.specs.State.{Kept, Cell, room, noKept}
-use Rattle.operators.specs.Operators.{operatorCount, isOperator, usesA, usesB, usesK, eqnOf, numberOf, firstOf, secondOf, valueOf, unaryNumber, binaryNumber}
+use Rattle.machine.specs.State.{Kept, room, noKept}
+use Rattle.operators.specs.Operators.{operatorCount, usesA, usesB, eqnOf}
 use Rattle.operators.proofs.Numbers.{agree}
-use Rattle.operators.proofs.Laws.{number-back, first-back, second-back, value-back, reads-by-number}
-use Rattle.le.specs.Bytes.{Bytes, allZero}
-use Rattle.le.specs.Layout.{decFields}
-use Rattle.layout.specs.Record.{Slot, Raw, noSlot, num, decRaw, opF, aF, bF, outF, countF, flagF, priorFlagF, smallF, kF, boundF, nextF, keptF, valueF, priorF, lastF}
-use Rattle.layout.proofs.Laws.{RawOk, raw-ok, num-small}
-use Rattle.layout.proofs.Slots.{slots-many}
-use Rattle.cells.specs.View.{flag, flagOf, bitsOf, KeptNums, noNums, keptNums, slotOf, padTo, ofCell}
-use Rattle.cells.specs.Back.{optional, eventOf, heldOf, keptOf, toCell}
-use Rattle.cells.specs.Sound.{IsValue, IsOptional, AllBelow, Rising, IsNext, LastKept, DelayKept, IsKept, SoundCell}
+use Rattle.operators.proofs.Laws.{reads-by-number}
+use Rattle.le.specs.Bytes.{allZero}
+use Rattle.layout.specs.Record.{Raw, num, decRaw, opF, aF, bF, outF, countF, flagF, priorFlagF, smallF, kF, boundF, nextF, keptF, valueF, priorF, lastF}
+use Rattle.layout.proofs.Laws.{RawOk, num-small}
+use Rattle.cells.specs.View.{flag, flagOf, bitsOf, KeptNums, noNums, keptNums}
+use Rattle.cells.specs.Back.{optional, keptOf}
+use Rattle.cells.specs.Sound.{IsValue, IsOptional, AllBelow, LastKept, DelayKept}
 use Rattle.valid.specs.Valid.{argOk, kOk, outOk, planOk, nextOk, sizesOk, risen, flagOk, noneIf, noneOk, lastOk, delayOk, keptOk, rowOk}
 use Rattle.valid.proofs.Tests.{left, right}
-use Rattle.valid.proofs.Link.{PlanFacts, plan-facts, used-is, eqnIn}
-use Rattle.state.proofs.Tail.{slots-back, stamps-back, bits-value}
+use Rattle.valid.proofs.Link.{PlanFacts, plan-facts, eqnIn}
+use Rattle.state.proofs.Tail.{bits-value}
 
 -- ---- what the tests say
 

@@ -1,31 +1,30 @@
 -- The record of a sound cell passes the tests of number 15.
-use Prim.Native.Nat.{ℕ, zero, suc, _+_, _*_, _-_, _^_, _<_, _≤_}
-use mathlib.Core.Path.{_≡_, refl, sym, ap, ap₂, _∙_}
+use Prim.Native.Nat.{ℕ, zero, suc, _+_, _*_, _-_, _≤_}
+use mathlib.Core.Path.{_≡_, refl, sym, ap, _∙_}
 use mathlib.Core.List.{List, [], _∷_, _++_, map}
-use mathlib.Core.Bool.{Bool, true, false, cond, _&&_, _||_}
+use mathlib.Core.Bool.{Bool, true, false}
 use mathlib.Core.Option.{Option, none, some}
 use native.Mathlib.Omega.{arith}
-use native.Mathlib.Nat.{zero-add}
-use lib.Dec.{eqb, ltb, leb, T}
-use lib.IntN.{ℤ, pos}
-use lib.ListN.{length, getD, take, drop, replicate, length-map, length-append}
+use lib.Dec.{eqb, ltb, T}
+use lib.IntN.{ℤ}
+use lib.ListN.{length, drop, replicate, length-map}
 use lib.Seq.{drop-append-add}
 use borrow.Author.Tests.{lt-ltb, le-leb, eq-eqb, ne-eqb}
 use mir.Syntax.{w64}
 use mir.Val.{ofZ}
-use Rattle.meaning.specs.Plan.{Unary, time, neg, plus, Calc, add, sub, mul, div, rem, lt, le, eq, Binary, calc, keep, merge, Eqn, input, nil, unit, one, two, last, delay, isInput, reads}
+use Rattle.meaning.specs.Plan.{Unary, time, neg, plus, add, sub, mul, div, rem, lt, le, eq, Binary, calc, keep, merge, Eqn, input, nil, unit, one, two, last, delay, isInput, reads}
 use Rattle.meaning.specs.Plan as plan
 use Rattle.meaning.specs.Events.{Event, horizon}
-use Rattle.machine.specs.State.{Kept, Cell, room, noKept}
+use Rattle.machine.specs.State.{Kept, Cell, room}
 use Rattle.operators.specs.Operators.{isOperator, usesA, usesB, usesK, numberOf, firstOf, secondOf, valueOf, unaryNumber, binaryNumber}
 use Rattle.le.specs.Bytes.{allZero}
 use Rattle.le.specs.Layout.{encFields, encRows}
 use Rattle.le.proofs.RoundTrip.{rows-drop}
-use Rattle.layout.specs.Record.{Slot, Raw, noSlot, num, headWidths, encSlot, encRaw, decRaw, opF, aF, bF, outF, countF, flagF, priorFlagF, smallF, kF, boundF, nextF, keptF, valueF, priorF, lastF}
+use Rattle.layout.specs.Record.{noSlot, num, headWidths, encSlot, encRaw, decRaw, countF, boundF}
 use Rattle.layout.proofs.Laws.{head-len, slot-len, raw-enc}
 use Rattle.layout.proofs.Slots.{slot-zeros}
 use Rattle.cells.specs.View.{flag, flagOf, bitsOf, KeptNums, keptNums, slotOf, padTo, rawOf, ofCell}
-use Rattle.cells.specs.Sound.{IsOptional, AllBelow, Rising, IsNext, LastKept, DelayKept, IsKept, SoundCell}
+use Rattle.cells.specs.Sound.{AllBelow, Rising, IsNext, IsKept, SoundCell}
 use Rattle.cells.proofs.Widths.{cell-raw, pad-length}
 use Rattle.valid.specs.Valid.{argOk, kOk, outOk, planOk, nextOk, sizesOk, risen, flagOk, noneIf, noneOk, lastOk, delayOk, keptOk, rowOk}
 

@@ -1,35 +1,33 @@
 -- A record that passes is the record of the cell that it gives, and that cell is sound.
-use Prim.Native.Nat.{ℕ, zero, suc, _+_, _*_, _-_, _^_, _<_, _≤_, min}
-use mathlib.Core.Path.{_≡_, refl, sym, ap, ap₂, _∙_, subst}
-use mathlib.Core.List.{List, [], _∷_, _++_, map}
-use mathlib.Core.Bool.{Bool, true, false, not, cond, _&&_}
+use Prim.Native.Nat.{ℕ, zero, suc, _-_, _<_, _≤_, min}
+use mathlib.Core.Path.{_≡_, refl, sym, ap, _∙_, subst}
+use mathlib.Core.List.{List, [], _∷_, map}
+use mathlib.Core.Bool.{Bool, true, false, not, cond}
 use native.Mathlib.Omega.{arith}
 use native.Mathlib.Decide.{ℕ-discrete}
-use lib.Dec.{eqb, ltb, leb, lit<, lit≤, T}
-use lib.IntN.{ℤ, pos}
-use lib.ListN.{length, getD, take, drop, length-map}
+use lib.Dec.{eqb, lit<, lit≤, T}
+use lib.ListN.{length, take, length-map}
 use lib.Seq.{length-take-le}
 use borrow.Author.Tests.{eqb-true, leb-true, ne-eqb, eq-eqb}
 use mir.Syntax.{w64}
 use mir.Val.{ofZ, toZ}
-use Rattle.meaning.specs.Plan.{Unary, time, neg, plus, Calc, add, sub, mul, div, rem, lt, le, eq, Binary, calc, keep, merge, Eqn, input, nil, unit, one, two, last, delay, isInput, reads}
+use Rattle.meaning.specs.Plan.{Unary, time, neg, plus, add, sub, mul, div, rem, lt, le, eq, Binary, calc, keep, merge, Eqn, input, nil, unit, one, two, last, delay, isInput}
 use Rattle.meaning.specs.Plan as plan
-use Rattle.meaning.specs.Events.{horizon}
-use Rattle.machine.specs.State.{Kept, Cell, room, noKept}
-use Rattle.operators.specs.Operators.{operatorCount, usesA, usesB, usesK, eqnOf, numberOf, firstOf, secondOf, valueOf, unaryNumber, binaryNumber}
+use Rattle.machine.specs.State.{Kept, room, noKept}
+use Rattle.operators.specs.Operators.{operatorCount, usesA, usesB, usesK, numberOf, unaryNumber, binaryNumber}
 use Rattle.operators.proofs.Laws.{number-back, first-back, second-back, value-back}
 use Rattle.le.specs.Bytes.{Bytes}
 use Rattle.le.specs.Layout.{decFields}
-use Rattle.layout.specs.Record.{Slot, Raw, noSlot, num, decRaw, opF, aF, bF, outF, countF, flagF, priorFlagF, smallF, kF, boundF, nextF, keptF, valueF, priorF, lastF}
+use Rattle.layout.specs.Record.{Raw, noSlot, num, decRaw, opF, aF, bF, outF, countF, flagF, priorFlagF, kF, boundF, nextF, keptF, valueF, priorF}
 use Rattle.layout.proofs.Laws.{RawOk, raw-ok}
 use Rattle.layout.proofs.Slots.{slots-many}
 use Rattle.cells.specs.View.{flag, KeptNums, noNums, keptNums, slotOf, padTo, ofCell}
 use Rattle.cells.specs.Back.{eventOf, heldOf, keptOf, toCell}
-use Rattle.cells.specs.Sound.{IsValue, AllBelow, Rising, IsNext, LastKept, DelayKept, IsKept, SoundCell}
-use Rattle.valid.specs.Valid.{nextOk, lastOk, delayOk, noneOk, keptOk, rowOk}
-use Rattle.valid.proofs.Link.{PlanFacts, used-is, eqnIn}
+use Rattle.cells.specs.Sound.{IsValue, IsNext, LastKept, DelayKept, IsKept, SoundCell}
+use Rattle.valid.specs.Valid.{nextOk, lastOk, delayOk, noneOk, keptOk}
+use Rattle.valid.proofs.Link.{used-is, eqnIn}
 use Rattle.state.proofs.Tail.{slots-back, stamps-back}
-use Rattle.state.proofs.Back.{RowFacts, row-facts, k-is, k-value, out-is, reads-below, input-number, no-input, lastNums, delayNums, nums-by-number, word, last-kept, delay-kept, none-kept}
+use Rattle.state.proofs.Back.{RowFacts, k-is, k-value, out-is, reads-below, input-number, no-input, lastNums, delayNums, nums-by-number, word, last-kept, delay-kept, none-kept}
 
 -- ---- kept data by the equation's number
 

@@ -2,21 +2,21 @@
 use Prim.Native.Nat.{ℕ, zero, suc, _+_, _*_, _-_, _^_, _<_, _≤_}
 use mathlib.Core.Path.{_≡_, refl, sym, ap, ap₂, _∙_}
 use mathlib.Core.List.{List, [], _∷_, _++_, map}
-use mathlib.Core.Bool.{Bool, true, false, cond, _&&_}
+use mathlib.Core.Bool.{Bool, true, false, cond}
 use native.Mathlib.Omega.{arith}
 use native.Mathlib.Nat.{zero-add, sub-zero}
 use lib.Dec.{eqb, leb}
-use lib.ListN.{length, getD, take, drop, replicate, length-drop, replicate-append-replicate}
+use lib.ListN.{length, take, drop, replicate, length-drop, replicate-append-replicate}
 use lib.Seq.{drop-drop}
 use borrow.Author.Tests.{eqb-true, leb-true}
 use mir.Syntax.{w64}
-use mir.Val.{ofZ, toZ, SFits}
+use mir.Val.{toZ}
 use mir.Facts.{ofZ-toZ, sfits-toZ}
 use Rattle.machine.specs.State.{room}
 use Rattle.le.specs.Bytes.{le, allZero}
 use Rattle.le.specs.Layout.{decRows, decFields}
 use Rattle.le.proofs.RoundTrip.{All}
-use Rattle.layout.specs.Record.{Slot, Raw, noSlot, decSlot, decRaw}
+use Rattle.layout.specs.Record.{Slot, noSlot, decSlot, decRaw}
 use Rattle.layout.proofs.Laws.{SlotOk}
 use Rattle.layout.proofs.Slots.{slots-many}
 use Rattle.cells.specs.View.{padTo, slotOf}

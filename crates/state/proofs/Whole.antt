@@ -1,31 +1,30 @@
 -- Valid bytes are just the bytes of sound states.
-use Prim.Native.Nat.{ℕ, zero, suc, _+_, _*_, _-_, _^_, _<_, _≤_, _%_}
-use mathlib.Core.Path.{_≡_, refl, sym, ap, ap₂, _∙_, subst}
+use Prim.Native.Nat.{ℕ, zero, suc, _+_, _*_, _-_, _<_, _≤_, _%_}
+use mathlib.Core.Path.{_≡_, refl, sym, ap, ap₂, _∙_}
 use mathlib.Core.List.{List, [], _∷_, _++_, map, append-assoc}
 use mathlib.Core.Bool.{Bool, true, false, not, cond, _&&_}
 use native.Mathlib.Omega.{arith}
-use native.Mathlib.Nat.{zero-add, mod-eq-of-lt}
-use lib.Dec.{eqb, ltb, leb, lit<}
-use lib.ListN.{length, getD, take, drop, replicate, length-map, length-append, length-drop, length-replicate, List·getD-append}
+use native.Mathlib.Nat.{zero-add}
+use lib.Dec.{eqb, leb}
+use lib.ListN.{length, getD, take, drop, replicate, length-map, length-append, length-drop, length-replicate}
 use lib.Seq.{length-take-le, take-at, drop-at, ext-getD}
 use borrow.Author.Tests.{eqb-true, eqb-false, eq-eqb, ne-eqb, not-true}
-use Rattle.meaning.specs.Plan.{Eqn}
 use Rattle.meaning.specs.Cycle.{acyclic}
-use Rattle.machine.specs.State.{Cell, State, absent, cellAt, planOf}
-use Rattle.operators.specs.Operators.{isOperator, numberOf, firstOf, secondOf}
+use Rattle.machine.specs.State.{Cell, State, cellAt, planOf}
+use Rattle.operators.specs.Operators.{numberOf}
 use Rattle.operators.specs.Limits.{streamLimit}
 use Rattle.le.specs.Bytes.{Bytes, part, allZero, enc}
 use Rattle.le.specs.Layout.{encFields, encRows}
 use Rattle.le.proofs.Laws.{take-bytes, drop-bytes}
 use Rattle.le.proofs.Fields.{length-rows}
 use Rattle.le.proofs.RoundTrip.{All}
-use Rattle.layout.specs.Record.{Raw, Raws, noRaw, headWidths, num, encRaw, decRaw, encode, decode, rowAt, opF}
-use Rattle.layout.proofs.Laws.{RawOk, RawsOk, raw-len, raw-enc, encode-decode, decode-encode, row-at, rows-many}
+use Rattle.layout.specs.Record.{Raw, Raws, noRaw, encRaw, decRaw, encode, decode}
+use Rattle.layout.proofs.Laws.{RawOk, RawsOk, raw-len, encode-decode, decode-encode, row-at, rows-many}
 use Rattle.cells.specs.View.{ofCell, rawsOf, bytesOf}
 use Rattle.cells.specs.Back.{toCell, stateOf}
 use Rattle.cells.specs.Sound.{SoundCell, Sound}
 use Rattle.cells.proofs.Widths.{cell-raw, cell-back}
-use Rattle.valid.specs.Valid.{stateLength, planOk, rowOk, allRows, streamsIn, count, planIn, valid}
+use Rattle.valid.specs.Valid.{stateLength, rowOk, allRows, streamsIn, count, planIn, valid}
 use Rattle.valid.proofs.Tests.{left, right, in-few}
 use Rattle.valid.proofs.Link.{rows-at}
 use Rattle.state.proofs.Passes.{row-passes, zeros-zero, op-passes}

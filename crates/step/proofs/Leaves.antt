@@ -1,18 +1,18 @@
 -- What each leaf makes of a record: the scheme of its stores, and the cases of each definition.
-use Prim.Native.Nat.{ℕ, zero, suc, _+_, _*_, _-_, _^_, _<_, _≤_, min}
+use Prim.Native.Nat.{ℕ, _+_, _-_, _^_, _<_, _≤_, min}
 use mathlib.Core.Path.{_≡_, refl, sym, ap, ap₂, _∙_}
 use mathlib.Core.List.{List}
-use mathlib.Core.Bool.{Bool, true, false, not, cond}
+use mathlib.Core.Bool.{Bool, true, false, cond}
 use native.Mathlib.Omega.{arith}
 use native.Mathlib.Nat.{sub-zero}
-use lib.Dec.{lit<, lit≤, ltb, eqb}
+use lib.Dec.{lit<, ltb, eqb}
 use lib.ListN.{length, getD, take-append-drop}
 use lib.Seq.{set-getD}
-use borrow.Author.Tests.{lt-ltb, le-ltb, eq-eqb, ne-eqb, not-true, not-false}
+use borrow.Author.Tests.{lt-ltb, le-ltb, eq-eqb, ne-eqb}
 use Rattle.le.specs.Bytes.{Bytes}
 use Rattle.machine.specs.State.{room}
 use Rattle.layout.specs.Record.{Slot, Raw, headWidths, num, withNum, withSlot, dropped, encRaw, decRaw, opF, aF, bF, outF, countF, flagF, priorFlagF, boundF, nextF, keptF, valueF, priorF}
-use Rattle.layout.proofs.Laws.{RawOk, SlotOk, raw-ok, raw-enc, leaf-none, leaf-then, num-ok, num-small}
+use Rattle.layout.proofs.Laws.{RawOk, raw-ok, leaf-none, leaf-then, num-ok, num-small}
 use Rattle.layout.proofs.Slots.{slot-ok}
 use Rattle.step.specs.Step.{pushed, readsRow, toldLast, toldValue, toldPrior, toldSince, toldDelay, toldRow, lowered, waitingRow, below, released}
 

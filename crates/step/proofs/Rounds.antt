@@ -1,20 +1,20 @@
 -- The loops' turns, and the steps of the whole buffer one after the other.
 use Prim.Native.Nat.{ℕ, zero, suc, _+_, _*_, _-_, _^_, _<_, _≤_, min, max}
 use mathlib.Core.Path.{_≡_, refl, sym, ap, ap₂, _∙_}
-use mathlib.Core.List.{List, [], _∷_, map}
+use mathlib.Core.List.{List, [], _∷_}
 use mathlib.Core.Bool.{Bool, true, false, cond}
 use native.Mathlib.Omega.{arith}
 use native.Mathlib.Decide.{decLt}
-use lib.Dec.{lit<, ltb, eqb}
+use lib.Dec.{ltb, eqb}
 use lib.ListN.{length, getD, set, drop, drop-of-length-le}
 use lib.Seq.{drop-cons, set-getD}
 use borrow.Author.Tests.{lt-ltb, le-ltb}
-use borrow.Rule.Slice.PartMut.{midOf, putMid}
+use borrow.Rule.Slice.PartMut.{midOf}
 use Rattle.meaning.specs.Events.{horizon}
 use Rattle.machine.specs.State.{room}
 use Rattle.le.specs.Bytes.{Bytes}
-use Rattle.layout.specs.Record.{Slot, Raw, Raws, noSlot, noRaw, num, encRaw, decRaw, encode, decode, rowAt, change, changeAll, withNum, dropped, slotAt, outF, countF, boundF, nextF}
-use Rattle.layout.proofs.Laws.{RawOk, RawsOk, rows-many, row-mid, raws-ok, row-ok, change-ok, changeAll-ok, whole-then}
+use Rattle.layout.specs.Record.{Slot, Raw, Raws, noSlot, noRaw, num, decRaw, encode, decode, rowAt, change, changeAll, withNum, dropped, slotAt, outF, countF, boundF, nextF}
+use Rattle.layout.proofs.Laws.{rows-many, row-mid, raws-ok, row-ok, change-ok, changeAll-ok, whole-then}
 use Rattle.step.specs.Step.{pushed, readsRow, toldRow, lowered, leastRow, waitingRow, below, released, releasedRow, offered}
 use Rattle.step.proofs.Leaves.{push-ok, told-ok, release-none}
 

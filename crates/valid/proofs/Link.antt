@@ -2,22 +2,21 @@
 use Prim.Native.Nat.{ℕ, zero, suc, _+_, _*_, _-_, _<_, _≤_}
 use mathlib.Core.Path.{_≡_, refl, sym, ap, ap₂, _∙_, subst}
 use mathlib.Core.Logic.{⊎-elim}
-use mathlib.Core.List.{List, [], _∷_, _++_, map}
+use mathlib.Core.List.{List, [], _∷_, map}
 use mathlib.Core.Bool.{Bool, true, false, cond, _&&_}
 use native.Mathlib.Omega.{arith}
 use native.Mathlib.Nat.{eq-or-lt-of-le}
-use lib.Dec.{ltb, eqb, leb, lit<}
-use lib.IntN.{ℤ}
+use lib.Dec.{leb, lit<}
 use lib.ListN.{length, getD, set, take, drop, replicate, length-map, length-replicate, length-set, length-drop}
-use lib.Seq.{sets, length-sets, drop-drop, getD-drop, getD-take, getD-set-same, getD-set-other, length-take-le}
+use lib.Seq.{sets, drop-drop, getD-drop, getD-take, getD-set-same, getD-set-other, length-take-le}
 use borrow.Author.Tests.{leb-true, ltb-true, eqb-true, le-leb}
 use mir.Syntax.{w64}
 use mir.Val.{toZ}
-use Rattle.le.specs.Bytes.{le, part}
+use Rattle.le.specs.Bytes.{part}
 use Rattle.le.proofs.Laws.{le-one}
-use Rattle.meaning.specs.Plan.{Eqn, nil, Plan, eqnAt, undelayed, reads}
+use Rattle.meaning.specs.Plan.{Eqn, eqnAt, undelayed}
 use Rattle.meaning.specs.Cycle.{acyclic}
-use Rattle.machine.specs.State.{Cell, planOf}
+use Rattle.machine.specs.State.{planOf}
 use Rattle.operators.specs.Operators.{operatorCount, isOperator, usesA, usesB, usesK, delaysA, eqnOf, numberOf, firstOf, secondOf}
 use Rattle.operators.specs.Limits.{streamLimit}
 use Rattle.operators.proofs.Laws.{number-back, first-back, second-back, reads-by-number, undelayed-by-number}

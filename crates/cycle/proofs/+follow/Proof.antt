@@ -1,10 +1,8 @@
 -- `cycle::follow` meets its contract.
-use mathlib.Core.Path.{_≡_, refl, sym, ap, _∙_}
-use lib.ListN.{length, length-set}
+use mathlib.Core.Path.{ap, _∙_}
 use denote.Ref.{now}
-use Rattle.cycle.specs.Graph.{Walk, walked, followed, cleared, entryOf}
+use Rattle.cycle.specs.Graph.{followed}
 use Rattle.cycle.proofs.Walks.{absent, seen, stop, bare, first, second, last}
-use borrow.Author.Needs.{needs}
 use native.Mathlib.Omega.{arith}
 use Prim.Native.Nat.{ℕ, _<_}
 use borrow.Fn.Kinds.{In}

@@ -1,10 +1,8 @@
 -- `cycle::clear` meets its contract.
 use Prim.Native.Nat.{_≤_, _-_}
-use mathlib.Core.Path.{_≡_, refl, sym, ap, _∙_}
-use denote.Ref.{now}
+use mathlib.Core.Path.{_≡_, refl, _∙_}
 use Rattle.cycle.specs.Graph.{cleared}
 use Rattle.cycle.proofs.Walks.{blocked, going, done}
-use borrow.Author.Needs.{needs}
 use native.Mathlib.Omega.{arith}
 use Rattle.cycle.proofs.clear.Statement.{statement}
 use Rattle.cycle.proofs.clear.Tie as tie

@@ -1,5 +1,5 @@
 -- `cycle::note` meets its contract.
-use mathlib.Core.Path.{_≡_, refl, sym, ap, _∙_}
+use mathlib.Core.Path.{sym, _∙_}
 use borrow.Author.Tests.{le-leb, lt-leb}
 use Rattle.cycle.specs.Graph.{entryOf}
 use borrow.Author.Needs.{needs}

@@ -2,7 +2,6 @@
 use denote.Ref.{now}
 use Rattle.cycle.proofs.Walks.{stored}
 use borrow.Author.Needs.{needs}
-use native.Mathlib.Omega.{arith}
 use Rattle.cycle.proofs.store.Statement.{statement}
 use Rattle.cycle.proofs.store.Tie as tie
 use Rattle.cycle.proofs.store.Reads as reads

@@ -5,7 +5,7 @@ use Rattle.layout.specs.Record.{decRaw}
 use Rattle.layout.proofs.Slots.{slots-many}
 use Rattle.held.proofs.Turns.{left, left-all}
 use Rattle.look.specs.Look.{equation, ownOf, argOf}
-use Rattle.decide.specs.Near.{nearerIn, searchIn}
+use Rattle.decide.specs.Near.{searchIn}
 use Rattle.decide.proofs.Steps as step
 use borrow.Author.Needs.{needs}
 use native.Mathlib.Omega.{arith}

@@ -2,7 +2,6 @@ use Prim.Native.Nat.{_≤_, _-_}
 use mathlib.Core.Path.{_≡_}
 use lib.ListN.{length}
 use borrow.Author.Needs.{needs}
-use native.Mathlib.Omega.{arith}
 use Rattle.edges.proofs.print_row.Statement.{statement}
 use Rattle.edges.proofs.print_row.Tie as tie
 use Rattle.edges.proofs.print_row.Reads as reads

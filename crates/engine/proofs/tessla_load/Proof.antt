@@ -1,5 +1,4 @@
-use Prim.Native.Nat.{ℕ}
-use mathlib.Core.Path.{_≡_, refl, sym, ap, _∙_}
+use mathlib.Core.Path.{refl, sym, ap, _∙_}
 use denote.Ref.{now}
 use Rattle.engine.specs.Reply.{Reply}
 use Rattle.engine.proofs.Loads.{load-15, load-number, load-stays, load-fills}

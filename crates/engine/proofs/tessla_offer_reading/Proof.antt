@@ -1,14 +1,13 @@
-use Prim.Native.Nat.{ℕ, _+_, _*_, _≤_}
-use mathlib.Core.Path.{_≡_, refl, sym, ap, _∙_}
-use mathlib.Core.List.{List}
+use Prim.Native.Nat.{ℕ}
+use mathlib.Core.Path.{_≡_, ap, _∙_}
 use denote.Ref.{now}
 use mir.Syntax.{w64}
-use mir.Val.{ofZ, toZ}
+use mir.Val.{ofZ}
 use mir.Facts.{toZ-ofZ}
-use Rattle.machine.specs.Calls.{reading, progress, collecting}
+use Rattle.machine.specs.Calls.{reading}
 use Rattle.layout.specs.Record.{encode, decode}
 use Rattle.step.specs.Step.{offered}
-use Rattle.engine.specs.Reply.{Reply, reply}
+use Rattle.engine.specs.Reply.{Reply}
 use Rattle.engine.proofs.Replies
 use borrow.Author.Needs.{needs}
 use native.Mathlib.Omega.{arith}

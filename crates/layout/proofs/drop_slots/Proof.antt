@@ -1,4 +1,3 @@
-use mathlib.Core.Path.{_≡_, sym, _∙_}
 use denote.Ref.{now}
 use Rattle.layout.proofs.Slots.{slots-drop}
 use borrow.Author.Needs.{needs}

@@ -1,7 +1,6 @@
-use mathlib.Core.Path.{_≡_, sym, _∙_}
 use native.Mathlib.Omega.{arith}
 use denote.Ref.{now}
-use Rattle.layout.proofs.Slots.{stamp-get, slot-put, slots-drop}
+use Rattle.layout.proofs.Slots.{slot-put}
 use borrow.Author.Needs.{needs}
 use Rattle.layout.proofs.put_slot.Statement.{statement}
 use Rattle.layout.proofs.put_slot.Tie as tie

@@ -1,12 +1,7 @@
-use Prim.Native.Nat.{_+_, _-_, _≤_}
-use mathlib.Core.Path.{_≡_, refl, sym, _∙_}
-use lib.ListN.{length, getD, drop}
-use lib.Bits.{bitOr}
+use Prim.Native.Nat.{_-_}
 use denote.Ref.{now}
-use Rattle.le.specs.Bytes.{allZero}
 use Rattle.le.proofs.AllZero
 use borrow.Author.Needs.{needs}
-use native.Mathlib.Omega.{arith}
 use Rattle.le.proofs.any16.Statement.{statement}
 use Rattle.le.proofs.any16.Tie as tie
 use Rattle.le.proofs.any16.Reads as reads

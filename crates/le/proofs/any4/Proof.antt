@@ -1,9 +1,8 @@
-use Prim.Native.Nat.{_+_, _-_, _≤_}
-use mathlib.Core.Path.{_≡_, refl, sym, _∙_}
-use lib.ListN.{length, getD, drop}
+use Prim.Native.Nat.{_+_, _-_}
+use mathlib.Core.Path.{sym}
+use lib.ListN.{getD}
 use lib.Bits.{bitOr}
 use denote.Ref.{now}
-use Rattle.le.specs.Bytes.{allZero}
 use Rattle.le.proofs.AllZero
 use borrow.Author.Needs.{needs}
 use native.Mathlib.Omega.{arith}

@@ -1,10 +1,9 @@
 use Prim.Native.Nat.{_≤_, _+_, _-_}
-use mathlib.Core.Path.{_≡_, refl, sym, _∙_}
+use mathlib.Core.Path.{_≡_, refl, _∙_}
 use native.Mathlib.Omega.{arith}
 use native.Mathlib.Nat.{add-zero, sub-zero}
 use lib.ListN.{length, replicate, length-set}
 use lib.Seq.{sets}
-use denote.Ref.{now}
 use Rattle.le.proofs.Laws.{clear-turn, clear-done}
 use Rattle.le.proofs.clear.Statement.{statement}
 use Rattle.le.proofs.clear.Tie as tie

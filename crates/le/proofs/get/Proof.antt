@@ -1,10 +1,9 @@
-use Prim.Native.Nat.{_≤_, _+_, _-_, _<_}
-use mathlib.Core.Path.{_≡_, refl, sym, _∙_}
+use Prim.Native.Nat.{_≤_, _+_, _-_}
+use mathlib.Core.Path.{_≡_}
 use native.Mathlib.Omega.{arith}
 use borrow.Author.Needs.{needs}
-use lib.ListN.{length}
 use denote.Ref.{now}
-use Rattle.le.specs.Bytes.{le, part, Bytes}
+use Rattle.le.specs.Bytes.{le, part}
 use Rattle.le.proofs.Laws.{get-turn, part-lt, get-none, get-done, part-below}
 use Rattle.le.proofs.get.Statement.{statement}
 use Rattle.le.proofs.get.Tie as tie

@@ -1,12 +1,10 @@
 use Prim.Native.Nat.{ℕ, _+_, _-_, _≤_}
-use mathlib.Core.Path.{_≡_, refl, sym, ap, _∙_}
+use mathlib.Core.Path.{_≡_, refl, ap, _∙_}
 use native.Mathlib.Nat.{add-zero, sub-zero}
-use lib.ListN.{length, getD, drop, length-set}
+use lib.ListN.{length}
 use lib.Seq.{sets, length-sets}
-use denote.Ref.{now}
 use Rattle.le.specs.Bytes.{part}
-use Rattle.le.proofs.Laws.{shift-four, shift-block, shift-turns, shift-three, shift-done}
-use borrow.Author.Needs.{needs}
+use Rattle.le.proofs.Laws.{shift-turns}
 use native.Mathlib.Omega.{arith}
 use Rattle.le.proofs.shift.Statement.{statement}
 use Rattle.le.proofs.shift.Tie as tie

@@ -1,11 +1,6 @@
-use Prim.Native.Nat.{ℕ, _+_, _-_, _≤_}
-use mathlib.Core.Path.{_≡_, refl, sym, ap, _∙_}
-use native.Mathlib.Nat.{add-zero, sub-zero}
-use lib.ListN.{length, getD, drop, length-set}
-use lib.Seq.{sets, length-sets}
+use Prim.Native.Nat.{_-_}
 use denote.Ref.{now}
-use Rattle.le.specs.Bytes.{part}
-use Rattle.le.proofs.Laws.{shift-four, shift-block, shift-turns, shift-three, shift-done}
+use Rattle.le.proofs.Laws.{shift-three}
 use borrow.Author.Needs.{needs}
 use native.Mathlib.Omega.{arith}
 use Rattle.le.proofs.shift12.Statement.{statement}

@@ -1,13 +1,9 @@
-use Prim.Native.Nat.{ℕ, _+_, _-_, _≤_}
-use Rattle.le.proofs.Laws.{shift-four, shift-block, shift-turns, shift-three, shift-done}
-use Prim.Native.Nat.{_+_, _-_, _≤_}
-use mathlib.Core.Path.{_≡_, refl, sym, ap, _∙_}
-use native.Mathlib.Nat.{add-zero, sub-zero}
-use lib.ListN.{length, getD, drop, length-set}
-use lib.Seq.{sets, length-sets}
+use Prim.Native.Nat.{_+_, _-_}
+use Rattle.le.proofs.Laws.{shift-four}
+use Prim.Native.Nat.{_+_, _-_}
+use lib.ListN.{length-set}
 use denote.Ref.{now}
-use Rattle.le.specs.Bytes.{part}
-use Rattle.le.proofs.Laws.{shift-four, shift-block, shift-turns, shift-done}
+use Rattle.le.proofs.Laws.{shift-four}
 use borrow.Author.Needs.{needs}
 use native.Mathlib.Omega.{arith}
 use Rattle.le.proofs.shift4.Statement.{statement}

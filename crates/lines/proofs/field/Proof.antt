@@ -1,7 +1,7 @@
 -- `lines::field` meets its contract.
 use mathlib.Core.Path.{sym, _∙_}
 use Prim.Native.Nat.{_-_}
-use Rattle.lines.specs.Form.{skip, whole, ended, field}
+use Rattle.lines.specs.Form.{field}
 use borrow.Author.Needs.{needs}
 use Rattle.lines.proofs.field.Statement.{statement}
 use Rattle.lines.proofs.field.Tie as tie

@@ -2,7 +2,7 @@
 use mathlib.Core.Path.{sym, _∙_}
 use Prim.Native.Nat.{_-_}
 use borrow.Author.Tests.{le-leb, lt-leb}
-use Rattle.lines.specs.Form.{field, outLine}
+use Rattle.lines.specs.Form.{outLine}
 use borrow.Author.Needs.{needs}
 use Rattle.lines.proofs.out_line.Statement.{statement}
 use Rattle.lines.proofs.out_line.Tie as tie

@@ -1,7 +1,7 @@
 -- `lines::value_line` meets its contract.
 use mathlib.Core.Path.{sym, _∙_}
 use Prim.Native.Nat.{_-_}
-use Rattle.lines.specs.Form.{skip, ended, signed, valueLine}
+use Rattle.lines.specs.Form.{valueLine}
 use borrow.Author.Needs.{needs}
 use Rattle.lines.proofs.value_line.Statement.{statement}
 use Rattle.lines.proofs.value_line.Tie as tie

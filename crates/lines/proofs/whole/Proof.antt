@@ -2,7 +2,7 @@
 use mathlib.Core.Path.{sym, _∙_}
 use Prim.Native.Nat.{_-_}
 use borrow.Author.Tests.{eq-eqb, ne-eqb}
-use Rattle.lines.specs.Form.{skip, whole}
+use Rattle.lines.specs.Form.{whole}
 use borrow.Author.Needs.{needs}
 use Rattle.lines.proofs.whole.Statement.{statement}
 use Rattle.lines.proofs.whole.Tie as tie

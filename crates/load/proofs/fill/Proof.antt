@@ -1,19 +1,13 @@
-use Prim.Native.Nat.{ℕ, _+_, _-_, _*_, _<_, _≤_}
-use mathlib.Core.Path.{_≡_, refl, sym, ap, _∙_}
-use native.Mathlib.Nat.{sub-zero}
-use borrow.Rule.Slice.PartMut.{midOf, putMid, same-len-mid}
-use lib.ListN.{length, getD}
+use Prim.Native.Nat.{ℕ, _-_}
+use mathlib.Core.Path.{_≡_, sym, ap, _∙_}
+use lib.ListN.{length}
 use denote.Ref.{now}
-use Rattle.layout.specs.Record.{Raw, Raws, decRaw, encRaw, encode, decode}
-use Rattle.layout.proofs.Laws.{raw-len, encode-decode}
-use Rattle.layout.proofs.Loops.{row-len}
-use Rattle.load.specs.Filled.{stored, written, filled}
-use Rattle.load.proofs.Passes
+use Rattle.layout.specs.Record.{encode, decode}
+use Rattle.load.specs.Filled.{written, filled}
 use mathlib.Core.List.{List}
 use lib.ListN.{replicate, length-replicate}
 use Rattle.le.proofs.Fields.{sets-whole}
 use Rattle.render.proofs.Heads.{head-fits}
-use Rattle.text.specs.Grammar.{head}
 use Rattle.text.specs.declared.Head.{Head}
 use Rattle.load.specs.Filled.{filledHead}
 use Rattle.valid.specs.Valid.{stateLength}

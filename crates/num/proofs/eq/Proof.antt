@@ -1,13 +1,7 @@
-use mathlib.Core.Path.{_≡_, sym, ap, ap₂, _∙_}
-use mathlib.Core.Bool.{not, Bool·beq}
-use lib.IntN.{ℤ, _*ℤ_, negℤ}
-use lib.Signed.{ltZ, leZ}
-use mir.Facts.{toZ-ofZ}
-use Prim.Native.Nat.{ℕ, _*_, _+_, _/_, _%_, min}
+use mathlib.Core.Path.{ap, _∙_}
 use Rattle.num.specs.Arithmetic.{truth, equal}
 use Rattle.num.proofs.Signed.{same-bits}
 use borrow.Author.Needs.{needs}
-use native.Mathlib.Omega.{arith}
 use Rattle.num.proofs.eq.Statement.{statement}
 use Rattle.num.proofs.eq.Tie as tie
 use Rattle.num.proofs.eq.Reads as reads

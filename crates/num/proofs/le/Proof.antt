@@ -1,12 +1,9 @@
-use mathlib.Core.Path.{_≡_, sym, ap, ap₂, _∙_}
-use mathlib.Core.Bool.{not, Bool·beq}
-use lib.IntN.{ℤ, _*ℤ_, negℤ}
-use lib.Signed.{ltZ, leZ}
+use mathlib.Core.Path.{ap₂, _∙_}
+use lib.IntN.{ℤ}
+use lib.Signed.{leZ}
 use mir.Facts.{toZ-ofZ}
-use Prim.Native.Nat.{ℕ, _*_, _+_, _/_, _%_, min}
 use Rattle.num.specs.Arithmetic.{truth, atMost}
 use borrow.Author.Needs.{needs}
-use native.Mathlib.Omega.{arith}
 use Rattle.num.proofs.le.Statement.{statement}
 use Rattle.num.proofs.le.Tie as tie
 use Rattle.num.proofs.le.Reads as reads

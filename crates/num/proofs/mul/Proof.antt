@@ -1,14 +1,12 @@
-use mathlib.Core.Path.{_≡_, sym, ap, ap₂, _∙_}
+use mathlib.Core.Path.{sym, ap, ap₂, _∙_}
 use mathlib.Core.Bool.{not, Bool·beq}
-use lib.IntN.{ℤ, _*ℤ_, negℤ}
-use lib.Signed.{ltZ, leZ}
+use lib.IntN.{_*ℤ_}
 use mir.Facts.{toZ-ofZ}
-use Prim.Native.Nat.{ℕ, _*_, _+_, _/_, _%_, min}
+use Prim.Native.Nat.{ℕ, _*_}
 use Rattle.num.specs.Arithmetic.{fit, multiplied}
 use Rattle.num.specs.Parts.{signed}
 use Rattle.num.proofs.Arith.{capped, product}
 use borrow.Author.Needs.{needs}
-use native.Mathlib.Omega.{arith}
 use Rattle.num.proofs.mul.Statement.{statement}
 use Rattle.num.proofs.mul.Tie as tie
 use Rattle.num.proofs.mul.Reads as reads

@@ -1,13 +1,9 @@
-use mathlib.Core.Path.{_≡_, sym, ap, ap₂, _∙_}
-use mathlib.Core.Bool.{not, Bool·beq}
-use lib.IntN.{ℤ, _*ℤ_, negℤ}
-use lib.Signed.{ltZ, leZ}
+use mathlib.Core.Path.{ap, _∙_}
+use lib.IntN.{negℤ}
 use mir.Facts.{toZ-ofZ}
-use Prim.Native.Nat.{ℕ, _*_, _+_, _/_, _%_, min}
 use Rattle.num.specs.Arithmetic.{fit, negated}
 use Rattle.num.proofs.Arith.{negated-parts}
 use borrow.Author.Needs.{needs}
-use native.Mathlib.Omega.{arith}
 use Rattle.num.proofs.neg.Statement.{statement}
 use Rattle.num.proofs.neg.Tie as tie
 use Rattle.num.proofs.neg.Reads as reads

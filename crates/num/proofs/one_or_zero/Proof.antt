@@ -1,12 +1,4 @@
-use mathlib.Core.Path.{_≡_, sym, ap, ap₂, _∙_}
-use mathlib.Core.Bool.{not, Bool·beq}
-use lib.IntN.{ℤ, _*ℤ_, negℤ}
-use lib.Signed.{ltZ, leZ}
-use mir.Facts.{toZ-ofZ}
-use Prim.Native.Nat.{ℕ, _*_, _+_, _/_, _%_, min}
 use Rattle.num.specs.Arithmetic.{truth}
-use borrow.Author.Needs.{needs}
-use native.Mathlib.Omega.{arith}
 use Rattle.num.proofs.one_or_zero.Statement.{statement}
 use Rattle.num.proofs.one_or_zero.Tie as tie
 use Rattle.num.proofs.one_or_zero.Reads as reads

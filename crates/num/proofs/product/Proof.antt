@@ -1,9 +1,4 @@
-use mathlib.Core.Path.{_≡_, sym, ap, ap₂, _∙_}
-use mathlib.Core.Bool.{not, Bool·beq}
-use lib.IntN.{ℤ, _*ℤ_, negℤ}
-use lib.Signed.{ltZ, leZ}
-use mir.Facts.{toZ-ofZ}
-use Prim.Native.Nat.{ℕ, _*_, _+_, _/_, _%_, min}
+use mathlib.Core.Path.{_∙_}
 use Rattle.num.proofs.Arith.{low-low, by-halves, halves-low, high-high}
 use borrow.Author.Needs.{needs}
 use native.Mathlib.Omega.{arith}

@@ -1,14 +1,9 @@
 -- `plan::note_stream` meets its contract.
-use mathlib.Core.Path.{_≡_, refl, sym, ap, _∙_}
-use Prim.Native.Nat.{ℕ, _≤_, _<_, _+_, _*_, _-_, _^_}
-use lib.ListN.{length, getD, drop}
+use mathlib.Core.Path.{sym, _∙_}
+use Prim.Native.Nat.{_-_}
 use denote.Ref.{now}
-use borrow.Author.Tests.{le-leb, lt-leb, lt-ltb, le-ltb, eq-eqb, ne-eqb, not-true, not-false}
-use Rattle.plan.proofs.Pass.{first-kept, second-kept, small, noted-kept, noted-broken, pass-halt, pass-go, pass-end, answer-halted, answer-formed, answer-left-over}
-use Rattle.plan.specs.Rules.{keeps, streams}
-use Rattle.plan.specs.Pass.{turn, passOf, notedStream, notedLines}
-use Rattle.text.specs.Grammar.{stream}
-use mathlib.Core.Bool.{true}
+use borrow.Author.Tests.{not-true, not-false}
+use Rattle.plan.proofs.Pass.{first-kept, second-kept, small, noted-kept, noted-broken}
 use Rattle.operators.specs.Operators.{usesA, usesB}
 use borrow.Author.Needs.{needs}
 use native.Mathlib.Omega.{arith}

@@ -1,16 +1,8 @@
 -- `plan::read_turn` meets its contract.
-use mathlib.Core.Path.{_≡_, refl, sym, ap, _∙_}
-use Prim.Native.Nat.{ℕ, _≤_, _<_, _+_, _*_, _-_, _^_}
-use lib.ListN.{length, getD, drop}
-use denote.Ref.{now}
-use borrow.Author.Tests.{le-leb, lt-leb, lt-ltb, le-ltb, eq-eqb, ne-eqb, not-true, not-false}
-use Rattle.plan.proofs.Pass.{first-kept, second-kept, small, noted-kept, noted-broken, pass-halt, pass-go, pass-end, answer-halted, answer-formed, answer-left-over}
-use Rattle.plan.specs.Rules.{keeps, streams}
-use Rattle.plan.specs.Pass.{turn, passOf, notedStream, notedLines}
-use Rattle.text.specs.Grammar.{stream}
-use mathlib.Core.Bool.{true}
+use mathlib.Core.Path.{sym, _∙_}
+use Prim.Native.Nat.{_-_}
+use Rattle.plan.specs.Pass.{turn}
 use borrow.Author.Needs.{needs}
-use native.Mathlib.Omega.{arith}
 use Rattle.plan.proofs.read_turn.Statement.{statement}
 use Rattle.plan.proofs.read_turn.Tie as tie
 use Rattle.plan.proofs.read_turn.Reads as reads

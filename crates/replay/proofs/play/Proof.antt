@@ -2,7 +2,6 @@ use mathlib.Core.List.{[]}
 use Rattle.replay.specs.Played.{none}
 use Rattle.replay.proofs.Order
 use borrow.Author.Needs.{needs}
-use native.Mathlib.Omega.{arith}
 use Rattle.replay.proofs.play.Statement.{statement}
 use Rattle.replay.proofs.play.Tie as tie
 use Rattle.replay.proofs.play.Reads as reads

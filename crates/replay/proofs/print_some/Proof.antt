@@ -2,7 +2,6 @@ use mathlib.Core.Path.{sym}
 use Prim.Native.Nat.{_-_}
 use lib.Seq.{length-take-le}
 use borrow.Author.Needs.{needs}
-use native.Mathlib.Omega.{arith}
 use Rattle.replay.proofs.print_some.Statement.{statement}
 use Rattle.replay.proofs.print_some.Tie as tie
 use Rattle.replay.proofs.print_some.Reads as reads

@@ -1,4 +1,4 @@
-use mathlib.Core.Path.{_≡_, refl, sym, subst, _∙_}
+use mathlib.Core.Path.{_≡_, refl, sym, _∙_}
 use Prim.Native.Nat.{_-_}
 use borrow.Author.Tests.{not-true, not-false}
 use lib.ListN.{length}
@@ -8,7 +8,6 @@ use Rattle.replaying.specs.Replay.{start}
 use Rattle.replay.specs.Played.{Goes}
 use Rattle.replay.proofs.Order
 use borrow.Author.Needs.{needs}
-use native.Mathlib.Omega.{arith}
 use Rattle.replay.proofs.settle.Statement.{statement}
 use Rattle.replay.proofs.settle.Tie as tie
 use Rattle.replay.proofs.settle.Reads as reads

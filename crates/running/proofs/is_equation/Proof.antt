@@ -1,25 +1,10 @@
-use Prim.Native.Nat.{ℕ, suc, _+_, _-_, _*_, _<_, _≤_}
-use mathlib.Core.Path.{_≡_, refl, sym, ap, ap₂, _∙_}
-use mathlib.Core.Bool.{Bool, true, false, cond, not}
-use mathlib.Core.List.{List}
-use borrow.Author.Tests.{lt-ltb, le-ltb, not-true, not-false}
-use borrow.Author.Count.{below-more}
-use native.Mathlib.Nat.{sub-zero, zero-add}
-use lib.Dec.{ltb}
-use lib.ListN.{length}
+use Prim.Native.Nat.{ℕ, _+_, _-_, _*_}
+use mathlib.Core.Path.{sym, ap, _∙_}
+use mathlib.Core.Bool.{not}
+use borrow.Author.Tests.{lt-ltb, le-ltb}
 use denote.Ref.{now}
-use Rattle.machine.specs.Step.{canMove, move}
-use Rattle.machine.specs.Calls.{Outcome, lowest}
-use Rattle.machine.specs.Calls as machine
-use Rattle.layout.specs.Record.{encode, decode}
-use Rattle.cells.specs.View.{bytesOf}
-use Rattle.valid.specs.Valid.{stateLength}
-use Rattle.state.specs.In.{stateIn, IsState}
-use Rattle.moves.specs.Move.{canRaw, movedRaw}
-use Rattle.running.proofs.Turns
-use Rattle.layout.specs.Record.{Raw, decRaw, num, rowAt, opF}
+use Rattle.layout.specs.Record.{num, opF}
 use Rattle.layout.proofs.Laws.{row-mid}
-use borrow.Rule.Slice.PartMut.{midOf}
 use lib.Dec.{eqb}
 use Rattle.running.specs.Equation.{equationRaw}
 use borrow.Author.Needs.{needs}

@@ -1,24 +1,13 @@
-use Prim.Native.Nat.{ℕ, suc, _+_, _-_, _*_, _<_, _≤_}
-use mathlib.Core.Path.{_≡_, refl, sym, ap, ap₂, _∙_}
-use mathlib.Core.Bool.{Bool, true, false, cond, not}
-use mathlib.Core.List.{List}
-use borrow.Author.Tests.{lt-ltb, le-ltb, not-true, not-false}
+use Prim.Native.Nat.{ℕ, _-_, _<_, _≤_}
+use mathlib.Core.Path.{_≡_, refl, sym, ap}
+use mathlib.Core.Bool.{false}
 use borrow.Author.Count.{below-more}
-use native.Mathlib.Nat.{sub-zero, zero-add}
-use lib.Dec.{ltb}
 use lib.ListN.{length}
 use denote.Ref.{now}
-use Rattle.machine.specs.Step.{canMove, move}
-use Rattle.machine.specs.Calls.{Outcome, lowest}
-use Rattle.machine.specs.Calls as machine
-use Rattle.layout.specs.Record.{encode, decode}
-use Rattle.cells.specs.View.{bytesOf}
-use Rattle.valid.specs.Valid.{stateLength}
-use Rattle.state.specs.In.{stateIn, IsState}
-use Rattle.moves.specs.Move.{canRaw, movedRaw}
+use Rattle.machine.specs.Step.{canMove}
+use Rattle.state.specs.In.{stateIn}
 use Rattle.state.proofs.In
 use Rattle.running.proofs.Turns
-use borrow.Author.Needs.{needs}
 use native.Mathlib.Omega.{arith}
 use Rattle.running.proofs.move_lowest.Statement.{statement}
 use Rattle.running.proofs.move_lowest.Tie as tie

@@ -1,25 +1,14 @@
-use Prim.Native.Nat.{ℕ, suc, _+_, _-_, _*_, _<_, _≤_}
-use mathlib.Core.Path.{_≡_, refl, sym, ap, ap₂, _∙_}
-use mathlib.Core.Bool.{Bool, true, false, cond, not}
-use mathlib.Core.List.{List}
-use borrow.Author.Tests.{lt-ltb, le-ltb, not-true, not-false}
-use borrow.Author.Count.{below-more}
-use native.Mathlib.Nat.{sub-zero, zero-add}
+use Prim.Native.Nat.{_-_, _≤_}
+use mathlib.Core.Path.{_≡_, refl, sym, ap, _∙_}
+use mathlib.Core.Bool.{true, false}
+use borrow.Author.Tests.{not-true, not-false}
 use lib.Dec.{ltb}
 use lib.ListN.{length}
 use denote.Ref.{now}
-use Rattle.machine.specs.Step.{canMove, move}
-use Rattle.machine.specs.Calls.{Outcome, lowest}
-use Rattle.machine.specs.Calls as machine
-use Rattle.layout.specs.Record.{encode, decode}
-use Rattle.cells.specs.View.{bytesOf}
-use Rattle.valid.specs.Valid.{stateLength}
+use Rattle.machine.specs.Calls.{lowest}
 use Rattle.state.specs.In.{stateIn, IsState}
-use Rattle.moves.specs.Move.{canRaw, movedRaw}
 use Rattle.running.proofs.Turns
-use lib.ListN.{getD}
 use Rattle.le.specs.Bytes.{Bytes}
-use borrow.Author.Needs.{needs}
 use native.Mathlib.Omega.{arith}
 use Rattle.running.proofs.run.Statement.{statement}
 use Rattle.running.proofs.run.Tie as tie

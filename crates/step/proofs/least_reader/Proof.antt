@@ -1,20 +1,15 @@
 use lib.Dec.{lit≤}
-use Prim.Native.Nat.{ℕ, _+_, _-_, _*_, _<_, _≤_, max}
-use mathlib.Core.Path.{_≡_, refl, sym, ap, ap₂, _∙_}
-use mathlib.Core.List.{List}
-use borrow.Author.Tests.{not-true, not-false}
-use borrow.Rule.Slice.PartMut.{midOf, putMid, same-len-mid}
-use lib.ListN.{length, drop}
+use Prim.Native.Nat.{ℕ, _+_, _-_, _*_, _≤_, max}
+use mathlib.Core.Path.{_≡_, refl, sym, ap, _∙_}
+use borrow.Rule.Slice.PartMut.{midOf}
+use lib.ListN.{drop}
 use denote.Ref.{now}
-use Rattle.layout.specs.Record.{Slot, Raw, decRaw, encRaw, encode, decode, num, withNum, withSlot, slotAt, dropped, rowAt, change, changeAll, opF, aF, bF, outF, countF, flagF, priorFlagF, boundF, nextF, keptF, valueF, priorF}
-use Rattle.layout.proofs.Laws.{num-ok, raw-len, row-mid, lent, encode-decode}
-use Rattle.layout.proofs.Slots.{slot-ok, shift-ok, slots-many}
-use Rattle.layout.proofs.Loops.{left, each-turn, each-end, each-all, row-len}
-use Rattle.step.specs.Step.{pushed, readsRow, toldLast, toldValue, toldPrior, toldSince, toldDelay, toldRow, lowered, leastRow, waitingRow, below, released, releasedRow, offered}
+use Rattle.layout.specs.Record.{decRaw, decode, num, boundF}
+use Rattle.layout.proofs.Loops.{row-len}
+use Rattle.step.specs.Step.{readsRow, lowered, leastRow}
 use Rattle.step.proofs.Leaves
 use Rattle.step.proofs.Rounds
 use mathlib.Core.Bool.{true, false}
-use borrow.Author.Needs.{needs}
 use native.Mathlib.Omega.{arith}
 use Rattle.step.proofs.least_reader.Statement.{statement}
 use Rattle.step.proofs.least_reader.Tie as tie

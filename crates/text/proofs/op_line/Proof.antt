@@ -2,7 +2,6 @@
 use mathlib.Core.Path.{sym, _∙_}
 use Prim.Native.Nat.{_-_}
 use denote.Ref.{now}
-use Rattle.lines.specs.Form.{skip}
 use Rattle.text.specs.Grammar.{opLine}
 use Rattle.text.specs.Lookup.{numberPacked}
 use Rattle.text.proofs.Names.{no-name, a-name, an-operator, not-ended}

@@ -1,7 +1,6 @@
 -- `text::read_head` meets its contract.
 use mathlib.Core.Path.{sym, _∙_}
 use Prim.Native.Nat.{_-_}
-use Rattle.lines.specs.Form.{skip, field}
 use Rattle.text.specs.Grammar.{head}
 use borrow.Author.Needs.{needs}
 use Rattle.text.proofs.read_head.Statement.{statement}

@@ -1,7 +1,6 @@
 -- `trace::bound_after` meets its contract.
 use mathlib.Core.Path.{sym, _∙_}
 use Prim.Native.Nat.{_-_}
-use Rattle.lines.specs.Form.{skip, whole}
 use Rattle.trace.specs.Trace.{boundAfter}
 use borrow.Author.Needs.{needs}
 use Rattle.trace.proofs.bound_after.Statement.{statement}

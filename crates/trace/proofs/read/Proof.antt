@@ -2,7 +2,6 @@
 use mathlib.Core.Path.{sym, _∙_}
 use Prim.Native.Nat.{_-_}
 use denote.Ref.{now}
-use Rattle.lines.specs.Form.{skip, whole}
 use Rattle.trace.specs.Trace.{line}
 use Rattle.trace.proofs.Bounds.{whole-small}
 use borrow.Author.Needs.{needs}

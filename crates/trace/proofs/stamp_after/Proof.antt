@@ -3,7 +3,6 @@ use mathlib.Core.Path.{sym, _∙_}
 use Prim.Native.Nat.{_-_}
 use borrow.Author.Tests.{lt-ltb, le-ltb}
 use Rattle.meaning.specs.Events.{horizon}
-use Rattle.lines.specs.Form.{whole}
 use Rattle.trace.specs.Trace.{stampAfter}
 use borrow.Author.Needs.{needs}
 use native.Mathlib.Omega.{arith}

@@ -4,7 +4,6 @@ use Rattle.trace.specs.declared.Record.the-variants.{Reading}
 use Rattle.trace.specs.declared.Line.the-variants.{Read}
 use mathlib.Core.Path.{sym, ap, _∙_}
 use Prim.Native.Nat.{_-_}
-use Rattle.lines.specs.Form.{skip, signed}
 use Rattle.trace.specs.Trace.{valueAfter}
 use borrow.Author.Needs.{needs}
 use Rattle.trace.proofs.value_after.Statement.{statement}
