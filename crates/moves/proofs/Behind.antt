@@ -11,7 +11,7 @@ use Rattle.machine.specs.Reach.{Next, silent, limit}
 use Rattle.operators.specs.Operators.{eqnOf, numberOf}
 use Rattle.layout.specs.Record.{Raws, num, rowAt, opF, aF, bF, kF, countF, boundF}
 use Rattle.look.proofs.Laws.{look-bound, look-eqn, number-in}
-use Rattle.decide.proofs.Searches.{limit-one, limit-two, limit-last, limit-delay, decide-stays}
+use Rattle.decide.proofs.Searches.{limit-plain, limit-one, limit-two, limit-last, limit-delay, decide-stays}
 use Rattle.moves.specs.Move.{argIn, ownIn, firstIn, secondIn, aheadRaw, boundRaw, canRaw}
 use Rattle.moves.proofs.Decides.{can-stays}
 
@@ -40,6 +40,13 @@ module _ (n i op y : ℕ) (st : Raws) (is : op ≡ num opF (rowAt st i)) (own : 
       let r = rowAt st i in
       number-in (num aF r) (num bF r) (toZ w64 (num kF r)) op p q
       ∙ ap (λ (m : ℕ). numberOf (eqnOf m (num aF r) (num bF r) (toZ w64 (num kF r)))) is ∙ ap numberOf (sym (look-eqn r))
+
+  -- no argument, and known to the end
+  pub stuck-plain : 2 ≤ op → op ≤ 3 → horizon ≤ y → canRaw n i st ≡ false
+  stuck-plain p q l =
+      let m = number (omega arith) (omega arith) in
+      let k = limit-plain o a b (o .eqn) (λ e. absurd (omega arith)) (omega arith) in
+      stays (omega arith)
 
   -- x is an argument's bound as it was read
   module _ (x : ℕ) (first : x ≡ num boundF (rowAt st (argIn n (num aF (rowAt st i))))) (l : x ≤ y) where

@@ -38,7 +38,8 @@ fn bound_of(state: &[u8], n: usize, i: usize, j: usize) -> u64
     layout::word_at(&state[at..end], 1)
 }
 
-// Whether the bounds alone say that stream i cannot move: an argument that it waits for is not ahead of it.
+// Whether the bounds alone say that stream i cannot move: an argument that it waits for is not ahead of it, or it has none
+// and is known to the end.
 // Most streams that a run looks at cannot move, and end here.
 fn stuck(state: &[u8], n: usize, i: usize) -> bool
     requires { ⌜ (n * 256 ≤ length (now state)) × (i < n) ⌝ }
@@ -52,6 +53,7 @@ fn stuck(state: &[u8], n: usize, i: usize) -> bool
     }
     let op = layout::byte_at(&state[at..end], 0);
     match op {
+        2..=3 => Bound::HORIZON <= bound,
         4..=7 => bound_of(state, n, i, 1) <= bound,
         8..=17 => {
             if bound_of(state, n, i, 1) <= bound {
