@@ -24,7 +24,7 @@ Settles s t = Goes start s Rest t
 -- the line at a position is offered and what follows settles, or it can't be read and nothing is done
 abbrev pub Follows : (text : List ℕ) (at : ℕ) → List ℕ → After → List ℕ → Type 0
 Follows text at s (Line next) t = (r : Record) × (line text at ≡ read.Read r next) × Settles (reply (callOf r) s .buffer) t
-Follows text at s End t = t ≡ s
+Follows text at s End t = (line text at ≡ read.Bad) × (t ≡ s)
 
 -- records offered one after the other, each settled
 pub data Offered : List ℕ → List Record → List ℕ → Type 0 where

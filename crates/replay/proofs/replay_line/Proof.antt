@@ -1,4 +1,4 @@
-use mathlib.Core.Path.{sym, subst, _∙_}
+use mathlib.Core.Path.{refl, sym, subst, _∙_}
 use Prim.Native.Nat.{_-_}
 use denote.Ref.{now}
 use Rattle.trace.proofs.Ends.{line-ends}
@@ -33,7 +33,7 @@ print-refused-requires c κs = search needs
 
 -- src/main.rt:81:9
 returns : tie.Need-returns
-returns c = search needs
+returns c = (tt, (sym (c .before .before .before .read .ensures) ∙ c .before .enum-told .given .1, refl))
 
 -- src/main.rt:83:5
 offer-requires : tie.Need-offer-requires

@@ -73,7 +73,7 @@ same-length-2 c = c .before .before .before .before .replay-line .kept .0 ∙ c 
 
 -- src/main.rt:123:13
 returns-2 : tie.Need-returns-2 Inv-loop μ-loop
-returns-2 c = Order.offered-end (c .before .before .before .before .before .before .before .before .before .before .before .before .loop .inv .4) (rw (c .enum-told .given .1) at (c .before .before .before .before .replay-line .ensures .1))
+returns-2 c = Order.offered-end (c .before .before .before .before .before .before .before .before .before .before .before .before .loop .inv .4) ((rw (c .enum-told .given .1) at (c .before .before .before .before .replay-line .ensures .1)) .1)
 
 -- src/main.rt:126:9
 sub-lines : tie.Need-sub-lines Inv-loop μ-loop
