@@ -7,6 +7,7 @@ use native.Mathlib.Nat.{add-zero}
 use borrow.Rule.Slice.PartMut.{midOf, putMid}
 use lib.ListN.{length, getD, take, drop, length-set, length-map, length-append, length-drop, take-append-drop}
 use lib.Seq.{sets, sets-eq, length-take-le, drop-drop, take-at, drop-at}
+use Rattle.machine.specs.State.{room}
 use Rattle.le.specs.Bytes.{le, enc, part, Bytes}
 use Rattle.le.proofs.Laws.{length-enc, take-bytes, drop-bytes, part-below}
 use Rattle.le.specs.Layout.{encFields, decFields, encRows, decRows, total, offset}
@@ -24,12 +25,12 @@ pub head-len : (vs : List ℕ) → length (encFields headWidths vs) ≡ 64
 unfolding total
 head-len vs = length-fields headWidths vs
 
-pub slots-len : (l : List Slot) → length (encRows encSlot noSlot 16 l) ≡ 192
-slots-len l = length-rows encSlot noSlot 12 slot-len 16 l
+pub slots-len : (l : List Slot) → length (encRows encSlot noSlot room l) ≡ 192
+slots-len l = length-rows encSlot noSlot 12 slot-len room l
 
 pub raw-len : (r : Raw) → length (encRaw r) ≡ 256
 unfolding encRaw
-raw-len r = length-append (encFields headWidths (r .nums)) (encRows encSlot noSlot 16 (r .slots)) ∙ ap₂ _+_ (head-len (r .nums)) (slots-len (r .slots))
+raw-len r = length-append (encFields headWidths (r .nums)) (encRows encSlot noSlot room (r .slots)) ∙ ap₂ _+_ (head-len (r .nums)) (slots-len (r .slots))
 
 -- ---- encode of decode, on every buffer
 
@@ -42,7 +43,7 @@ unfolding encRaw decRaw total
 raw-dec s h b =
     let e : length (take 64 s) ≡ 64 = length-take-le 64 s (omega arith) in
     let d : length (drop 64 s) ≡ 192 = length-drop 64 s ∙ omega arith in
-    ap₂ _++_ (fields-dec headWidths (take 64 s) e (take-bytes 64 s b)) (rows-dec encSlot noSlot 12 slot-len decSlot slot-dec 16 (drop 64 s) d (drop-bytes s 64 b))
+    ap₂ _++_ (fields-dec headWidths (take 64 s) e (take-bytes 64 s b)) (rows-dec encSlot noSlot 12 slot-len decSlot slot-dec room (drop 64 s) d (drop-bytes s 64 b))
     ∙ take-append-drop 64 s
 
 pub encode-decode : (n : ℕ) (s : List ℕ) → n * 256 ≤ length s → Bytes s → encode n (decode n s) ≡ s
@@ -59,7 +60,7 @@ SlotOk e = (e .stamp < 256 ^ 4) × (e .value < 256 ^ 8)
 
 pub record RawOk (r : Raw) : Type 0 where
   pub heads : Small headWidths (r .nums)
-  pub many : length (r .slots) ≡ 16
+  pub many : length (r .slots) ≡ room
   pub good : All SlotOk (r .slots)
 
 slot-enc : (e : Slot) → SlotOk e → decSlot (encSlot e) ≡ e
@@ -72,9 +73,9 @@ pub raw-enc : (r : Raw) → RawOk r → decRaw (encRaw r) ≡ r
 unfolding encRaw decRaw
 raw-enc r ok =
     let hd = encFields headWidths (r .nums) in
-    let rows = encRows encSlot noSlot 16 (r .slots) in
+    let rows = encRows encSlot noSlot room (r .slots) in
     let v = ap (decFields headWidths) (take-at hd rows 64 (head-len (r .nums))) ∙ fields-enc headWidths (r .nums) (ok .heads) in
-    let w = ap (decRows decSlot 12 16) (drop-at hd rows 64 (head-len (r .nums))) ∙ rows-enc SlotOk encSlot noSlot decSlot 12 slot-len slot-enc 16 (r .slots) (ok .many) (ok .good) in
+    let w = ap (decRows decSlot 12 room) (drop-at hd rows 64 (head-len (r .nums))) ∙ rows-enc SlotOk encSlot noSlot decSlot 12 slot-len slot-enc room (r .slots) (ok .many) (ok .good) in
     λ i. record { nums = v i; slots = w i }
 
 pub record RawsOk (n : ℕ) (st : Raws) : Type 0 where
@@ -99,8 +100,8 @@ pub raw-ok : (s : List ℕ) → Bytes s → RawOk (decRaw s)
 unfolding decRaw
 raw-ok s b = record {
   heads = fields-small headWidths (take 64 s) (take-bytes 64 s b);
-  many = length-decRows decSlot 12 16 (drop 64 s);
-  good = rows-all SlotOk decSlot 12 slot-small 16 (drop 64 s) (drop-bytes s 64 b);
+  many = length-decRows decSlot 12 room (drop 64 s);
+  good = rows-all SlotOk decSlot 12 slot-small room (drop 64 s) (drop-bytes s 64 b);
 }
 
 pub raws-ok : (n : ℕ) (s : List ℕ) → Bytes s → RawsOk n (decode n s)
@@ -114,7 +115,7 @@ pub num-set : (r : Raw) (j v : ℕ) → RawOk r → j < 15 → offset headWidths
     → sets (encRaw r) (offset headWidths j) (enc (getD headWidths j 0) v) ≡ encRaw (withNum j v r)
 unfolding encRaw
 num-set r j v ok h k =
-    let rows = encRows encSlot noSlot 16 (r .slots) in
+    let rows = encRows encSlot noSlot room (r .slots) in
     sets-left (encFields headWidths (r .nums)) rows (offset headWidths j) (enc (getD headWidths j 0) v)
     (rw (length-enc (getD headWidths j 0) v, head-len (r .nums)) k)
     ∙ ap (λ (l : List ℕ). l ++ rows) (fields-set headWidths (r .nums) j v h (rw (nums-len headWidths (r .nums) (ok .heads)) h))
@@ -151,6 +152,12 @@ unfolding decode
 row-at n s i h = rows-get decRaw noRaw 256 n (take (n * 256) s) i h ∙ ap decRaw (part-part 256 (i * 256) (n * 256) s (omega arith))
 
 -- the same, as the borrow checker names a part
+-- what is lent of record i, and how long it is
+pub record-part : (s : List ℕ) (i k : ℕ) → k ≡ 256 → i * 256 + 256 ≤ length s → (midOf (i * 256) k s ≡ part s (i * 256) 256) × (length (midOf (i * 256) k s) ≡ 256)
+record-part s i k q h =
+    let e : midOf (i * 256) k s ≡ part s (i * 256) 256 = ap (λ (m : ℕ). midOf (i * 256) m s) q in
+    (e, ap length e ∙ length-take-le 256 (drop (i * 256) s) (rw (length-drop (i * 256) s) (omega arith)))
+
 pub row-mid : (n : ℕ) (s : List ℕ) (i k : ℕ) → i < n → k ≡ 256 → rowAt (decode n s) i ≡ decRaw (midOf (i * 256) k s)
 row-mid n s i k h q = row-at n s i h ∙ ap (λ (m : ℕ). decRaw (midOf (i * 256) m s)) (sym q)
 

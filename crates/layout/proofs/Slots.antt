@@ -7,6 +7,7 @@ use native.Mathlib.Nat.{add-zero}
 use lib.Dec.{lit<, lit≤}
 use lib.ListN.{length, getD, take, drop, set, replicate, length-replicate, length-append, length-drop, length-set, take-append-drop}
 use lib.Seq.{sets, length-take-le, drop-drop, take-at, drop-append-add, drop-append-le}
+use Rattle.machine.specs.State.{room}
 use Rattle.le.specs.Bytes.{le, enc, part, Bytes}
 use Rattle.le.proofs.Laws.{length-enc}
 use Rattle.le.specs.Layout.{encFields, decFields, encRows}
@@ -16,26 +17,26 @@ use Rattle.layout.proofs.Laws.{SlotOk, RawOk, slot-len, head-len, leaf-
 use Rattle.le.proofs.RoundTrip.{All, all-set, rows-split, rows-drop, sets-append}
 
 -- a store in the slots' bytes
-in-slots : (r : Raw) (o : ℕ) (vs : List ℕ) → sets (encRaw r) (64 + o) vs ≡ encFields headWidths (r .nums) ++ sets (encRows encSlot noSlot 16 (r .slots)) o vs
+in-slots : (r : Raw) (o : ℕ) (vs : List ℕ) → sets (encRaw r) (64 + o) vs ≡ encFields headWidths (r .nums) ++ sets (encRows encSlot noSlot room (r .slots)) o vs
 unfolding encRaw
 in-slots r o vs =
     let hd = encFields headWidths (r .nums) in
-    let rows = encRows encSlot noSlot 16 (r .slots) in
+    let rows = encRows encSlot noSlot room (r .slots) in
     ap (λ (m : ℕ). sets (hd ++ rows) (m + o) vs) (sym (head-len (r .nums))) ∙ sets-right hd rows o vs
 
 -- slot j stored
-pub slot-set : (r : Raw) (j : ℕ) (e : Slot) → RawOk r → j < 16 → sets (encRaw r) (64 + j * 12) (encSlot e) ≡ encRaw (withSlots (set (r .slots) j e) r)
+pub slot-set : (r : Raw) (j : ℕ) (e : Slot) → RawOk r → j < room → sets (encRaw r) (64 + j * 12) (encSlot e) ≡ encRaw (withSlots (set (r .slots) j e) r)
 unfolding encRaw
 slot-set r j e ok h =
     let hd = encFields headWidths (r .nums) in
-    let rows = encRows encSlot noSlot 16 (r .slots) in
+    let rows = encRows encSlot noSlot room (r .slots) in
     let old = encSlot (getD (r .slots) j noSlot) in
     let ln : length (encSlot e) ≡ 12 = slot-len e in
     let w : encSlot e ≡ sets old 0 (encSlot e) = sym (sets-whole old (encSlot e) (slot-len (getD (r .slots) j noSlot) ∙ sym ln)) in
     in-slots r (j * 12) (encSlot e)
     ∙ ap (λ (q : List ℕ). hd ++ q)
     (ap (λ (m : ℕ). sets rows m (encSlot e)) (sym (add-zero (j * 12)))
-    ∙ rows-set encSlot noSlot 12 slot-len 16 (r .slots) j 0 (encSlot e) e h (rw (ok .many) h) (omega arith) w)
+    ∙ rows-set encSlot noSlot 12 slot-len room (r .slots) j 0 (encSlot e) e h (rw (ok .many) h) (omega arith) w)
 
 -- a slot stored in two parts
 pub slot-two : (l : List ℕ) (i t v : ℕ) → sets (sets l i (enc 4 t)) (i + 4) (enc 8 v) ≡ sets l i (encSlot (record { stamp = t; value = v }))
@@ -52,10 +53,10 @@ stamp-dec : (s : List ℕ) → decSlot s .stamp ≡ le (take 4 s)
 unfolding decSlot decFields
 stamp-dec s = refl
 
-pub stamp-get : (s : List ℕ) (j : ℕ) → j < 16 → getD (decRaw s .slots) j noSlot .stamp ≡ le (part s (64 + j * 12) 4)
+pub stamp-get : (s : List ℕ) (j : ℕ) → j < room → getD (decRaw s .slots) j noSlot .stamp ≡ le (part s (64 + j * 12) 4)
 unfolding decRaw
 stamp-get s j h =
-    ap (λ (e : Slot). e .stamp) (rows-get decSlot noSlot 12 16 (drop 64 s) j h)
+    ap (λ (e : Slot). e .stamp) (rows-get decSlot noSlot 12 room (drop 64 s) j h)
     ∙ stamp-dec (part (drop 64 s) (j * 12) 12)
     ∙ ap le (part-part 4 0 12 (drop (j * 12) (drop 64 s)) (lit≤ tt) ∙ ap (take 4) (drop-drop (j * 12) 64 s))
 
@@ -64,11 +65,11 @@ value-dec : (s : List ℕ) → decSlot s .value ≡ le (take 8 (drop 4 s))
 unfolding decSlot decFields
 value-dec s = refl
 
-pub value-get : (s : List ℕ) (j : ℕ) → j < 16 → getD (decRaw s .slots) j noSlot .value ≡ le (part s (68 + j * 12) 8)
+pub value-get : (s : List ℕ) (j : ℕ) → j < room → getD (decRaw s .slots) j noSlot .value ≡ le (part s (68 + j * 12) 8)
 unfolding decRaw
 value-get s j h =
     let e : 64 + j * 12 + 4 ≡ 68 + j * 12 = omega arith in
-    ap (λ (e : Slot). e .value) (rows-get decSlot noSlot 12 16 (drop 64 s) j h)
+    ap (λ (e : Slot). e .value) (rows-get decSlot noSlot 12 room (drop 64 s) j h)
     ∙ value-dec (part (drop 64 s) (j * 12) 12)
     ∙ ap le (part-part 8 4 12 (drop (j * 12) (drop 64 s)) (lit≤ tt) ∙ ap (take 8) (ap (drop 4) (drop-drop (j * 12) 64 s) ∙ drop-drop 4 (64 + j * 12) s ∙ ap (λ (m : ℕ). drop m s) e))
 
@@ -81,33 +82,33 @@ slot-zeros (suc k) =
     let e : suc k * 12 ≡ 12 + k * 12 = omega arith in
     ap (λ (l : List ℕ). replicate 12 0 ++ l) (slot-zeros k) ∙ lib.ListN.replicate-append-replicate 12 (k * 12) 0 ∙ ap (λ (j : ℕ). replicate j 0) (sym e)
 
--- the bytes of 16 slots: of the first n, and of the others
-rows-two : (n : ℕ) (l : List Slot) → length l ≡ 16 → n ≤ 16 → encRows encSlot noSlot 16 l ≡ encRows encSlot noSlot n (take n l) ++ encRows encSlot noSlot (16 - n) (drop n l)
+-- the bytes of all slots: of the first n, and of the others
+rows-two : (n : ℕ) (l : List Slot) → length l ≡ room → n ≤ room → encRows encSlot noSlot room l ≡ encRows encSlot noSlot n (take n l) ++ encRows encSlot noSlot (room - n) (drop n l)
 rows-two n l h hn =
-    let q : 16 ≡ n + (16 - n) = omega arith in
+    let q : room ≡ n + (room - n) = omega arith in
     ap₂ (λ (m : ℕ) (x : List Slot). encRows encSlot noSlot m x) q (sym (take-append-drop n l))
-    ∙ rows-split encSlot noSlot 12 slot-len n (16 - n) (take n l) (drop n l) (length-take-le n l (rw h hn))
+    ∙ rows-split encSlot noSlot 12 slot-len n (room - n) (take n l) (drop n l) (length-take-le n l (rw h hn))
 
-shifted-rows : (k n : ℕ) (l : List Slot) → length l ≡ 16 → k ≤ n → n ≤ 16
-    → encRows encSlot noSlot 16 (shifted k n l) ≡ drop (k * 12) (encRows encSlot noSlot n (take n l)) ++ (replicate (k * 12) 0 ++ encRows encSlot noSlot (16 - n) (drop n l))
+shifted-rows : (k n : ℕ) (l : List Slot) → length l ≡ room → k ≤ n → n ≤ room
+    → encRows encSlot noSlot room (shifted k n l) ≡ drop (k * 12) (encRows encSlot noSlot n (take n l)) ++ (replicate (k * 12) 0 ++ encRows encSlot noSlot (room - n) (drop n l))
 shifted-rows k n l h hk hn =
-    let m : 16 ≡ n - k + (k + (16 - n)) = omega arith in
+    let m : room ≡ n - k + (k + (room - n)) = omega arith in
     let q : n ≡ k + (n - k) = omega arith in
     let first : length (take n l) ≡ n = length-take-le n l (rw h hn) in
     ap (λ (j : ℕ). encRows encSlot noSlot j (shifted k n l)) m
-    ∙ rows-split encSlot noSlot 12 slot-len (n - k) (k + (16 - n)) (drop k (take n l)) (replicate k noSlot ++ drop n l) (length-drop k (take n l) ∙ ap (λ (x : ℕ). x - k) first)
+    ∙ rows-split encSlot noSlot 12 slot-len (n - k) (k + (room - n)) (drop k (take n l)) (replicate k noSlot ++ drop n l) (length-drop k (take n l) ∙ ap (λ (x : ℕ). x - k) first)
     ∙ ap₂ _++_ (sym (ap (λ (j : ℕ). drop (k * 12) (encRows encSlot noSlot j (take n l))) q ∙ rows-drop encSlot noSlot 12 slot-len k (n - k) (take n l) (first ∙ q)))
-    (rows-split encSlot noSlot 12 slot-len k (16 - n) (replicate k noSlot) (drop n l) (length-replicate k noSlot) ∙ ap (λ (x : List ℕ). x ++ encRows encSlot noSlot (16 - n) (drop n l)) (slot-zeros k))
+    (rows-split encSlot noSlot 12 slot-len k (room - n) (replicate k noSlot) (drop n l) (length-replicate k noSlot) ∙ ap (λ (x : List ℕ). x ++ encRows encSlot noSlot (room - n) (drop n l)) (slot-zeros k))
 
 -- the bytes moved down and the freed ones cleared
-pub slots-shift : (r : Raw) (k n : ℕ) → RawOk r → k ≤ n → n ≤ 16
+pub slots-shift : (r : Raw) (k n : ℕ) → RawOk r → k ≤ n → n ≤ room
     → sets (sets (encRaw r) 64 (part (encRaw r) (64 + k * 12) (n * 12 - k * 12))) (64 + (n * 12 - k * 12)) (replicate (k * 12) 0) ≡ encRaw (withSlots (shifted k n (r .slots)) r)
 unfolding encRaw
 slots-shift r k n ok h hn =
     let hd = encFields headWidths (r .nums) in
-    let rows = encRows encSlot noSlot 16 (r .slots) in
+    let rows = encRows encSlot noSlot room (r .slots) in
     let some = encRows encSlot noSlot n (take n (r .slots)) in
-    let other = encRows encSlot noSlot (16 - n) (drop n (r .slots)) in
+    let other = encRows encSlot noSlot (room - n) (drop n (r .slots)) in
     let m : ℕ = k * 12 in
     let w : ℕ = n * 12 - k * 12 in
     let dr = drop m some in
@@ -150,11 +151,11 @@ all-take zero l h = tt
 all-take (suc k) [] h = tt
 all-take (suc k) (a ∷ l) h = (h .0, all-take k l (h .1))
 
-pub shift-ok : (r : Raw) (k n : ℕ) → RawOk r → k ≤ n → n ≤ 16 → RawOk (withSlots (shifted k n (r .slots)) r)
+pub shift-ok : (r : Raw) (k n : ℕ) → RawOk r → k ≤ n → n ≤ room → RawOk (withSlots (shifted k n (r .slots)) r)
 shift-ok r k n ok h hn =
     let l = r .slots in
     let first : length (drop k (take n l)) ≡ n - k = length-drop k (take n l) ∙ ap (λ (x : ℕ). x - k) (length-take-le n l (rw (ok .many) hn)) in
-    let rest : length (replicate k noSlot ++ drop n l) ≡ k + (16 - n) = length-append (replicate k noSlot) (drop n l) ∙ ap₂ _+_ (length-replicate k noSlot) (length-drop n l ∙ ap (λ (x : ℕ). x - n) (ok .many)) in
+    let rest : length (replicate k noSlot ++ drop n l) ≡ k + (room - n) = length-append (replicate k noSlot) (drop n l) ∙ ap₂ _+_ (length-replicate k noSlot) (length-drop n l ∙ ap (λ (x : ℕ). x - n) (ok .many)) in
     record {
       heads = ok .heads;
       many = length-append (drop k (take n l)) (replicate k noSlot ++ drop n l) ∙ ap₂ _+_ first rest ∙ omega arith;
@@ -164,20 +165,20 @@ shift-ok r k n ok h hn =
 -- ---- the code's stores
 
 -- p₁ and p₂ are the bytes after each store
-pub slot-put : (p p₁ p₂ : List ℕ) (j t v : ℕ) → length p ≡ 256 → Bytes p → j < 16
+pub slot-put : (p p₁ p₂ : List ℕ) (j t v : ℕ) → length p ≡ 256 → Bytes p → j < room
     → p₁ ≡ sets p (64 + j * 12) (enc 4 t) → p₂ ≡ sets p₁ (64 + j * 12 + 4) (enc 8 v) → p₂ ≡ encRaw (withSlot j t v (decRaw p))
 slot-put p p₁ p₂ j t v n b h e₁ e₂ =
     e₂ ∙ ap (λ (l : List ℕ). sets l (64 + j * 12 + 4) (enc 8 v)) e₁ ∙ slot-two p (64 + j * 12) t v
     ∙ ap (λ (l : List ℕ). sets l (64 + j * 12) (encSlot (record { stamp = t; value = v }))) (leaf-none p n b)
     ∙ slot-set (decRaw p) j (record { stamp = t; value = v }) (raw-ok p b) h
 
-pub slots-drop : (p p₁ p₂ : List ℕ) (k n : ℕ) → length p ≡ 256 → Bytes p → k ≤ n → n ≤ 16
+pub slots-drop : (p p₁ p₂ : List ℕ) (k n : ℕ) → length p ≡ 256 → Bytes p → k ≤ n → n ≤ room
     → p₁ ≡ sets p 64 (part p (64 + k * 12) (n * 12 - k * 12)) → p₂ ≡ sets p₁ (64 + (n * 12 - k * 12)) (replicate (k * 12) 0) → p₂ ≡ encRaw (dropped k n (decRaw p))
 slots-drop p p₁ p₂ k n l b h hn e₁ e₂ =
     e₂ ∙ ap (λ (x : List ℕ). sets x (64 + (n * 12 - k * 12)) (replicate (k * 12) 0)) e₁
     ∙ ap (λ (x : List ℕ). sets (sets x 64 (part x (64 + k * 12) (n * 12 - k * 12))) (64 + (n * 12 - k * 12)) (replicate (k * 12) 0)) (leaf-none p l b)
     ∙ slots-shift (decRaw p) k n (raw-ok p b) h hn
 
-pub slots-many : (s : List ℕ) → length (decRaw s .slots) ≡ 16
+pub slots-many : (s : List ℕ) → length (decRaw s .slots) ≡ room
 unfolding decRaw
-slots-many s = length-decRows decSlot 12 16 (drop 64 s)
+slots-many s = length-decRows decSlot 12 room (drop 64 s)

@@ -3,6 +3,7 @@ use Prim.Native.Nat.{ℕ, zero, suc, _+_, _*_, _^_, _<_}
 use mathlib.Core.Path.{_≡_}
 use mathlib.Core.List.{List, [], _∷_, _++_, map}
 use lib.ListN.{length, take, drop, getD, set, replicate}
+use Rattle.machine.specs.State.{room}
 use Rattle.le.specs.Layout.{encFields, decFields, encRows, decRows}
 
 -- a stored event; the value in two's complement
@@ -10,7 +11,7 @@ pub record Slot : Type 0 where
   pub stamp : ℕ
   pub value : ℕ
 
--- a record: the 15 numbers of its head, and 16 slots
+-- a record: the 15 numbers of its head, and a slot for each event that there is room for
 pub record Raw : Type 0 where
   pub nums : List ℕ
   pub slots : List Slot
@@ -114,10 +115,10 @@ unfoldable pub decSlot : List ℕ → Slot
 decSlot s = (let v = decFields slotWidths s in record { stamp = getD v 0 0; value = getD v 1 0 })
 
 unfoldable pub encRaw : Raw → List ℕ
-encRaw r = encFields headWidths (r .nums) ++ encRows encSlot noSlot 16 (r .slots)
+encRaw r = encFields headWidths (r .nums) ++ encRows encSlot noSlot room (r .slots)
 
 unfoldable pub decRaw : List ℕ → Raw
-decRaw s = record { nums = decFields headWidths (take 64 s); slots = decRows decSlot 12 16 (drop 64 s) }
+decRaw s = record { nums = decFields headWidths (take 64 s); slots = decRows decSlot 12 room (drop 64 s) }
 
 -- the first n records, and all bytes behind them
 unfoldable pub encode : ℕ → Raws → List ℕ

@@ -1,8 +1,63 @@
 // Records in bytes: the only functions that know where a field lies.
 ghost use mathlib.Core.Path.{_≡_};
-ghost use Prim.Native.Nat.{_+_, _≤_, _<_, _^_};
+ghost use Prim.Native.Nat.{_+_, _*_, _≤_, _<_, _^_};
 ghost use lib.ListN.{length};
+ghost use Rattle.le.specs.Bytes.{part};
+ghost use Rattle.machine.specs.State.{room};
 ghost use Rattle.layout.specs.Record.{encRaw, decRaw, num, withNum, slotAt, withSlot, dropped};
+
+// How many bytes a record has.
+pub const RECORD: usize = 256;
+// How many its head has, and each slot behind it.
+pub const HEAD: usize = 64;
+pub const SLOT: usize = 12;
+// Where the first slot's value lies, behind its stamp.
+const FIRST_VALUE: usize = HEAD + 4;
+
+// The numbers of one byte in a record's head, by their place among them.
+
+// The operator's stored number.
+pub const OP: usize = 0;
+// The arguments.
+pub const A: usize = 1;
+pub const B: usize = 2;
+// 1 of an output.
+pub const OUT: usize = 3;
+// How many events are held.
+pub const COUNT: usize = 4;
+// Whether the value that a last or a delay keeps is there.
+pub const FLAG: usize = 5;
+// Whether a delay's prior is there.
+pub const PRIOR_FLAG: usize = 6;
+// Unused.
+pub const SMALL: usize = 7;
+
+// The numbers of eight bytes, by their place among them.
+
+// The value k.
+pub const K: usize = 0;
+// The bound.
+pub const BOUND: usize = 1;
+// Of an output: one past the last collected stamp.
+pub const NEXT: usize = 2;
+// A last's value, a delay's since.
+pub const KEPT: usize = 3;
+// A delay's value.
+pub const VALUE: usize = 4;
+// A delay's prior.
+pub const PRIOR: usize = 5;
+// Unused.
+pub const REST: usize = 6;
+
+// Record i of a state.
+pub fn record(state: &[u8], i: usize) -> &[u8]
+    requires { ⌜ i * 256 + 256 ≤ length (now state) ⌝ }
+    ensures { λ r. ⌜ (now r ≡ part (now (state .entry)) (i * 256) 256) × (length (now r) ≡ 256) ⌝ }
+{
+    let at = i * RECORD;
+    let end = at + RECORD;
+    &state[at..end]
+}
 
 // Number j of a record's head, of those of one byte.
 pub fn byte_at(r: &[u8], j: usize) -> u64
@@ -38,37 +93,37 @@ pub fn put_word(r: &mut [u8], j: usize, v: u64)
 
 // The stamp in slot j of a record.
 pub fn stamp_at(r: &[u8], j: usize) -> u64
-    requires { ⌜ (length (now r) ≡ 256) × (j < 16) ⌝ }
+    requires { ⌜ (length (now r) ≡ 256) × (j < room) ⌝ }
     ensures { λ x. ⌜ (x ≡ slotAt j (decRaw (now (r .entry))) .stamp) × (x < 2 ^ 32) ⌝ }
 {
-    le::get(r, 64 + j * 12, 4)
+    le::get(r, HEAD + j * SLOT, 4)
 }
 
 // The value in slot j of a record, in two's complement.
 pub fn value_at(r: &[u8], j: usize) -> u64
-    requires { ⌜ (length (now r) ≡ 256) × (j < 16) ⌝ }
+    requires { ⌜ (length (now r) ≡ 256) × (j < room) ⌝ }
     ensures { λ x. ⌜ x ≡ slotAt j (decRaw (now (r .entry))) .value ⌝ }
 {
-    le::get(r, 68 + j * 12, 8)
+    le::get(r, FIRST_VALUE + j * SLOT, 8)
 }
 
 // Puts the event (t, v) into slot j of a record.
 pub fn put_slot(r: &mut [u8], j: usize, t: u64, v: u64)
-    requires { ⌜ (length (now r) ≡ 256) × (j < 16) ⌝ }
+    requires { ⌜ (length (now r) ≡ 256) × (j < room) ⌝ }
     ensures { λ _. ⌜ now (r .exit) ≡ encRaw (withSlot j t v (decRaw (now (r .entry)))) ⌝ }
 {
-    let at = 64 + j * 12;
+    let at = HEAD + j * SLOT;
     le::put(r, at, 4, t);
     le::put(r, at + 4, 8, v);
 }
 
 // Drops the first k of the first n slots of a record: the rest of the n move down, and as many become free behind them.
 pub fn drop_slots(r: &mut [u8], k: usize, n: usize)
-    requires { ⌜ (length (now r) ≡ 256) × (k ≤ n) × (n ≤ 16) ⌝ }
+    requires { ⌜ (length (now r) ≡ 256) × (k ≤ n) × (n ≤ room) ⌝ }
     ensures { λ _. ⌜ now (r .exit) ≡ encRaw (dropped k n (decRaw (now (r .entry)))) ⌝ }
 {
-    let m = k * 12;
-    let rest = n * 12 - m;
-    le::shift(r, 64, m, rest);
-    le::clear(r, 64 + rest, m);
+    let m = k * SLOT;
+    let rest = n * SLOT - m;
+    le::shift(r, HEAD, m, rest);
+    le::clear(r, HEAD + rest, m);
 }

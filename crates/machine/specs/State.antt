@@ -42,6 +42,19 @@ State = List Cell
 abbrev pub noKept : Kept
 noKept = record { prev = none; since = 0; value = none; prior = none }
 
+-- what is kept with another field
+abbrev pub withPrev : Option ℤ → Kept → Kept
+withPrev p k = record { prev = p; since = k .since; value = k .value; prior = k .prior }
+
+abbrev pub withSince : ℕ → Kept → Kept
+withSince z k = record { prev = k .prev; since = z; value = k .value; prior = k .prior }
+
+abbrev pub withValue : Option ℤ → Kept → Kept
+withValue v k = record { prev = k .prev; since = k .since; value = v; prior = k .prior }
+
+abbrev pub withPrior : Option ℤ → Kept → Kept
+withPrior p k = record { prev = k .prev; since = k .since; value = k .value; prior = p }
+
 -- A stream as a plan text declares it: its equation, and whether it is an output
 pub record Declared : Type 0 where
   pub eqn : Eqn

@@ -9,7 +9,7 @@ use lib.IntN.{ℤ}
 use Rattle.meaning.specs.Plan.{Eqn, input, nil, unit, one, two, last, delay, isInput, reads}
 use Rattle.meaning.specs.Events.{Event, ev, found, horizon, orElse}
 use Rattle.meaning.specs.Table.{latest}
-use Rattle.machine.specs.State.{Kept, Cell, State, cellAt, room, withBound, withHeld, withNext, withKept}
+use Rattle.machine.specs.State.{Kept, Cell, State, cellAt, room, withBound, withHeld, withKept, withPrev, withSince, withValue, withPrior}
 use Rattle.machine.specs.Reach.{view, pastLatest, valueAt, Next, event, silent, decide}
 
 -- the arguments of an equation; 0 where its operator uses none
@@ -34,7 +34,7 @@ argB (delay a b) = b
 -- ---- Write: the bound goes to y, with the new events below it; own kept data follows
 
 abbrev pub advance : ℕ → List Event → Cell → Cell
-advance y new c = record { eqn = c .eqn; out = c .out; bound = y; held = c .held ++ new; next = c .next; kept = c .kept }
+advance y new c = withHeld (c .held ++ new) (withBound y c)
 
 -- one past the latest known set point below the bound
 abbrev pub later : (o b : Cell) → ℕ
@@ -47,15 +47,11 @@ absorb nil o a b = o .kept
 absorb unit o a b = o .kept
 absorb (one f _) o a b = o .kept
 absorb (two g _ _) o a b = o .kept
-absorb (last _ _) o a b =
-    record { prev = orElse (latest (view a) (o .bound)) (o .kept .prev); since = o .kept .since; value = o .kept .value; prior = o .kept .prior }
+absorb (last _ _) o a b = withPrev (orElse (latest (view a) (o .bound)) (o .kept .prev)) (o .kept)
 absorb (delay _ _) o a b =
-    record {
-      prev = o .kept .prev;
-      since = later o b;
-      value = cond (eqb (later o b) 0) none (valueAt o a (later o b));
-      prior = view a (pred (o .bound));
-    }
+    withSince (later o b)
+    (withValue (cond (eqb (later o b) 0) none (valueAt o a (later o b)))
+    (withPrior (view a (pred (o .bound))) (o .kept)))
 
 unfoldable pub absorbed : ℕ → State → State
 absorbed s M =
@@ -80,14 +76,13 @@ readsIt s (delay a b) = eqb a s || eqb b s
 
 -- a delay with bound y: a's event at its latest set point; a's event just below its bound; b's event there, a new set point
 abbrev pub valueTold : Bool → (t : ℕ) → ℤ → Kept → Kept
-valueTold isA t v k = record { prev = k .prev; since = k .since; value = cond (isA && eqb (k .since) (t + 1)) (some v) (k .value); prior = k .prior }
+valueTold isA t v k = withValue (cond (isA && eqb (k .since) (t + 1)) (some v) (k .value)) k
 
 abbrev pub priorTold : Bool → (y t : ℕ) → ℤ → Kept → Kept
-priorTold isA y t v k = record { prev = k .prev; since = k .since; value = k .value; prior = cond (isA && eqb y (t + 1)) (some v) (k .prior) }
+priorTold isA y t v k = withPrior (cond (isA && eqb y (t + 1)) (some v) (k .prior)) k
 
 abbrev pub sinceTold : Bool → (y t : ℕ) → Kept → Kept
-sinceTold isB y t k =
-    record { prev = k .prev; since = cond (isB && eqb y (t + 1)) y (k .since); value = cond (isB && eqb y (t + 1)) (k .prior) (k .value); prior = k .prior }
+sinceTold isB y t k = withSince (cond (isB && eqb y (t + 1)) y (k .since)) (withValue (cond (isB && eqb y (t + 1)) (k .prior) (k .value)) k)
 
 -- what an equation with bound y keeps when the event (t, v) of stream s comes in below its bound
 abbrev pub keptTold : Eqn → (s y t : ℕ) → ℤ → Kept → Kept
@@ -96,7 +91,7 @@ keptTold nil s y t v k = k
 keptTold unit s y t v k = k
 keptTold (one f a) s y t v k = k
 keptTold (two g a b) s y t v k = k
-keptTold (last a b) s y t v k = record { prev = cond (eqb a s) (some v) (k .prev); since = k .since; value = k .value; prior = k .prior }
+keptTold (last a b) s y t v k = withPrev (cond (eqb a s) (some v) (k .prev)) k
 keptTold (delay a b) s y t v k = sinceTold (eqb b s) y t (priorTold (eqb a s) y t v (valueTold (eqb a s) t v k))
 
 unfoldable pub told : (s t : ℕ) → ℤ → Cell → Cell

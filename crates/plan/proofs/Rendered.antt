@@ -24,8 +24,9 @@ use Rattle.text.specs.declared.Head.{Head}
 use Rattle.text.specs.declared.Head.the-variants as Head
 use Rattle.lines.specs.Form.{valueKey, outKey, ending}
 use Rattle.text.specs.Grammar.{planLine, streamsKey, opKey, firstKey, secondKey, stream, head}
-use Rattle.render.specs.Render.{decimal, valueText, bitText, line, streamText, declaredText, allText, render}
-use Rattle.render.proofs.Digits.{digits-few}
+use Rattle.decimal.specs.Decimal.{decimal, valueText}
+use Rattle.render.specs.Render.{bitText, line, streamText, declaredText, allText, render}
+use Rattle.decimal.proofs.Digits.{digits-few}
 use Rattle.render.proofs.Streams.{bitsOf, outOf, name-short, stream-written}
 use Rattle.render.proofs.Heads.{head-written}
 use Rattle.plan.specs.Rules.{keeps, allKeep, formed, streams, declaredFrom, planFrom, numberAfter, number, declared}

@@ -25,7 +25,8 @@ use Rattle.text.specs.declared.Lines.the-variants as Lines
 use Rattle.text.specs.declared.Head.{Head}
 use Rattle.text.specs.declared.Head.the-variants as Head
 use Rattle.text.specs.Grammar.{planLine, streamsKey, stream, head}
-use Rattle.render.specs.Render.{decimal, line, streamText, declaredText, allText, render}
+use Rattle.decimal.specs.Decimal.{decimal}
+use Rattle.render.specs.Render.{line, streamText, declaredText, allText, render}
 use Rattle.render.proofs.Ranges.{stream-refused}
 use Rattle.render.proofs.Back.{stream-read}
 use Rattle.render.proofs.Heads.{head-fits, head-read, head-refused}

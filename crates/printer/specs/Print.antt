@@ -1,12 +1,9 @@
--- The lines that the replay program prints, and what it means that bytes were put into a buffer.
-use Prim.Native.Nat.{ℕ, _+_}
-use mathlib.Core.Path.{_≡_}
+-- The lines that the replay program prints.
+use Prim.Native.Nat.{ℕ}
 use mathlib.Core.List.{List, [], _∷_, _++_}
 use lib.IntN.{ℤ}
-use lib.ListN.{length}
-use lib.Seq.{sets}
 use Rattle.lines.specs.Form.{ending}
-use Rattle.render.specs.Render.{decimal, valueText}
+use Rattle.decimal.specs.Decimal.{decimal, valueText}
 
 -- s=
 abbrev pub streamKey : List ℕ
@@ -39,8 +36,3 @@ eventRoom = 67
 
 abbrev pub refusedRoom : ℕ
 refusedRoom = 28
-
--- the bytes ws were put into the buffer l at a position: end is past them, l′ the buffer then
-pub record Put (l : List ℕ) (at : ℕ) (ws : List ℕ) (end : ℕ) (l′ : List ℕ) : Type 0 where
-  pub bytes : l′ ≡ sets l at ws
-  pub past : end ≡ at + length ws

@@ -28,8 +28,9 @@ use Rattle.text.specs.declared.Lines.the-variants as Lines
 use Rattle.lines.specs.Form.{ending, valueKey, outKey, stands, skip, after, digit, scanned, scan, counted, orZero, whole, endedAt, ended, field, positive, negative, signedAfter, signed, valueLine, bit, outLine}
 use Rattle.text.specs.Grammar.{opKey, firstKey, secondKey, letter, nameAt, sameName, place, names, numberNamed, opLine, stream}
 use Rattle.lines.proofs.Turns.{grows}
-use Rattle.render.specs.Render.{decimal, valueText, bitText, line, streamText}
-use Rattle.render.proofs.Digits.{digit-one, digits-snoc}
+use Rattle.decimal.specs.Decimal.{decimal, valueText}
+use Rattle.render.specs.Render.{bitText, line, streamText}
+use Rattle.decimal.proofs.Digits.{digit-one, digits-snoc}
 use Rattle.render.proofs.Written.{line-split}
 use Rattle.render.proofs.Ranges.{stream-case, fields-case, op-case}
 

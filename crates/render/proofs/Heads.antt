@@ -17,7 +17,8 @@ use Rattle.text.specs.declared.Head.{Head}
 use Rattle.text.specs.declared.Head.the-variants as Head
 use Rattle.lines.specs.Form.{skip, field}
 use Rattle.text.specs.Grammar.{planLine, streamsKey, counts, headAfter, head}
-use Rattle.render.specs.Render.{decimal, line}
+use Rattle.decimal.specs.Decimal.{decimal}
+use Rattle.render.specs.Render.{line}
 use Rattle.render.proofs.Written.{on, skip-written, field-written}
 use Rattle.render.proofs.Back.{skip-read, field-read}
 

@@ -21,8 +21,9 @@ use Rattle.text.specs.declared.Lines.{Lines}
 use Rattle.text.specs.declared.Lines.the-variants as Lines
 use Rattle.lines.specs.Form.{ending, valueKey, outKey, skip, whole, positive, negative, signed, valueLine, bit, outLine}
 use Rattle.text.specs.Grammar.{opKey, firstKey, secondKey, place, letter, nameAt, numberNamed, known, named, opLine, next, fieldsAfter, stream}
-use Rattle.render.specs.Render.{decimal, valueText, bitText, line, streamText}
-use Rattle.render.proofs.Digits.{digits-first, digits-some, digit-one}
+use Rattle.decimal.specs.Decimal.{decimal, valueText}
+use Rattle.render.specs.Render.{bitText, line, streamText}
+use Rattle.decimal.proofs.Digits.{digits-first, digits-some, digit-one}
 use Rattle.render.proofs.Written.{here, on, skip-written, skip-absent, Finds, whole-written, ended-written, line-split, field-written}
 
 -- ## k

@@ -13,8 +13,9 @@ use Rattle.lines.specs.declared.Found.{Found}
 use Rattle.lines.specs.declared.Found.the-variants.{Number}
 use Rattle.lines.specs.Form.{ending, skip, scanned, scan, whole, ended, field}
 use Rattle.lines.proofs.Turns.{scan-go, scan-low, scan-end}
-use Rattle.render.specs.Render.{digits, decimal, line}
-use Rattle.render.proofs.Digits.{digit-one, digit-more, small-or, digits-some, digits-first, digits-few, tenth}
+use Rattle.decimal.specs.Decimal.{digits, decimal}
+use Rattle.render.specs.Render.{line}
+use Rattle.decimal.proofs.Digits.{digit-one, digit-more, small-or, digits-some, digits-first, digits-few, tenth}
 
 -- ## Positions
 

@@ -1,28 +1,14 @@
 -- The text of a plan: the lines that load reads.
-use Prim.Native.Nat.{ℕ, zero, suc, _+_, _/_, _%_}
-use mathlib.Core.Bool.{Bool, true, false, cond}
+use Prim.Native.Nat.{ℕ}
+use mathlib.Core.Bool.{Bool, true, false}
 use mathlib.Core.List.{List, [], _∷_, _++_}
-use lib.Dec.{ltb}
 use lib.ListN.{length}
-use lib.IntN.{ℤ, pos, negsuc}
+use lib.IntN.{ℤ}
 use Rattle.machine.specs.State.{Declared}
 use Rattle.operators.specs.Operators.{nameOf, numberOf, firstOf, secondOf, valueOf}
+use Rattle.decimal.specs.Decimal.{decimal, valueText}
 use Rattle.lines.specs.Form.{ending, valueKey, outKey}
 use Rattle.text.specs.Grammar.{planLine, streamsKey, opKey, firstKey, secondKey}
-
--- "Numbers are decimal without leading zeros": at most this many digits
-unfoldable pub digits : ℕ → ℕ → List ℕ
-digits zero n = []
-digits (suc f) n = cond (ltb n 10) ((48 + n) ∷ []) (digits f (n / 10) ++ ((48 + n % 10) ∷ []))
-
--- no number of a plan text has more than nineteen
-abbrev pub decimal : ℕ → List ℕ
-decimal n = digits 19 n
-
--- "only `k` may have a minus sign"
-abbrev pub valueText : ℤ → List ℕ
-valueText (pos n) = decimal n
-valueText (negsuc n) = 45 ∷ decimal (suc n)
 
 abbrev pub bitText : Bool → List ℕ
 bitText true = 49 ∷ []

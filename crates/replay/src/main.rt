@@ -135,8 +135,8 @@ fn join(path: &mut [u8], n: usize, name: &[u8]) -> usize
     if path.len() - n <= name.len() {
         return 0;
     }
-    let p = printer::put_word(path, n, b"/");
-    printer::put_word(path, p, name)
+    let p = decimal::put_word(path, n, b"/");
+    decimal::put_word(path, p, name)
 }
 
 // Opens a file of the folder that the first argument names; without one, of the working folder.

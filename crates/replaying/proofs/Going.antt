@@ -9,7 +9,8 @@ use lib.ListN.{length, take}
 use Rattle.machine.specs.Calls.{running, collecting}
 use Rattle.engine.specs.Reply.{Reply, reply}
 use Rattle.printer.specs.Print.{eventText, eventRoom}
-use Rattle.printer.proofs.Puts.{event-most, put-take, put-length}
+use Rattle.decimal.proofs.Puts.{put-take, put-length}
+use Rattle.printer.proofs.Lines.{event-most}
 use Rattle.replaying.specs.declared.Place.{Place}
 use Rattle.replaying.specs.declared.Place.the-variants.{Run, Collect, Rest}
 use Rattle.replaying.specs.declared.Stand.{Stand}

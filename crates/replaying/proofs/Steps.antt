@@ -10,7 +10,7 @@ use borrow.Author.Tests.{eq-eqb, ne-eqb, lt-ltb, le-ltb}
 use Rattle.operators.specs.Limits.{streamLimit}
 use Rattle.engine.specs.Reply.{Reply}
 use Rattle.printer.specs.Print.{eventText, refusedText, refusedRoom}
-use Rattle.printer.proofs.Puts.{refused-most}
+use Rattle.printer.proofs.Lines.{refused-most}
 use Rattle.replaying.specs.declared.Place.the-variants.{Run, Collect}
 use Rattle.replaying.specs.Replay.{refusal, turn, ran, afterOutput, roundAfter, collected}
 

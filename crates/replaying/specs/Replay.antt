@@ -9,7 +9,8 @@ use Rattle.operators.specs.Limits.{streamLimit}
 use Rattle.engine.specs.Reply.{Reply, reply}
 use Rattle.trace.specs.declared.Record.{Record}
 use Rattle.trace.specs.declared.Record.the-variants.{Reading, Progress}
-use Rattle.printer.specs.Print.{Put, eventText, refusedText}
+use Rattle.decimal.specs.Put.{Put}
+use Rattle.printer.specs.Print.{eventText, refusedText}
 use Rattle.replaying.specs.declared.Place.{Place}
 use Rattle.replaying.specs.declared.Place.the-variants.{Run, Collect, Rest}
 use Rattle.replaying.specs.declared.Stand.{Stand}

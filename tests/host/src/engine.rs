@@ -17,17 +17,11 @@ extern "C" {
     fn ref_run(state: *mut u8, state_length: u64, n: u32, moves: *mut u32) -> u32;
     fn ref_collect(state: *mut u8, state_length: u64, stream: u32, stamp: *mut u32, value: *mut i64) -> u32;
 
-    #[cfg(library_load)]
     fn tessla_load(state: *mut u8, state_length: u64, text: *const u8, text_length: u64) -> u32;
-    #[cfg(library_offer_reading)]
     fn tessla_offer_reading(state: *mut u8, state_length: u64, stream: u32, stamp: u32, value: i64) -> u32;
-    #[cfg(library_offer_progress)]
     fn tessla_offer_progress(state: *mut u8, state_length: u64, stream: u32, bound: u64) -> u32;
-    #[cfg(library_move)]
     fn tessla_move(state: *mut u8, state_length: u64, stream: u32) -> u32;
-    #[cfg(library_run)]
     fn tessla_run(state: *mut u8, state_length: u64, n: u32, moves: *mut u32) -> u32;
-    #[cfg(library_collect)]
     fn tessla_collect(state: *mut u8, state_length: u64, stream: u32, stamp: *mut u32, value: *mut i64) -> u32;
 }
 
@@ -53,28 +47,20 @@ pub const REFERENCE: Engine = Engine {
     collect: ref_collect,
 };
 
-/// The proved library. A call that it does not export yet is the plain C engine's: both work on the same bytes.
-pub fn library() -> Engine {
-    #[allow(unused_mut)]
-    let mut engine = Engine { name: "library", ..REFERENCE };
-    #[cfg(library_load)]
-    { engine.load = tessla_load; }
-    #[cfg(library_offer_reading)]
-    { engine.offer_reading = tessla_offer_reading; }
-    #[cfg(library_offer_progress)]
-    { engine.offer_progress = tessla_offer_progress; }
-    #[cfg(library_move)]
-    { engine.move_one = tessla_move; }
-    #[cfg(library_run)]
-    { engine.run = tessla_run; }
-    #[cfg(library_collect)]
-    { engine.collect = tessla_collect; }
-    engine
-}
+/// The proved library.
+pub const LIBRARY: Engine = Engine {
+    name: "library",
+    load: tessla_load,
+    offer_reading: tessla_offer_reading,
+    offer_progress: tessla_offer_progress,
+    move_one: tessla_move,
+    run: tessla_run,
+    collect: tessla_collect,
+};
 
 /// Both engines, the library first.
 pub fn engines() -> [Engine; 2] {
-    [library(), REFERENCE]
+    [LIBRARY, REFERENCE]
 }
 
 /// What a call answers: its number and its results.

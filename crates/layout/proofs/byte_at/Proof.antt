@@ -9,11 +9,9 @@ use Rattle.layout.proofs.byte_at.Reads as reads
 use Rattle.layout.proofs.byte_at.Lts as lts
 use Rattle.le.proofs.get.Reads as get-reads
 
--- src/lib.rt:11:5
 get-requires : tie.Need-get-requires
 get-requires c κs = search needs
 
--- src/lib.rt:7:1
 returns : tie.Need-returns
 returns c =
     let a = c .before .before in

@@ -9,35 +9,27 @@ use Rattle.layout.proofs.drop_slots.Lts as lts
 use Rattle.le.proofs.clear.Reads as clear-reads
 use Rattle.le.proofs.shift.Reads as shift-reads
 
--- src/lib.rt:70:13
 mul-m : tie.Need-mul-m
 mul-m c = search needs
 
--- src/lib.rt:71:16
 mul-rest : tie.Need-mul-rest
 mul-rest c = search needs
 
--- src/lib.rt:71:16
 sub-rest : tie.Need-sub-rest
 sub-rest c = search needs
 
--- src/lib.rt:72:5
 shift-requires : tie.Need-shift-requires
 shift-requires c κs = search needs
 
--- src/lib.rt:73:18
 add-clear : tie.Need-add-clear
 add-clear c = search needs
 
--- src/lib.rt:73:5
 clear-requires : tie.Need-clear-requires
 clear-requires c κs = search needs
 
--- src/lib.rt:66:1
 same-length : tie.Need-same-length
 same-length c = search needs
 
--- src/lib.rt:66:1
 returns : tie.Need-returns
 returns c = let a = c .before .before .before .before .before .before .before .before .before .args in slots-drop (now (a .r)) (c .before .before .before .before .before .before .shift .last .0) (c .before .before .clear .last .0) (a .k) (a .n) (omega arith) (λ i. omega (arith, c .before .before .before .before .before .before .before .before .slice-known .given i)) (omega arith) (omega arith) (c .before .before .before .before .before .before .shift .ensures) (c .before .before .clear .ensures)
 

@@ -9,15 +9,12 @@ use Rattle.layout.proofs.put_byte.Reads as reads
 use Rattle.layout.proofs.put_byte.Lts as lts
 use Rattle.le.proofs.put.Reads as put-reads
 
--- src/lib.rt:26:5
 put-requires : tie.Need-put-requires
 put-requires c κs = search needs
 
--- src/lib.rt:22:1
 same-length : tie.Need-same-length
 same-length c = search needs
 
--- src/lib.rt:22:1
 returns : tie.Need-returns
 returns c =
     let k = c .before .before .before .before in

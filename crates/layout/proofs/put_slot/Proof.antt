@@ -8,31 +8,24 @@ use Rattle.layout.proofs.put_slot.Reads as reads
 use Rattle.layout.proofs.put_slot.Lts as lts
 use Rattle.le.proofs.put.Reads as put-reads
 
--- src/lib.rt:50:19
 mul-at : tie.Need-mul-at
 mul-at c = search needs
 
--- src/lib.rt:50:14
 add-at : tie.Need-add-at
 add-at c = search needs
 
--- src/lib.rt:51:5
 put-requires : tie.Need-put-requires
 put-requires c κs = search needs
 
--- src/lib.rt:52:17
 add-put : tie.Need-add-put
 add-put c = search needs
 
--- src/lib.rt:52:5
 put-requires-2 : tie.Need-put-requires-2
 put-requires-2 c κs = search needs
 
--- src/lib.rt:46:1
 same-length : tie.Need-same-length
 same-length c = search needs
 
--- src/lib.rt:46:1
 returns : tie.Need-returns
 returns c =
     let one = c .before .before .before .before .before .before in

@@ -9,23 +9,18 @@ use Rattle.layout.proofs.put_word.Reads as reads
 use Rattle.layout.proofs.put_word.Lts as lts
 use Rattle.le.proofs.put.Reads as put-reads
 
--- src/lib.rt:33:21
 mul-put : tie.Need-mul-put
 mul-put c = search needs
 
--- src/lib.rt:33:17
 add-put : tie.Need-add-put
 add-put c = search needs
 
--- src/lib.rt:33:5
 put-requires : tie.Need-put-requires
 put-requires c κs = search needs
 
--- src/lib.rt:29:1
 same-length : tie.Need-same-length
 same-length c = search needs
 
--- src/lib.rt:29:1
 returns : tie.Need-returns
 returns c =
     let k = c .before .before .before .before in

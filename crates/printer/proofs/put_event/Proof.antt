@@ -2,7 +2,7 @@
 use Prim.Native.Nat.{_-_}
 use mir.Facts.{toZ-ofZ}
 use Rattle.printer.specs.Print.{eventText}
-use Rattle.printer.proofs.Puts.{put-then, put-length, digits-most, value-most}
+use Rattle.decimal.proofs.Puts.{put-then, put-length, digits-most, value-most}
 use borrow.Author.Needs.{needs}
 use native.Mathlib.Omega.{arith}
 use Rattle.printer.proofs.put_event.Statement.{statement}

@@ -1,7 +1,7 @@
 -- `printer::put_refused` meets its contract.
 use Prim.Native.Nat.{_-_}
 use Rattle.printer.specs.Print.{refusedText}
-use Rattle.printer.proofs.Puts.{put-then, put-length, digits-most}
+use Rattle.decimal.proofs.Puts.{put-then, put-length, digits-most}
 use borrow.Author.Needs.{needs}
 use native.Mathlib.Omega.{arith}
 use Rattle.printer.proofs.put_refused.Statement.{statement}

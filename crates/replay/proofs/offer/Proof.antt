@@ -4,7 +4,7 @@ use mathlib.Core.Path.{sym}
 use Prim.Native.Nat.{_-_}
 use denote.Ref.{now}
 use lib.Seq.{length-take-le}
-use Rattle.printer.proofs.Puts.{put-length}
+use Rattle.decimal.proofs.Puts.{put-length}
 use Rattle.replaying.proofs.Steps.{refusal-most}
 use borrow.Author.Needs.{needs}
 use native.Mathlib.Omega.{arith}

@@ -2,7 +2,8 @@
 use mathlib.Core.Path.{sym}
 use Prim.Native.Nat.{_-_}
 use lib.Seq.{length-take-le}
-use Rattle.printer.proofs.Puts.{put-length, refused-most}
+use Rattle.decimal.proofs.Puts.{put-length}
+use Rattle.printer.proofs.Lines.{refused-most}
 use borrow.Author.Needs.{needs}
 use native.Mathlib.Omega.{arith}
 use Rattle.replay.proofs.print_refused.Statement.{statement}

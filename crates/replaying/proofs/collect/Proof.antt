@@ -3,7 +3,7 @@ use mathlib.Core.Path.{refl, sym, _∙_}
 use Prim.Native.Nat.{_-_}
 use mir.Val.{SFits}
 use Rattle.machine.specs.Calls.{collecting}
-use Rattle.printer.proofs.Puts.{put-none}
+use Rattle.decimal.proofs.Puts.{put-none}
 use Rattle.replaying.proofs.Steps.{collected-event, collected-none}
 use Rattle.resting.proofs.Bytes.{collect-is-value}
 use denote.Ref.{now}

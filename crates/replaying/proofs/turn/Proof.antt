@@ -2,7 +2,7 @@
 use mathlib.Core.Path.{refl, sym, _∙_}
 use Prim.Native.Nat.{_-_}
 use Rattle.machine.specs.Calls.{running}
-use Rattle.printer.proofs.Puts.{put-none}
+use Rattle.decimal.proofs.Puts.{put-none}
 use Rattle.replaying.proofs.Steps.{ran-state}
 use Rattle.replaying.specs.Replay.{allMoves, step}
 use denote.Ref.{now}

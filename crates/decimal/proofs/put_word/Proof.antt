@@ -1,13 +1,13 @@
 -- `printer::put_word` meets its contract.
-use Rattle.printer.proofs.Puts.{word-turn, word-end}
+use Rattle.decimal.proofs.Puts.{word-turn, word-end}
 use mathlib.Core.Path.{_≡_, refl, sym, _∙_}
 use Prim.Native.Nat.{_+_, _-_, _≤_}
 use denote.Ref.{now}
 use lib.ListN.{length, drop, length-set}
 use lib.Seq.{sets}
 use native.Mathlib.Omega.{arith}
-use Rattle.printer.proofs.put_word.Statement.{statement}
-use Rattle.printer.proofs.put_word.Tie as tie
+use Rattle.decimal.proofs.put_word.Statement.{statement}
+use Rattle.decimal.proofs.put_word.Tie as tie
 
 abbrev Inv-loop : tie.InvT-loop
 Inv-loop out₀ at word p₀ i₀ out p i = (i ≤ length word) × (p ≡ at + i) × (length out ≡ length out₀) × (sets out p (drop i word) ≡ sets out₀ at word)

@@ -8,7 +8,7 @@ use native.Mathlib.Omega.{arith}
 use lib.Dec.{ltb, lit<}
 use lib.ListN.{length, getD, length-append, List·getD-append}
 use borrow.Author.Tests.{lt-ltb, le-ltb, ltb-true, ltb-false}
-use Rattle.render.specs.Render.{digits}
+use Rattle.decimal.specs.Decimal.{digits}
 
 pub digit-one : (f n : ℕ) → n < 10 → digits (suc f) n ≡ (48 + n) ∷ []
 unfolding digits

@@ -4,11 +4,11 @@ use Prim.Native.Nat.{_-_}
 use mir.Syntax.{w64}
 use mir.Val.{ofZ}
 use mir.Facts.{toZ-ofZ}
-use Rattle.printer.proofs.Puts.{put-then, value-plain, value-minus}
+use Rattle.decimal.proofs.Puts.{put-then, value-plain, value-minus}
 use borrow.Author.Needs.{needs}
 use native.Mathlib.Omega.{arith}
-use Rattle.printer.proofs.put_value.Statement.{statement}
-use Rattle.printer.proofs.put_value.Tie as tie
+use Rattle.decimal.proofs.put_value.Statement.{statement}
+use Rattle.decimal.proofs.put_value.Tie as tie
 
 bits-requires : tie.Need-bits-requires
 bits-requires c κs = search needs

@@ -10,9 +10,9 @@ use mir.Facts.{toZ-ofZ, toZ-pos, toZ-neg}
 use lib.ListN.{length, getD, take, drop, set, length-append, drop-of-length-le}
 use lib.Seq.{sets, length-sets, drop-cons, sets-eq, take-at, length-take-le}
 use Rattle.le.proofs.RoundTrip.{sets-append}
-use Rattle.render.specs.Render.{digits, decimal, valueText}
-use Rattle.render.proofs.Digits.{digit-one, digit-more, small-or}
-use Rattle.printer.specs.Print.{Put, eventText, eventRoom, refusedText, refusedRoom}
+use Rattle.decimal.specs.Decimal.{digits, decimal, mostDigits, valueText}
+use Rattle.decimal.proofs.Digits.{digit-one, digit-more, small-or}
+use Rattle.decimal.specs.Put.{Put}
 
 pub put-none : (l : List ℕ) (at : ℕ) → Put l at [] at l
 put-none l at = record { bytes = refl; past = omega arith }
@@ -64,9 +64,9 @@ module _ (l : List ℕ) (at n most : ℕ) where
 
 -- ## Values
 
-pub value-most : (v : ℤ) → length (valueText v) ≤ 20
-value-most (pos n) = omega (arith, digits-most 19 n)
-value-most (negsuc n) = omega (arith, digits-most 19 (suc n))
+pub value-most : (v : ℤ) → length (valueText v) ≤ suc mostDigits
+value-most (pos n) = omega (arith, digits-most mostDigits n)
+value-most (negsuc n) = omega (arith, digits-most mostDigits (suc n))
 
 -- a value by its bits
 module _ (v : ℤ) (f : SFits w64 v) (u : ℕ) (e : u ≡ ofZ w64 v) where
@@ -80,20 +80,8 @@ module _ (v : ℤ) (f : SFits w64 v) (u : ℕ) (e : u ≡ ofZ w64 v) where
       let s : n + 1 ≡ suc n = omega arith in
       rw s (ap valueText (sym (toZ-neg w64 n (omega arith)) ∙ ap (toZ w64) (b ∙ e) ∙ toZ-ofZ f))
 
--- ## Lines
-
-pub event-most : (i t : ℕ) (v : ℤ) → length (eventText i t v) ≤ eventRoom
-unfolding eventText
-event-most i t v =
-    rw (length-append (decimal i), length-append (decimal t), length-append (valueText v))
-    (omega (arith, digits-most 19 i, digits-most 19 t, value-most v))
-
 -- what a buffer starts with once bytes were put at the end of it
 pub put-take : {l : List ℕ} {at : ℕ} {w : List ℕ} {r : ℕ} {m : List ℕ} → Put l at w r m → at + length w ≤ length l → take r m ≡ take at l ++ w
 put-take {l} {at} {w} {r} {m} x h =
     rw (x .past, x .bytes, sets-eq w l at h)
     (take-at (take at l ++ w) (drop (at + length w) l) (at + length w) (length-append (take at l) w ∙ ap (λ n. n + length w) (length-take-le at l (omega arith))))
-
-pub refused-most : (n : ℕ) → length (refusedText n) ≤ refusedRoom
-unfolding refusedText
-refused-most n = rw (length-append (decimal n)) (omega (arith, digits-most 19 n))

@@ -1,5 +1,5 @@
 -- `printer::put_digits` meets its contract.
-use Rattle.printer.proofs.Puts.{put-length, digits-most, digits-end, digits-last, digits-go}
+use Rattle.decimal.proofs.Puts.{put-length, digits-most, digits-end, digits-last, digits-go}
 use mathlib.Core.Path.{_∙_}
 use Prim.Native.Nat.{ℕ, _+_, _-_, _/_, _<_}
 use denote.Ref.{now}
@@ -7,12 +7,12 @@ use native.Mathlib.Omega.{arith}
 use Prim.Native.Nat.{ℕ, _<_}
 use borrow.Fn.Kinds.{In}
 use borrow.Fn.PlainCycle.{Measures, is, falls, and}
-use Rattle.printer.proofs.put_digits.Reads as put-digits
-use Rattle.printer.proofs.put_digits.Kinds as put-digits-kinds
-use Rattle.printer.proofs.+put_digits.Lts-put_digits as put-digits-lts
-use Rattle.printer.proofs.put_byte.Reads as put-byte-reads
-use Rattle.printer.proofs.+put_digits.{statement}
-use Rattle.printer.proofs.+put_digits.Tie.{close}
+use Rattle.decimal.proofs.put_digits.Reads as put-digits
+use Rattle.decimal.proofs.put_digits.Kinds as put-digits-kinds
+use Rattle.decimal.proofs.+put_digits.Lts-put_digits as put-digits-lts
+use Rattle.decimal.proofs.put_byte.Reads as put-byte-reads
+use Rattle.decimal.proofs.+put_digits.{statement}
+use Rattle.decimal.proofs.+put_digits.Tie.{close}
 
 abbrev μ-put-digits : Measures 1 put-digits-kinds.ps ℕ
 μ-put-digits κs a = a .1 .1 .1 .0

@@ -1,0 +1,70 @@
+// Bytes, words, numbers and values in decimal, put into a lent buffer.
+ghost use mathlib.Core.Path.{_≡_};
+ghost use mathlib.Core.List.{[], _∷_};
+ghost use Prim.Native.Nat.{_+_, _<_, _≤_};
+ghost use lib.ListN.{length};
+ghost use Rattle.decimal.specs.Decimal.{mostDigits, digits, decimal, valueText};
+ghost use Rattle.decimal.specs.Put.{Put};
+
+// The most digits that a number of a text has.
+const MOST_DIGITS: usize = 19;
+
+// Puts one byte, and answers the position past it.
+pub fn put_byte(out: &mut [u8], at: usize, byte: u8) -> usize
+    requires { ⌜ at < length (now out) ⌝ }
+    ensures { λ r. ⌜ Put (now (out .entry)) at (byte ∷ []) r (now (out .exit)) ⌝ }
+{
+    out[at] = byte;
+    at + 1
+}
+
+// Puts a word, and answers the position past it.
+pub fn put_word(out: &mut [u8], at: usize, word: &[u8]) -> usize
+    requires { ⌜ at + length (now word) ≤ length (now out) ⌝ }
+    ensures { λ r. ⌜ Put (now (out .entry)) at (now (word .entry)) r (now (out .exit)) ⌝ }
+{
+    let mut p = at;
+    let mut i = 0;
+    while i < word.len() {
+        out[p] = word[i];
+        p += 1;
+        i += 1;
+    }
+    p
+}
+
+// Puts the digits of n, of which there are at most `most`: those of its tenth, and then its last.
+fn put_digits(out: &mut [u8], at: usize, n: u64, most: usize) -> usize
+    requires { ⌜ at + most ≤ length (now out) ⌝ }
+    ensures { λ r. ⌜ Put (now (out .entry)) at (digits most n) r (now (out .exit)) ⌝ }
+{
+    if most == 0 {
+        return at;
+    }
+    if n < 10 {
+        return put_byte(out, at, 48 + n as u8);
+    }
+    let p = put_digits(out, at, n / 10, most - 1);
+    put_byte(out, p, 48 + (n % 10) as u8)
+}
+
+// Puts a number in decimal.
+pub fn put_number(out: &mut [u8], at: usize, n: u64) -> usize
+    requires { ⌜ at + mostDigits ≤ length (now out) ⌝ }
+    ensures { λ r. ⌜ Put (now (out .entry)) at (decimal n) r (now (out .exit)) ⌝ }
+{
+    put_digits(out, at, n, MOST_DIGITS)
+}
+
+// Puts a value in decimal, a minus sign before it if it is below 0.
+pub fn put_value(out: &mut [u8], at: usize, v: i64) -> usize
+    requires { ⌜ at + mostDigits < length (now out) ⌝ }
+    ensures { λ r. ⌜ Put (now (out .entry)) at (valueText v) r (now (out .exit)) ⌝ }
+{
+    let u = num::bits(v);
+    if u < 0x8000_0000_0000_0000 {
+        return put_number(out, at, u);
+    }
+    let p = put_byte(out, at, b'-');
+    put_number(out, p, u64::MAX - u + 1)
+}
