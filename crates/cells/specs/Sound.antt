@@ -13,7 +13,6 @@ use Rattle.meaning.specs.Events.{Event, horizon}
 use Rattle.meaning.specs.Cycle.{acyclic}
 use Rattle.machine.specs.State.{Kept, Cell, State, room, noKept, cellAt, planOf}
 use Rattle.operators.specs.Operators.{valueOf}
-use Rattle.operators.specs.Limits.{streamLimit}
 
 -- a signed 64-bit whole number
 abbrev pub IsValue : ℤ → Type 0
@@ -73,8 +72,9 @@ pub record SoundCell (n : ℕ) (c : Cell) : Type 0 where
   pub next : IsNext (c .out) (c .next) (c .bound)
   pub kept : IsKept (c .eqn) (c .bound) (c .kept)
 
-pub record Sound (M : State) : Type 0 where
+-- a state of a size with room for so many streams
+pub record Sound (cap : ℕ) (M : State) : Type 0 where
   pub some : 0 < length M
-  pub few : length M ≤ streamLimit
+  pub few : length M ≤ cap
   pub each : (i : ℕ) → i < length M → SoundCell (length M) (cellAt M i)
-  pub acyclic : acyclic streamLimit (planOf M) ≡ true
+  pub acyclic : acyclic cap (planOf M) ≡ true

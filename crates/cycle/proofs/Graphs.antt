@@ -10,7 +10,6 @@ use lib.Seq.{getD-append-add}
 use Rattle.meaning.specs.Plan.{time, neg, set, plus, add, sub, mul, div, rem, lt, le, eq, calc, keep, merge, Eqn, input, nil, unit, one, two, last, delay, Plan, eqnAt, undelayed}
 use Rattle.meaning.specs.Cycle.{acyclic}
 use Rattle.operators.specs.Operators.{numberOf, firstOf, secondOf}
-use Rattle.operators.specs.Limits.{streamLimit}
 use Rattle.cycle.specs.Graph.{AllBelow, entryOf, graphOf, cleared}
 use Rattle.cycle.proofs.Tied.{howOf, Args, argsAt, Tied, cleared-acyclic}
 
@@ -103,5 +102,5 @@ graph-tied plan r =
     (λ i j l h. at plan r i j l h ∙ ap (λ (e : List ℕ). getD e j 0) (sym (entry-by (eqnAt plan i))))
 
 -- The code's test on the graph of a plan whose arguments are streams of the plan is the definition's test of the plan.
-pub graph-acyclic : (plan : Plan) (r : List ℕ) → length plan ≤ streamLimit → ((i : ℕ) → i < length plan → AllBelow (length plan) (argsAt plan i)) → (d : ℕ) → cleared d (length plan) (graphOf plan ++ r) .isClear ≡ acyclic d plan
-graph-acyclic plan r few bound d = cleared-acyclic plan few bound d (graphOf plan ++ r) (graph-tied plan r)
+pub graph-acyclic : (plan : Plan) (r : List ℕ) → ((i : ℕ) → i < length plan → AllBelow (length plan) (argsAt plan i)) → (d : ℕ) → cleared d (length plan) (graphOf plan ++ r) .isClear ≡ acyclic d plan
+graph-acyclic plan r bound d = cleared-acyclic plan bound d (graphOf plan ++ r) (graph-tied plan r)

@@ -3,10 +3,14 @@ use Prim.Native.Nat.{ℕ, zero, suc, _+_, _*_, _<_}
 use mathlib.Core.Bool.{Bool, true, false, cond, _&&_}
 use mathlib.Core.List.{List, [], _∷_, _++_}
 use lib.Dec.{eqb, leb, ltb}
-use lib.ListN.{getD, set}
+use lib.ListN.{length, getD, set}
 use Rattle.meaning.specs.Plan.{Plan}
-use Rattle.operators.specs.Limits.{streamLimit}
+use Rattle.operators.specs.Limits.{mostStreams}
 use Rattle.operators.specs.Operators.{numberOf, firstOf, secondOf}
+
+-- the bytes of a graph: three for each stream that a plan may have
+abbrev pub graphLength : ℕ
+graphLength = 3 * mostStreams
 
 -- Three bytes for each stream: how it stands (0: its arguments are to be followed, 1: found clear, 2: it has no undelayed
 -- argument), and its two undelayed arguments; a single one stands twice.
@@ -34,15 +38,15 @@ marked i w = cond (w .isClear) (walked true (set (w .graph) (3 * i) 1)) w
 abbrev pub both : ℕ → (ℕ → List ℕ → Walk) → Walk → Walk
 both i follow w = cond (w .isClear) (marked i (follow (getD (w .graph) (3 * i + 2) 0) (w .graph))) w
 
--- whether stream i is one that a plan may have
-abbrev pub present : ℕ → Bool
-present i = ltb i streamLimit
+-- whether the graph has stream i: its three bytes
+abbrev pub present : ℕ → List ℕ → Bool
+present i g = ltb (3 * i + 2) (length g)
 
 -- stream i is followed, with this depth left: at depth 0 only a stream found clear before is clear
 unfoldable pub followed : ℕ → ℕ → List ℕ → Walk
-followed zero i g = walked (present i && eqb (getD g (3 * i) 0) 1) g
+followed zero i g = walked (present i g && eqb (getD g (3 * i) 0) 1) g
 followed (suc d) i g =
-    cond (present i)
+    cond (present i g)
     (cond (eqb (getD g (3 * i) 0) 1)
     (walked true g)
     (cond (eqb (getD g (3 * i) 0) 2)

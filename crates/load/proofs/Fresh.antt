@@ -10,7 +10,6 @@ use Rattle.meaning.specs.Plan.{Eqn, input, nil, unit, one, two, last, delay, is
 use Rattle.meaning.specs.Cycle.{acyclic}
 use Rattle.machine.specs.State.{Declared, noKept, fresh, loaded, cellAt}
 use Rattle.machine.specs.State as state
-use Rattle.operators.specs.Limits.{streamLimit}
 use Rattle.cycle.specs.Graph as graph
 use Rattle.cells.specs.Sound.{AllBelow, IsNext, IsKept, SoundCell, Sound}
 use Rattle.plan.specs.Taken.{StreamKeeps, Each, planOf, KeepsRules}
@@ -60,12 +59,12 @@ plan-loaded [] = refl
 plan-loaded (d ∷ ds) = ap (λ (l : Plan). d .eqn ∷ l) (plan-loaded ds)
 
 -- a plan that keeps the rules loads as a sound state
-pub loaded-sound : (ds : List Declared) → KeepsRules ds → Sound (loaded ds)
-loaded-sound ds k = record {
+pub loaded-sound : {cap : ℕ} (ds : List Declared) → KeepsRules cap ds → Sound cap (loaded ds)
+loaded-sound {cap} ds k = record {
   some = rw (many ds) (k .some);
   few = rw (many ds) (k .few);
   each = λ i h. rw (many ds) (at i (subst (λ (n : ℕ). i < n) (many ds) h));
-  acyclic = ap (acyclic streamLimit) (plan-loaded ds) ∙ k .clear;
+  acyclic = ap (acyclic cap) (plan-loaded ds) ∙ k .clear;
 }
   where
     at : (i : ℕ) → i < length ds → SoundCell (length ds) (cellAt (loaded ds) i)

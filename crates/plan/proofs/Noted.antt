@@ -6,7 +6,7 @@ use mathlib.Core.List.{List, [], _∷_, _++_, append-assoc}
 use native.Mathlib.Omega.{arith}
 use Rattle.operators.proofs.Tests.{left, right}
 use lib.Dec.{leb}
-use lib.ListN.{length, drop, replicate, length-append, length-map, length-drop, length-replicate}
+use lib.ListN.{length, drop, length-append, length-map, length-drop}
 use lib.Seq.{sets-eq, take-at, drop-append-add, drop-drop}
 use borrow.Author.Tests.{eqb-true, ltb-true, leb-true, le-leb}
 use mir.Syntax.{w64}
@@ -14,7 +14,6 @@ use mir.Val.{toZ}
 use Rattle.meaning.specs.Plan.{undelayed}
 use Rattle.meaning.specs.Cycle.{acyclic}
 use Rattle.operators.specs.Operators.{operatorCount, numberOf, firstOf, secondOf, usesA, usesB, delaysA}
-use Rattle.operators.specs.Limits.{streamLimit}
 use Rattle.operators.proofs.Laws.{number-back, first-back, second-back, reads-by-number, undelayed-by-number}
 use Rattle.cycle.specs.Graph.{AllBelow, entryOf, graphOf, cleared}
 use Rattle.cycle.proofs.Tied.{argsAt}
@@ -122,11 +121,10 @@ unfolding planFrom
 plan-length fs = length-map fs eqnFrom
 
 -- the code's test on what was noted is the definition's test of the plan
-pub cleared-plan : (s : List ℕ) (n at : ℕ) (fs : List Fields) (end : ℕ) → streams s at n ≡ formed fs end → allKeep n fs ≡ true → n ≤ streamLimit → (d : ℕ) → cleared d n (notedAll n 0 fs (replicate (3 * streamLimit) 0)) .isClear ≡ acyclic d (planFrom fs)
-cleared-plan s n at fs end e k h d =
+pub cleared-plan : (s : List ℕ) (n at : ℕ) (fs : List Fields) (end : ℕ) → streams s at n ≡ formed fs end → allKeep n fs ≡ true → (g : List ℕ) → 3 * n ≤ length g → (d : ℕ) → cleared d n (notedAll n 0 fs g) .isClear ≡ acyclic d (planFrom fs)
+cleared-plan s n at fs end e k g h d =
     let r = read-sound s n at fs end e in
     let m : length (planFrom fs) ≡ n = plan-length fs ∙ r .1 in
-    let g : List ℕ = replicate (3 * streamLimit) 0 in
-    ap (λ (x : List ℕ). cleared d n x .isClear) (noted-graph n 0 fs (r .0) k [] g refl (rw (length-replicate {A = ℕ} (3 * streamLimit) 0) (omega arith)))
+    ap (λ (x : List ℕ). cleared d n x .isClear) (noted-graph n 0 fs (r .0) k [] g refl (omega (arith, r .1)))
     ∙ ap (λ (x : ℕ). cleared d x (graphOf (planFrom fs) ++ drop (3 * length fs) g) .isClear) (sym m)
-    ∙ graph-acyclic (planFrom fs) (drop (3 * length fs) g) (omega arith) (λ i l. subst (λ (x : ℕ). AllBelow x (argsAt (planFrom fs) i)) (sym m) (all-below n fs (r .0) k i (omega arith))) d
+    ∙ graph-acyclic (planFrom fs) (drop (3 * length fs) g) (λ i l. subst (λ (x : ℕ). AllBelow x (argsAt (planFrom fs) i)) (sym m) (all-below n fs (r .0) k i (omega arith))) d

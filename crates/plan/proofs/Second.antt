@@ -5,6 +5,7 @@ use mathlib.Core.Bool.{true}
 use mathlib.Core.List.{List, [], _∷_}
 use native.Mathlib.Omega.{arith}
 use lib.ListN.{length}
+use Rattle.operators.specs.Limits.{mostStreams}
 use Rattle.operators.specs.Operators.{usesA, usesB}
 use Rattle.operators.proofs.Tests.{left, right}
 use Rattle.text.specs.declared.Fields.{Fields}
@@ -59,8 +60,8 @@ all-stored n (f ∷ fs) h t r e =
       all-stored n fs h (t .1) (r .1) (right (keeps n f) (allKeep n fs) e),
     )
 
-pub taken-stored : (s : List ℕ) (p : Parts s) → All Stored (p .fields) × (length (p .fields) ≡ p .count)
-taken-stored s p =
+pub taken-stored : (cap : ℕ) → cap ≤ mostStreams → (s : List ℕ) (p : Parts cap s) → All Stored (p .fields) × (length (p .fields) ≡ p .count)
+taken-stored cap c s p =
     let r = read-sound s (p .count) (p .start) (p .fields) (length s) (p .lists) in
-    let h = head-fits s (p .count) (p .start) (p .opens) in
+    let h = head-fits cap s (p .count) (p .start) (p .opens) in
     (all-stored (p .count) (p .fields) (omega (arith, h .1)) (r .0) (streams-read s (p .count) (p .start) (p .fields) (length s) (p .lists) .1) (p .kept), r .1)

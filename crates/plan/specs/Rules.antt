@@ -12,7 +12,7 @@ use Rattle.meaning.specs.Plan.{Eqn, Plan}
 use Rattle.meaning.specs.Cycle.{acyclic}
 use Rattle.machine.specs.State.{Declared}
 use Rattle.operators.specs.Operators.{eqnOf, usesA, usesB, usesK}
-use Rattle.operators.specs.Limits.{streamLimit, textLimit}
+use Rattle.operators.specs.Limits.{textLimit}
 use Rattle.cycle.specs.Graph.{entryOf}
 use Rattle.text.specs.declared.Fields.{Fields}
 use Rattle.text.specs.declared.Lines.{Lines}
@@ -80,18 +80,18 @@ planFrom fs = map eqnFrom fs
 -- ## The number of a text
 
 -- "bytes left over" are 2, then 5, "Then 6, a cycle without a delayed argument."
-unfoldable pub numberAfter : List ℕ → ℕ → Form → ℕ
-numberAfter s n (refused r) = r
-numberAfter s n (formed fs end) =
-    cond (eqb end (length s)) (cond (allKeep n fs) (cond (acyclic streamLimit (planFrom fs)) 0 6) 5) 2
+unfoldable pub numberAfter : ℕ → List ℕ → ℕ → Form → ℕ
+numberAfter cap s n (refused r) = r
+numberAfter cap s n (formed fs end) =
+    cond (eqb end (length s)) (cond (allKeep n fs) (cond (acyclic cap (planFrom fs)) 0 6) 5) 2
 
-abbrev pub numberOfHead : List ℕ → Head → ℕ
-numberOfHead s (Head.Streams n at) = numberAfter s n (streams s at n)
-numberOfHead s (Head.Refused r) = r
+abbrev pub numberOfHead : ℕ → List ℕ → Head → ℕ
+numberOfHead cap s (Head.Streams n at) = numberAfter cap s n (streams s at n)
+numberOfHead cap s (Head.Refused r) = r
 
--- "1 text longer than 2,048 bytes; then the first faulty line decides"
-unfoldable pub number : List ℕ → ℕ
-number s = cond (ltb textLimit (length s)) 1 (numberOfHead s (head s))
+-- "1 text longer than 2,048 bytes; then the first faulty line decides", for a state with room for so many streams
+unfoldable pub number : ℕ → List ℕ → ℕ
+number cap s = cond (ltb textLimit (length s)) 1 (numberOfHead cap s (head cap s))
 
 -- the streams that a text declares; none if its form is wrong
 abbrev pub declaredOf : Form → List Declared
@@ -102,5 +102,5 @@ abbrev pub declaredHead : List ℕ → Head → List Declared
 declaredHead s (Head.Streams n at) = declaredOf (streams s at n)
 declaredHead s (Head.Refused r) = []
 
-unfoldable pub declared : List ℕ → List Declared
-declared s = declaredHead s (head s)
+unfoldable pub declared : ℕ → List ℕ → List Declared
+declared cap s = declaredHead s (head cap s)

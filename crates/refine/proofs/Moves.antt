@@ -114,7 +114,7 @@ bound-in c = refl
 arg-is : (n a : ℕ) → a < n → argIn n a ≡ a
 arg-is n a h = rw (lt-ltb a n h)
 
-module _ (size : ℕ) (M : State) (ok : Sound M) where
+module _ {cap : ℕ} (size : ℕ) (M : State) (ok : Sound cap M) where
   row : (j : ℕ) → j < length M → rowAt (rawsOf size M) j ≡ ofCell (cellAt M j)
   unfolding rawsOf
   row j h = row-of M j h
@@ -202,22 +202,22 @@ two-low merge = omega arith
 abbrev argsBy : ℕ → ℕ → ℕ → Raws → Raws
 argsBy op a b st = cond (ltb op 4) st (cond (ltb op 8) (releasedRow a st) (releasedRow b (releasedRow a st)))
 
-few-at : (M : State) → Sound M → (j : ℕ) → j < length M → length (cellAt M j .held) ≤ room
+few-at : {cap : ℕ} (M : State) → Sound cap M → (j : ℕ) → j < length M → length (cellAt M j .held) ≤ room
 few-at M ok j h = ok .each j h .few
 
-release-is : (size : ℕ) (M : State) → Sound M → (j : ℕ) → j < length M → releasedRow j (rawsOf size M) ≡ rawsOf size (release j M)
+release-is : {cap : ℕ} (size : ℕ) (M : State) → Sound cap M → (j : ℕ) → j < length M → releasedRow j (rawsOf size M) ≡ rawsOf size (release j M)
 release-is size M ok j h = release-row-of size M j h (few-at M ok j h)
 
 release-length : (i : ℕ) (M : State) → length (release i M) ≡ length M
 unfolding release
 release-length i M = length-set M i _
 
-two-released : (size : ℕ) (M : State) → Sound M → (a b : ℕ) → a < length M → b < length M → releasedRow b (releasedRow a (rawsOf size M)) ≡ rawsOf size (releases (a ∷ b ∷ []) M)
+two-released : {cap : ℕ} (size : ℕ) (M : State) → Sound cap M → (a b : ℕ) → a < length M → b < length M → releasedRow b (releasedRow a (rawsOf size M)) ≡ rawsOf size (releases (a ∷ b ∷ []) M)
 unfolding releases
 two-released size M ok a b ha hb =
     ap (releasedRow b) (release-is size M ok a ha) ∙ release-is size (release a M) (release-sound a M ok) b (rw (release-length a M) hb)
 
-args-by : (size : ℕ) (M : State) → Sound M → (e : Eqn) → AllBelow (length M) (reads e) → argsBy (numberOf e) (argA e) (argB e) (rawsOf size M) ≡ rawsOf size (releases (reads e) M)
+args-by : {cap : ℕ} (size : ℕ) (M : State) → Sound cap M → (e : Eqn) → AllBelow (length M) (reads e) → argsBy (numberOf e) (argA e) (argB e) (rawsOf size M) ≡ rawsOf size (releases (reads e) M)
 unfolding numberOf releases
 args-by size M ok input h = refl
 args-by size M ok nil h = refl
@@ -230,7 +230,7 @@ args-by size M ok (two g a b) h =
 args-by size M ok (last a b) h = two-released size M ok a b (h .0) (h .1 .0)
 args-by size M ok (delay a b) h = two-released size M ok a b (h .0) (h .1 .0)
 
-pub all-of : (size : ℕ) (M : State) → Sound M → (i : ℕ) → i < length M → releasedAll (length M) i (rawsOf size M) ≡ rawsOf size (releases (i ∷ reads (cellAt M i .eqn)) M)
+pub all-of : {cap : ℕ} (size : ℕ) (M : State) → Sound cap M → (i : ℕ) → i < length M → releasedAll (length M) i (rawsOf size M) ≡ rawsOf size (releases (i ∷ reads (cellAt M i .eqn)) M)
 unfolding releasedAll releasedArgs releases
 all-of size M ok i l =
     let N = release i M in
@@ -252,13 +252,13 @@ all-of size M ok i l =
 
 -- ---- the two kinds of move
 
-module _ (size : ℕ) (M : State) (ok : Sound M) (i : ℕ) (l : i < length M) where
+module _ {cap : ℕ} (size : ℕ) (M : State) (ok : Sound cap M) (i : ℕ) (l : i < length M) where
   -- the state with the bound at y and the new events, and with its kept data
   module _ (y : ℕ) (new : List Event) (up : cellAt M i .bound < y) (top : y ≤ horizon) (cm : Comes y (cellAt M i) new) where
     N : State
     N = set M i (advance y new (cellAt M i))
 
-    sound-N : Sound (set M i (advance y new (cellAt M i)))
+    sound-N : Sound cap (set M i (advance y new (cellAt M i)))
     sound-N = set-sound M i (advance y new (cellAt M i)) ok l refl (advance-sound (length M) y (cellAt M i) new (ok .each i l) up top cm)
 
     length-N : length (set M i (advance y new (cellAt M i))) ≡ length M
@@ -268,7 +268,7 @@ module _ (size : ℕ) (M : State) (ok : Sound M) (i : ℕ) (l : i < length M) wh
     unfolding write
     written = ap (λ (m : ℕ). absorbedRaw m i (rawsOf size (set M i (advance y new (cellAt M i))))) (sym length-N) ∙ absorbed-of size (set M i (advance y new (cellAt M i))) sound-N i (rw length-N l)
 
-    after : Sound (tell i new (write i y new M))
+    after : Sound cap (tell i new (write i y new M))
     after = tell-sound i new (write i y new M) (comes-values cm) (write-sound i y new M ok l up top cm)
 
     lengths : length (tell i new (write i y new M)) ≡ length M

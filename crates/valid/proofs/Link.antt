@@ -18,16 +18,17 @@ use Rattle.meaning.specs.Plan.{Eqn, eqnAt, undelayed}
 use Rattle.meaning.specs.Cycle.{acyclic}
 use Rattle.machine.specs.State.{planOf}
 use Rattle.operators.specs.Operators.{operatorCount, isOperator, usesA, usesB, usesK, delaysA, eqnOf, numberOf, firstOf, secondOf}
-use Rattle.operators.specs.Limits.{streamLimit}
+use Rattle.operators.specs.Limits.{mostStreams, capacity}
+use Rattle.operators.proofs.Sizes.{capacity-fits, capacity-few}
 use Rattle.operators.proofs.Laws.{number-back, first-back, second-back, reads-by-number, undelayed-by-number}
-use Rattle.cycle.specs.Graph.{AllBelow, entryOf, cleared}
+use Rattle.cycle.specs.Graph.{AllBelow, graphLength, entryOf, cleared}
 use Rattle.cycle.proofs.Tied.{argsAt, cleared-acyclic}
 use Rattle.cycle.proofs.Graphs.{entries-tied}
 use Rattle.layout.specs.Record.{Raw, noRaw, num, decRaw, decode, rowAt, opF, aF, bF, kF, outF, countF, boundF}
 use Rattle.layout.proofs.Laws.{row-at, rows-many, byte-get}
 use Rattle.cells.specs.Back.{toCell, stateOf}
-use Rattle.valid.specs.Valid.{argOk, kOk, outOk, planOk, sizesOk, risen, keptOk, rowOk, allRows, planIn, noted, clearIn}
-use Rattle.valid.proofs.Tests.{left, right}
+use Rattle.valid.specs.Valid.{argOk, kOk, outOk, planOk, sizesOk, risen, keptOk, rowOk, allRows, count, planIn, noted, clearIn}
+use Rattle.valid.proofs.Tests.{left, right, in-few}
 use Rattle.valid.proofs.Graph.{noted-length}
 
 -- ---- a record's row passes, and its plan part
@@ -189,15 +190,15 @@ args-below n r f =
     go false e false eu true ev = (used-below (usesA op) (num aF r) n (f .a-ok) ev, tt)
     go false e false eu false ev = tt
 
-pub clear-is : (s : List ℕ) (n : ℕ) → n ≤ streamLimit → allRows (rowOk n) n s ≡ true → n * 256 ≤ length s → clearIn n s ≡ acyclic streamLimit (planIn n s)
+clear-is : (cap : ℕ) (s : List ℕ) (n : ℕ) → n ≤ mostStreams → allRows (rowOk n) n s ≡ true → n * 256 ≤ length s → clearIn cap n s ≡ acyclic cap (planIn n s)
 unfolding clearIn
-clear-is s n h ok l =
-    let g = noted n s (replicate 96 0) in
+clear-is cap s n h ok l =
+    let g = noted n s (replicate graphLength 0) in
     let plan = planIn n s in
     let pl = plan-length n s in
-    let gl : length g ≡ 96 = noted-length n s (replicate 96 0) in
-    ap (λ (m : ℕ). cleared streamLimit m g .isClear) (sym pl)
-    ∙ cleared-acyclic plan (omega arith) (λ i k. below i (omega arith)) streamLimit g
+    let gl : length g ≡ graphLength = noted-length n s (replicate graphLength 0) in
+    ap (λ (m : ℕ). cleared cap m g .isClear) (sym pl)
+    ∙ cleared-acyclic plan (λ i k. below i (omega arith)) cap g
     (entries-tied plan g (omega arith) (λ i j k m. byte i j (omega arith) m))
   where
     facts : (i : ℕ) → i < n → PlanFacts n (decRaw (part s (i * 256) 256))
@@ -207,14 +208,25 @@ clear-is s n h ok l =
     below i k = rw (plan-length n s) (rw (eqn-at n s i k) (args-below n (decRaw (part s (i * 256) 256)) (facts i k)))
 
     byte : (i j : ℕ) → i < n → j < 3
-        → getD (noted n s (replicate 96 0)) (3 * i + j) 0 ≡ getD (entryOf (numberOf (eqnAt (planIn n s) i)) (firstOf (eqnAt (planIn n s) i)) (secondOf (eqnAt (planIn n s) i))) j 0
+        → getD (noted n s (replicate graphLength 0)) (3 * i + j) 0 ≡ getD (entryOf (numberOf (eqnAt (planIn n s) i)) (firstOf (eqnAt (planIn n s) i)) (secondOf (eqnAt (planIn n s) i))) j 0
     byte i j k m =
         let r = decRaw (part s (i * 256) 256) in
         let z : i * 256 + 0 ≡ i * 256 = omega arith in
         let b₀ = byte-in s i 0 (omega arith) (lit< tt) ∙ ap (λ (x : ℕ). getD s x 0) z in
         let b₁ = byte-in s i 1 (omega arith) (lit< tt) in
         let b₂ = byte-in s i 2 (omega arith) (lit< tt) in
-        noted-at n s (replicate 96 0) i j (omega (arith, length-replicate {A = ℕ} 96 0)) k m
+        noted-at n s (replicate graphLength 0) i j (omega (arith, length-replicate {A = ℕ} graphLength 0)) k m
         ∙ ap (λ (e : List ℕ). getD e j 0)
         (sym (ap (λ (x : ℕ). entryOf x (num aF r) (num bF r)) b₀ ∙ ap₂ (entryOf (getD s (i * 256) 0)) b₁ b₂) ∙ entry-is n r (facts i k)
         ∙ ap (λ (q : Eqn). entryOf (numberOf q) (firstOf q) (secondOf q)) (sym (eqn-at n s i k)))
+
+-- ---- the streams of a buffer: no more than it has room for, and each within it
+
+pub count-few : (s : List ℕ) → count s ≤ capacity (length s)
+count-few s = in-few (capacity (length s)) s
+
+pub count-fits : (s : List ℕ) → count s * 256 ≤ length s
+count-fits s = omega (arith, count-few s, capacity-fits (length s))
+
+pub clear-count : (s : List ℕ) → allRows (rowOk (count s)) (count s) s ≡ true → clearIn (capacity (length s)) (count s) s ≡ acyclic (capacity (length s)) (planIn (count s) s)
+clear-count s ok = clear-is (capacity (length s)) s (count s) (omega (arith, count-few s, capacity-few (length s))) ok (count-fits s)

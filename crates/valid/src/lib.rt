@@ -3,10 +3,12 @@ ghost use mathlib.Core.Path.{_≡_};
 ghost use mathlib.Core.Bool.{cond};
 ghost use Prim.Native.Nat.{_+_, _*_, _≤_, _<_};
 ghost use lib.ListN.{length, drop};
+ghost use Rattle.operators.specs.Limits.{mostStreams, capacity};
 ghost use Rattle.operators.specs.Operators as operators;
 ghost use Rattle.operators.specs.Operators.{isOperator};
 ghost use Rattle.layout.specs.Record.{decRaw, num};
-ghost use Rattle.valid.specs.Valid.{argOk, kOk, outOk, planOk, nextOk, sizesOk, risen, flagOk, noneIf, noneOk, lastOk, delayOk, keptOk, rowOk, allRows, count, noted, clearIn, valid};
+ghost use Rattle.valid.specs.Valid.{argOk, kOk, outOk, planOk, nextOk, sizesOk, risen, flagOk, noneIf, noneOk, lastOk, delayOk, keptOk, rowOk, allRows, streamsIn, count, noted, clearIn, valid};
+use cycle::GRAPH;
 use limits::Bound;
 use limits::Queue;
 use operators::Plan;
@@ -254,24 +256,24 @@ fn rows_ok(state: &[u8], n: usize) -> bool
     true
 }
 
-// How many records have an operator, from the first on.
-fn streams_in(state: &[u8]) -> usize
-    requires { ⌜ length (now state) ≡ 12288 ⌝ }
-    ensures { λ x. ⌜ (x ≡ count (now (state .entry))) × (x ≤ 32) ⌝ }
+// How many records have an operator, from the first on, of so many at most.
+fn streams_in(state: &[u8], most: usize) -> usize
+    requires { ⌜ most * 256 ≤ length (now state) ⌝ }
+    ensures { λ x. ⌜ (x ≡ streamsIn most (now (state .entry))) × (x ≤ most) ⌝ }
 {
     let mut i = 0;
-    while i < Plan::STREAMS {
+    while i < most {
         if state[i * 256] == 0 {
             return i;
         }
         i += 1;
     }
-    Plan::STREAMS
+    most
 }
 
 // The undelayed arguments of the first n records, three bytes for each.
-fn fill_graph(state: &[u8], n: usize, graph: &mut [u8; 96])
-    requires { ⌜ (n * 256 ≤ length (now state)) × (n ≤ 32) ⌝ }
+fn fill_graph(state: &[u8], n: usize, graph: &mut [u8])
+    requires { ⌜ (n * 256 ≤ length (now state)) × (3 * n ≤ length (now graph)) ⌝ }
     ensures { λ _. ⌜ now (graph .exit) ≡ noted n (now (state .entry)) (now (graph .entry)) ⌝ }
 {
     let mut i = 0;
@@ -282,24 +284,25 @@ fn fill_graph(state: &[u8], n: usize, graph: &mut [u8; 96])
     }
 }
 
-// Whether the arguments of the first n records make no cycle without a delayed one.
-fn clear(state: &[u8], n: usize) -> bool
-    requires { ⌜ (n * 256 ≤ length (now state)) × (n ≤ 32) ⌝ }
-    ensures { λ r. ⌜ r ≡ clearIn n (now (state .entry)) ⌝ }
+// Whether the arguments of the first n records, of so many at most, make no cycle without a delayed one.
+fn clear(state: &[u8], n: usize, most: usize) -> bool
+    requires { ⌜ (n * 256 ≤ length (now state)) × (n ≤ most) × (most ≤ mostStreams) ⌝ }
+    ensures { λ r. ⌜ r ≡ clearIn most n (now (state .entry)) ⌝ }
 {
-    let mut graph = [0u8; 96];
+    let mut graph = [0u8; GRAPH];
     fill_graph(state, n, &mut graph);
-    cycle::clear(&mut graph, n as u8, Plan::STREAMS as u8)
+    cycle::clear(&mut graph, n as u8, most as u8)
 }
 
 // How many streams a state has; 0 if the bytes are none.
 pub fn streams(state: &[u8]) -> usize
-    ensures { λ n. ⌜ (n ≡ cond (valid (now (state .entry))) (count (now (state .entry))) 0) × (n ≤ 32) ⌝ }
+    ensures { λ n. ⌜ (n ≡ cond (valid (now (state .entry))) (count (now (state .entry))) 0) × (n ≤ capacity (length (now (state .entry)))) ⌝ }
 {
-    if state.len() != 12288 {
+    let most = Plan::capacity(state.len());
+    if most == 0 {
         return 0;
     }
-    let n = streams_in(state);
+    let n = streams_in(state, most);
     if n == 0 {
         return 0;
     }
@@ -309,7 +312,7 @@ pub fn streams(state: &[u8]) -> usize
     if !le::zeros(state, n * 256) {
         return 0;
     }
-    if !clear(state, n) {
+    if !clear(state, n, most) {
         return 0;
     }
     n
