@@ -1,6 +1,120 @@
-// The operators and the plan: one table of names, stored numbers and equations, in specs/; and the limits of a plan.
+// The operators and the plan: one table of names, stored numbers, groups and equations, in specs/; and the limits of a plan.
 ghost use mathlib.Core.Path.{_≡_};
 ghost use Rattle.operators.specs.Limits.{streamLimit, textLimit, countFits};
+ghost use Rattle.operators.specs.Operators.{groupOf, usesK, isPresent, isIn, takesFirst, takesSecond, delaysFirst};
+
+// What the stored number of an operator says of its arguments.
+pub enum Group {
+    // No operator has the number.
+    Absent,
+    // in: its events come from outside.
+    Input,
+    // nil, unit: no argument.
+    Plain,
+    // time, set, plus, neg: one argument.
+    One,
+    // add to merge: two arguments.
+    Two,
+    // last: two arguments, the first delayed.
+    Last,
+    // delay: two arguments, the first delayed.
+    Delay,
+}
+
+// The group of a stored number: the code's one table of operators.
+pub fn group_of(number: u64) -> Group
+    ensures { λ r. ⌜ r ≡ groupOf number ⌝ }
+{
+    match number {
+        1 => Group::Input,
+        2..=3 => Group::Plain,
+        4..=7 => Group::One,
+        8..=17 => Group::Two,
+        18 => Group::Last,
+        19 => Group::Delay,
+        _ => Group::Absent,
+    }
+}
+
+// set, plus
+pub fn takes_value(number: u64) -> bool
+    ensures { λ r. ⌜ r ≡ usesK number ⌝ }
+{
+    match number {
+        5..=6 => true,
+        _ => false,
+    }
+}
+
+pub fn is_present(g: Group) -> bool
+    ensures { λ r. ⌜ r ≡ isPresent g ⌝ }
+{
+    match g {
+        Group::Absent => false,
+        Group::Input => true,
+        Group::Plain => true,
+        Group::One => true,
+        Group::Two => true,
+        Group::Last => true,
+        Group::Delay => true,
+    }
+}
+
+pub fn is_in(g: Group) -> bool
+    ensures { λ r. ⌜ r ≡ isIn g ⌝ }
+{
+    match g {
+        Group::Absent => false,
+        Group::Input => true,
+        Group::Plain => false,
+        Group::One => false,
+        Group::Two => false,
+        Group::Last => false,
+        Group::Delay => false,
+    }
+}
+
+pub fn takes_first(g: Group) -> bool
+    ensures { λ r. ⌜ r ≡ takesFirst g ⌝ }
+{
+    match g {
+        Group::Absent => false,
+        Group::Input => false,
+        Group::Plain => false,
+        Group::One => true,
+        Group::Two => true,
+        Group::Last => true,
+        Group::Delay => true,
+    }
+}
+
+pub fn takes_second(g: Group) -> bool
+    ensures { λ r. ⌜ r ≡ takesSecond g ⌝ }
+{
+    match g {
+        Group::Absent => false,
+        Group::Input => false,
+        Group::Plain => false,
+        Group::One => false,
+        Group::Two => true,
+        Group::Last => true,
+        Group::Delay => true,
+    }
+}
+
+pub fn delays_first(g: Group) -> bool
+    ensures { λ r. ⌜ r ≡ delaysFirst g ⌝ }
+{
+    match g {
+        Group::Absent => false,
+        Group::Input => false,
+        Group::Plain => false,
+        Group::One => false,
+        Group::Two => false,
+        Group::Last => true,
+        Group::Delay => true,
+    }
+}
 
 // A plan: how many streams it has.
 pub struct Plan {
