@@ -2,16 +2,17 @@
 use Prim.Native.Nat.{ℕ, _+_, _≤_, _<_}
 use mathlib.Core.Path.{_≡_, refl, sym, ap, _∙_}
 use mathlib.Core.Bool.{Bool, true, false, cond, _&&_}
-use mathlib.Core.List.{[], _∷_, map}
+use mathlib.Core.List.{map}
 use native.Mathlib.Omega.{arith}
-use borrow.Author.Tests.{leb-true, leb-false, lt-leb}
-use lib.Dec.{leb, lit≤}
+use borrow.Author.Tests.{leb-true, leb-false, lt-leb, ne-eqb}
+use lib.Dec.{leb, eqb, lit≤}
 use lib.ListN.{getD, List·getD-eq-default}
 use lib.IntN.{ℤ, pos}
-use Rattle.meaning.specs.Plan.{Unary, time, neg, set, plus, Calc, add, sub, mul, div, rem, lt, le, eq, Binary, calc, keep, merge, Eqn, input, nil, unit, one, two, last, delay, isInput, undelayed, reads}
-use Rattle.operators.specs.Operators.{Operator, noOperator, operators, operatorCount, calcs, calcPlace, unaryNumber, binaryNumber, groupOf, eqnOf, numberOf, firstOf, secondOf, valueOf, isPresent, isIn, takesFirst, takesSecond, delaysFirst, isOperator, usesA, usesB, usesK, delaysA, eqnGroup}
+use Rattle.meaning.specs.Plan.{Unary, time, neg, set, plus, Calc, add, sub, mul, div, rem, lt, le, eq, Binary, calc, keep, merge, Eqn, input, nil, unit, one, two, last, delay, isInput, arguments, argA, argB}
+use Rattle.operators.specs.Operators.{Operator, noOperator, operators, operatorCount, calcs, calcPlace, unaryNumber, binaryNumber, groupOf, eqnOf, numberOf, valueOf, isPresent, isIn, isLast, isDelay, takesFirst, takesSecond, isOperator, usesA, usesB, usesK, argumentsOf, eqnGroup}
 use Rattle.operators.specs.declared.Group.{Group}
 use Rattle.operators.specs.declared.Group.the-variants.{Absent, One, Two}
+use Rattle.operators.proofs.Tests.{left, right}
 use Rattle.operators.proofs.Numbers.{listed, agree, agreeing}
 
 and-false : (x : Bool) → (x && false) ≡ false
@@ -81,6 +82,12 @@ two-group (calc g) = every-calc (λ p. groupOf (8 + p)) (λ p. Two) refl g
 two-group keep = refl
 two-group merge = refl
 
+pub two-value : (g : Binary) → usesK (binaryNumber g) ≡ false
+unfolding usesK
+two-value (calc g) = every-calc (λ p. usesK (8 + p)) (λ p. false) refl g
+two-value keep = refl
+two-value merge = refl
+
 -- the group of an equation's number, by the shape of the equation
 pub group-of : (e : Eqn) → groupOf (numberOf e) ≡ eqnGroup e
 unfolding groupOf numberOf
@@ -91,6 +98,31 @@ group-of (one f a) = one-group f
 group-of (two g a b) = two-group g
 group-of (last a b) = refl
 group-of (delay a b) = refl
+
+pub in-of : (e : Eqn) → isIn (groupOf (numberOf e)) ≡ isInput e
+in-of e = ap isIn (group-of e) ∙ shape e
+  where
+    shape : (e : Eqn) → isIn (eqnGroup e) ≡ isInput e
+    shape input = refl
+    shape nil = refl
+    shape unit = refl
+    shape (one f a) = refl
+    shape (two g a b) = refl
+    shape (last a b) = refl
+    shape (delay a b) = refl
+
+-- and its arguments
+pub arguments-of : (e : Eqn) → argumentsOf (groupOf (numberOf e)) (argA e) (argB e) ≡ arguments e
+arguments-of e = ap (λ g. argumentsOf g (argA e) (argB e)) (group-of e) ∙ shape e
+  where
+    shape : (e : Eqn) → argumentsOf (eqnGroup e) (argA e) (argB e) ≡ arguments e
+    shape input = refl
+    shape nil = refl
+    shape unit = refl
+    shape (one f a) = refl
+    shape (two g a b) = refl
+    shape (last a b) = refl
+    shape (delay a b) = refl
 
 -- ---- from an equation to its row
 
@@ -111,8 +143,8 @@ number-range (last a b) = (lit≤ tt, lit≤ tt)
 number-range (delay a b) = (lit≤ tt, lit≤ tt)
 
 -- every equation is its number with its fields: the row of its number makes it again
-pub eqn-back : (e : Eqn) → eqnOf (numberOf e) (firstOf e) (secondOf e) (valueOf e) ≡ e
-unfolding eqnOf numberOf firstOf secondOf valueOf
+pub eqn-back : (e : Eqn) → eqnOf (numberOf e) (argA e) (argB e) (valueOf e) ≡ e
+unfolding eqnOf numberOf valueOf
 eqn-back input = refl
 eqn-back nil = refl
 eqn-back unit = refl
@@ -142,6 +174,33 @@ pub operator-range : (n : ℕ) → isOperator n ≡ (leb 1 n && leb n operatorCo
 unfolding groupOf
 operator-range = by-range (λ o. isPresent (o .group)) 1 operatorCount (lit≤ tt) refl refl
 
+-- the number of an operator
+pub operator-low : (n : ℕ) → isOperator n ≡ true → 1 ≤ n
+operator-low n e = leb-true 1 n (left (leb 1 n) (leb n operatorCount) (sym (operator-range n) ∙ e))
+
+pub operator-high : (n : ℕ) → isOperator n ≡ true → n ≤ operatorCount
+operator-high n e = leb-true n operatorCount (right (leb 1 n) (leb n operatorCount) (sym (operator-range n) ∙ e))
+
+-- one number alone passes a test of groups
+by-number : (f : Group → Bool) (m : ℕ) → m ≤ operatorCount → f Absent ≡ false → listed (λ n. f (groupOf n)) 0 20 ≡ listed (λ n. eqb n m) 0 20 → (n : ℕ) → f (groupOf n) ≡ eqb n m
+by-number f m t d e n = go (leb n operatorCount) refl
+  where
+    go : (b : Bool) → leb n operatorCount ≡ b → f (groupOf n) ≡ eqb n m
+    go true q = let h = leb-true n operatorCount q in agree (λ x. f (groupOf x)) (λ x. eqb x m) 0 20 e n (omega arith) (omega arith)
+    go false q = let h = leb-false n operatorCount q in ap f (absent-above n h) ∙ d ∙ sym (ne-eqb n m (λ z. omega arith))
+
+pub in-number : (n : ℕ) → isIn (groupOf n) ≡ eqb n 1
+unfolding groupOf
+in-number = by-number isIn 1 (lit≤ tt) refl refl
+
+pub last-number : (n : ℕ) → isLast (groupOf n) ≡ eqb n 18
+unfolding groupOf
+last-number = by-number isLast 18 (lit≤ tt) refl refl
+
+pub delay-number : (n : ℕ) → isDelay (groupOf n) ≡ eqb n 19
+unfolding groupOf
+delay-number = by-number isDelay 19 (lit≤ tt) refl refl
+
 -- set and plus
 pub value-range : (n : ℕ) → usesK n ≡ (leb 5 n && leb n 6)
 unfolding usesK
@@ -152,26 +211,22 @@ module _ (a b : ℕ) (k : ℤ) where
   unfolding eqnOf numberOf
   number-back = everywhere (λ n. numberOf (eqnOf n a b k)) (λ n. n) refl
 
-  pub first-back : (n : ℕ) → firstOf (eqnOf n a b k) ≡ cond (usesA n) a 0
-  unfolding eqnOf groupOf firstOf
-  first-back = by-row (λ o. firstOf (o .eqn a b k)) (λ o. cond (takesFirst (o .group)) a 0) refl refl
+  pub first-back : (n : ℕ) → argA (eqnOf n a b k) ≡ cond (usesA n) a 0
+  unfolding eqnOf groupOf
+  first-back = by-row (λ o. argA (o .eqn a b k)) (λ o. cond (takesFirst (o .group)) a 0) refl refl
 
-  pub second-back : (n : ℕ) → secondOf (eqnOf n a b k) ≡ cond (usesB n) b 0
-  unfolding eqnOf groupOf secondOf
-  second-back = by-row (λ o. secondOf (o .eqn a b k)) (λ o. cond (takesSecond (o .group)) b 0) refl refl
+  pub second-back : (n : ℕ) → argB (eqnOf n a b k) ≡ cond (usesB n) b 0
+  unfolding eqnOf groupOf
+  second-back = by-row (λ o. argB (o .eqn a b k)) (λ o. cond (takesSecond (o .group)) b 0) refl refl
 
   pub value-back : (n : ℕ) → valueOf (eqnOf n a b k) ≡ cond (usesK n) k (pos 0)
   unfolding eqnOf usesK valueOf
   value-back = by-row (λ o. valueOf (o .eqn a b k)) (λ o. cond (o .value) k (pos 0)) refl refl
 
   -- the arguments by the group of the stored number
-  pub reads-by-number : (n : ℕ) → reads (eqnOf n a b k) ≡ cond (usesB n) (a ∷ b ∷ []) (cond (usesA n) (a ∷ []) [])
+  pub arguments-by-number : (n : ℕ) → arguments (eqnOf n a b k) ≡ argumentsOf (groupOf n) a b
   unfolding eqnOf groupOf
-  reads-by-number = by-row (λ o. reads (o .eqn a b k)) (λ o. cond (takesSecond (o .group)) (a ∷ b ∷ []) (cond (takesFirst (o .group)) (a ∷ []) [])) refl refl
-
-  pub undelayed-by-number : (n : ℕ) → undelayed (eqnOf n a b k) ≡ cond (delaysA n) (b ∷ []) (reads (eqnOf n a b k))
-  unfolding eqnOf groupOf
-  undelayed-by-number = by-row (λ o. undelayed (o .eqn a b k)) (λ o. cond (delaysFirst (o .group)) (b ∷ []) (reads (o .eqn a b k))) refl refl
+  arguments-by-number = by-row (λ o. arguments (o .eqn a b k)) (λ o. argumentsOf (o .group) a b) refl refl
 
   pub input-by-number : (n : ℕ) → isInput (eqnOf n a b k) ≡ isIn (groupOf n)
   unfolding eqnOf groupOf

@@ -4,7 +4,7 @@ use mathlib.Core.Bool.{Bool, true, false}
 use mathlib.Core.List.{List, [], _∷_, _++_, map}
 use lib.ListN.{getD}
 use lib.IntN.{ℤ, pos}
-use Rattle.meaning.specs.Plan.{Unary, time, neg, set, plus, Calc, add, sub, mul, div, rem, lt, le, eq, Binary, calc, keep, merge, Eqn, input, nil, unit, one, two, last, delay}
+use Rattle.meaning.specs.Plan.{Unary, time, neg, set, plus, Calc, add, sub, mul, div, rem, lt, le, eq, Binary, calc, keep, merge, Eqn, input, nil, unit, one, two, last, delay, Argument, prompt, late}
 use Rattle.operators.specs.declared.Group.{Group}
 use Rattle.operators.specs.declared.Group.the-variants.{Absent, Input, Plain, One, Two, Last, Delay}
 
@@ -110,6 +110,24 @@ isIn Two = false
 isIn Last = false
 isIn Delay = false
 
+abbrev pub isLast : Group → Bool
+isLast Absent = false
+isLast Input = false
+isLast Plain = false
+isLast One = false
+isLast Two = false
+isLast Last = true
+isLast Delay = false
+
+abbrev pub isDelay : Group → Bool
+isDelay Absent = false
+isDelay Input = false
+isDelay Plain = false
+isDelay One = false
+isDelay Two = false
+isDelay Last = false
+isDelay Delay = true
+
 abbrev pub takesFirst : Group → Bool
 takesFirst Absent = false
 takesFirst Input = false
@@ -138,6 +156,16 @@ delaysFirst Two = false
 delaysFirst Last = true
 delaysFirst Delay = true
 
+-- the arguments that an operator of the group makes of a and b
+abbrev pub argumentsOf : Group → ℕ → ℕ → List Argument
+argumentsOf Absent a b = []
+argumentsOf Input a b = []
+argumentsOf Plain a b = []
+argumentsOf One a b = prompt a ∷ []
+argumentsOf Two a b = prompt a ∷ prompt b ∷ []
+argumentsOf Last a b = late a ∷ prompt b ∷ []
+argumentsOf Delay a b = late a ∷ prompt b ∷ []
+
 abbrev pub isOperator : ℕ → Bool
 isOperator n = isPresent (groupOf n)
 
@@ -150,7 +178,7 @@ usesB n = takesSecond (groupOf n)
 abbrev pub delaysA : ℕ → Bool
 delaysA n = delaysFirst (groupOf n)
 
--- ---- back from an equation: the group, the stored number, and the fields, 0 where the operator uses none
+-- ---- back from an equation: the group, the stored number, and the value, 0 where the operator uses none
 
 abbrev pub eqnGroup : Eqn → Group
 eqnGroup input = Input
@@ -180,24 +208,6 @@ numberOf (one f a) = unaryNumber f
 numberOf (two g a b) = binaryNumber g
 numberOf (last a b) = 18
 numberOf (delay a b) = 19
-
-unfoldable pub firstOf : Eqn → ℕ
-firstOf input = 0
-firstOf nil = 0
-firstOf unit = 0
-firstOf (one f a) = a
-firstOf (two g a b) = a
-firstOf (last a b) = a
-firstOf (delay a b) = a
-
-unfoldable pub secondOf : Eqn → ℕ
-secondOf input = 0
-secondOf nil = 0
-secondOf unit = 0
-secondOf (one f a) = 0
-secondOf (two g a b) = b
-secondOf (last a b) = b
-secondOf (delay a b) = b
 
 abbrev pub unaryValue : Unary → ℤ
 unaryValue time = pos 0

@@ -2,6 +2,7 @@
 ghost use mathlib.Core.Path.{_≡_};
 ghost use Rattle.operators.specs.Limits.{streamLimit, textLimit, countFits};
 ghost use Rattle.operators.specs.Operators.{groupOf, usesK, isPresent, isIn, takesFirst, takesSecond, delaysFirst};
+ghost use Rattle.operators.specs.Rules.{argOk, valueOk, outOk, fieldsOk};
 
 // What the stored number of an operator says of its arguments.
 pub enum Group {
@@ -114,6 +115,43 @@ pub fn delays_first(g: Group) -> bool
         Group::Last => true,
         Group::Delay => true,
     }
+}
+
+// An argument that is used is below n, one that is not is 0.
+fn arg_ok(used: bool, n: u64, a: u64) -> bool
+    ensures { λ r. ⌜ r ≡ argOk used n a ⌝ }
+{
+    if used { a < n } else { a == 0 }
+}
+
+fn value_ok(used: bool, k: u64) -> bool
+    ensures { λ r. ⌜ r ≡ valueOk used k ⌝ }
+{
+    if used { true } else { k == 0 }
+}
+
+// out is 0 or 1, and 0 of an input.
+fn out_ok(g: Group, out: u64) -> bool
+    ensures { λ r. ⌜ r ≡ outOk g out ⌝ }
+{
+    if is_in(g) { out == 0 } else { out < 2 }
+}
+
+// Whether the fields of a stream of a plan of n streams keep the rules.
+pub fn fields_ok(n: u64, op: u64, a: u64, b: u64, k: u64, out: u64) -> bool
+    ensures { λ r. ⌜ r ≡ fieldsOk n op a b k out ⌝ }
+{
+    let g = group_of(op);
+    if !arg_ok(takes_first(g), n, a) {
+        return false;
+    }
+    if !arg_ok(takes_second(g), n, b) {
+        return false;
+    }
+    if !value_ok(takes_value(op), k) {
+        return false;
+    }
+    out_ok(g, out)
 }
 
 // A plan: how many streams it has.
