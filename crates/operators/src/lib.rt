@@ -27,12 +27,17 @@ pub fn group_of(number: u64) -> Group
     ensures { λ r. ⌜ r ≡ groupOf number ⌝ }
 {
     match number {
-        1 => Group::Input,
-        2..=3 => Group::Plain,
+        0..=3 => match number {
+            0 => Group::Absent,
+            1 => Group::Input,
+            _ => Group::Plain,
+        },
         4..=7 => Group::One,
         8..=17 => Group::Two,
-        18 => Group::Last,
-        19 => Group::Delay,
+        18..=19 => match number {
+            18 => Group::Last,
+            _ => Group::Delay,
+        },
         _ => Group::Absent,
     }
 }
