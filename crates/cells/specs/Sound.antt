@@ -1,5 +1,5 @@
 -- The states that the layout can hold: what holds of every cell, of a run or not.
-use Prim.Native.Nat.{ℕ, zero, suc, _^_, _≤_, _<_}
+use Prim.Native.Nat.{ℕ, suc, _^_, _≤_, _<_}
 use mathlib.Core.Path.{_≡_}
 use mathlib.Core.Bool.{Bool, true, false}
 use mathlib.Core.Option.{Option, none, some}
@@ -8,7 +8,7 @@ use lib.Dec.{T}
 use lib.ListN.{length}
 use lib.IntN.{ℤ}
 use lib.Signed.{mag}
-use Rattle.meaning.specs.Plan.{Eqn, input, nil, unit, one, two, last, delay, isInput, reads}
+use Rattle.meaning.specs.Plan.{Eqn, input, nil, unit, one, two, last, delay, isInput, reads, AllBelow}
 use Rattle.meaning.specs.Events.{Event, horizon}
 use Rattle.meaning.specs.Cycle.{acyclic}
 use Rattle.machine.specs.State.{Kept, Cell, State, room, noKept, cellAt, planOf}
@@ -21,10 +21,6 @@ IsValue v = mag v < 2 ^ 63
 abbrev pub IsOptional : Option ℤ → Type 0
 IsOptional none = Unit {0}
 IsOptional (some v) = IsValue v
-
-abbrev pub AllBelow : ℕ → List ℕ → Type 0
-AllBelow n [] = Unit {0}
-AllBelow n (a ∷ l) = (a < n) × AllBelow n l
 
 -- held events, by rising stamp from lo on, below top
 abbrev pub Rising : (lo top : ℕ) → List Event → Type 0

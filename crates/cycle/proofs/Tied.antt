@@ -9,10 +9,10 @@ use lib.ListN.{length, getD, set, length-set}
 use lib.Seq.{getD-set-same, getD-set-other}
 use lib.Dec.{eqb}
 use borrow.Author.Tests.{eq-eqb, eqb-true, eqb-false}
-use Rattle.meaning.specs.Plan.{Plan, eqnAt, undelayed}
+use Rattle.meaning.specs.Plan.{Plan, eqnAt, undelayed, AllBelow}
 use Rattle.meaning.specs.Cycle.{Marks, then-marked, visits, visit, downFrom, isSome, acyclic}
 use Rattle.meaning.specs.Cycle as Cycle
-use Rattle.cycle.specs.Graph.{AllBelow, Walk, marked, both, followed, rest, cleared}
+use Rattle.cycle.specs.Graph.{Walk, marked, both, followed, rest, cleared}
 use Rattle.cycle.proofs.Walks.{seen, stop, bare, onward}
 
 -- how a stream stands, by its mark and its undelayed arguments

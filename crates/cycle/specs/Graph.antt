@@ -1,12 +1,12 @@
 -- The graph of a plan in bytes, and the test that follows it.
-use Prim.Native.Nat.{ℕ, zero, suc, _+_, _*_, _<_}
+use Prim.Native.Nat.{ℕ, zero, suc, _+_, _*_}
 use mathlib.Core.Bool.{Bool, true, false, cond, _&&_}
 use mathlib.Core.List.{List, [], _∷_, _++_}
-use lib.Dec.{eqb, leb, ltb}
+use lib.Dec.{eqb, ltb}
 use lib.ListN.{length, getD, set}
-use Rattle.meaning.specs.Plan.{Plan}
+use Rattle.meaning.specs.Plan.{Plan, prompts, argA, argB}
 use Rattle.operators.specs.Limits.{mostStreams}
-use Rattle.operators.specs.Operators.{numberOf, firstOf, secondOf}
+use Rattle.operators.specs.Operators.{groupOf, argumentsOf, numberOf}
 
 -- the bytes of a graph: three for each stream that a plan may have
 abbrev pub graphLength : ℕ
@@ -14,13 +14,17 @@ graphLength = 3 * mostStreams
 
 -- Three bytes for each stream: how it stands (0: its arguments are to be followed, 1: found clear, 2: it has no undelayed
 -- argument), and its two undelayed arguments; a single one stands twice.
+abbrev pub entryBy : List ℕ → List ℕ
+entryBy [] = 2 ∷ 0 ∷ 0 ∷ []
+entryBy (a ∷ []) = 0 ∷ a ∷ a ∷ []
+entryBy (a ∷ b ∷ l) = 0 ∷ a ∷ b ∷ []
+
 unfoldable pub entryOf : ℕ → ℕ → ℕ → List ℕ
-entryOf n a b =
-    cond (leb n 3) (2 ∷ 0 ∷ 0 ∷ []) (cond (leb n 7) (0 ∷ a ∷ a ∷ []) (cond (leb n 17) (0 ∷ a ∷ b ∷ []) (0 ∷ b ∷ b ∷ [])))
+entryOf n a b = entryBy (prompts (argumentsOf (groupOf n) a b))
 
 unfoldable pub graphOf : Plan → List ℕ
 graphOf [] = []
-graphOf (e ∷ plan) = entryOf (numberOf e) (firstOf e) (secondOf e) ++ graphOf plan
+graphOf (e ∷ plan) = entryOf (numberOf e) (argA e) (argB e) ++ graphOf plan
 
 -- What following gives: whether it was clear, and the graph with the marks of those found clear
 pub record Walk : Type 0 where
@@ -62,8 +66,3 @@ rest w others = cond (w .isClear) (others (w .graph)) w
 unfoldable pub cleared : ℕ → ℕ → List ℕ → Walk
 cleared depth zero g = walked true g
 cleared depth (suc n) g = rest (followed depth n g) (cleared depth n)
-
--- every argument is a stream below n
-abbrev pub AllBelow : ℕ → List ℕ → Type 0
-AllBelow n [] = Unit {0}
-AllBelow n (a ∷ l) = (a < n) × AllBelow n l

@@ -5,6 +5,7 @@ ghost use mathlib.Core.List.{[], _∷_};
 ghost use lib.Seq.{sets};
 ghost use lib.ListN.{length};
 ghost use Rattle.cycle.specs.Graph.{walked, followed, cleared, entryOf};
+use operators::Group;
 use operators::Plan;
 
 // The bytes of a graph: three for each stream that a plan may have.
@@ -27,17 +28,17 @@ fn store(graph: &mut [u8], at: usize, how: u8, a: u8, b: u8)
     graph[at + 2] = b;
 }
 
-// Notes the undelayed arguments of stream i, by its stored number.
+// Notes the undelayed arguments of stream i, by the group of its stored number.
 pub fn note(graph: &mut [u8], i: usize, op: u8, a: u8, b: u8)
     requires { ⌜ 3 * i + 2 < length (now graph) ⌝ }
     ensures { λ _. ⌜ now (graph .exit) ≡ sets (now (graph .entry)) (3 * i) (entryOf op a b) ⌝ }
 {
     let at = 3 * i;
-    match op {
-        0..=3 => store(graph, at, BARE, 0, 0),
-        4..=7 => store(graph, at, OPEN, a, a),
-        8..=17 => store(graph, at, OPEN, a, b),
-        _ => store(graph, at, OPEN, b, b),
+    match operators::group_of(op as u64) {
+        Group::Absent | Group::Input | Group::Plain => store(graph, at, BARE, 0, 0),
+        Group::One => store(graph, at, OPEN, a, a),
+        Group::Two => store(graph, at, OPEN, a, b),
+        Group::Last | Group::Delay => store(graph, at, OPEN, b, b),
     }
 }
 

@@ -4,7 +4,7 @@ use mathlib.Core.Path.{_≡_, refl, sym, ap, ap₂, _∙_}
 use mathlib.Core.List.{List}
 use mathlib.Core.Bool.{Bool, true, false, not, cond}
 use native.Mathlib.Omega.{arith}
-use lib.Dec.{ltb, eqb}
+use lib.Dec.{ltb}
 use lib.IntN.{pos}
 use lib.ListN.{length}
 use borrow.Author.Tests.{ltb-true}
@@ -14,6 +14,7 @@ use Rattle.machine.specs.Step.{canMove, comesIn, move}
 use Rattle.machine.specs.Calls.{moving, running, refused, done, arrivals, noEquation, moveOne, run, call}
 use Rattle.machine.proofs.Outcomes.{run-number}
 use Rattle.le.specs.Bytes.{Bytes}
+use Rattle.operators.specs.Operators.{groupOf, isIn}
 use Rattle.layout.specs.Record.{Raw, Raws, num, encode, decode, rowAt, opF}
 use Rattle.cells.specs.View.{ofCell, rawsOf, bytesOf}
 use Rattle.valid.specs.Valid.{count, valid}
@@ -52,15 +53,15 @@ module _ (s : List ℕ) (b : Bytes s) (n : ℕ) (e : n ≡ cond (valid s) (count
     equation-is : equationRaw n (decode n s) i ≡ not (noEquation i (stateIn s))
     unfolding equationRaw
     equation-is =
-        ap₂ (λ (m : ℕ) (st : Raws). cond (ltb i m) (not (eqb (num opF (rowAt st i)) 1)) false) n-is (raws s b n here)
+        ap₂ (λ (m : ℕ) (st : Raws). cond (ltb i m) (not (isIn (groupOf (num opF (rowAt st i))))) false) n-is (raws s b n here)
         ∙ go (ltb i (length (stateIn s))) refl
       where
         row : i < length (stateIn s) → rowAt (rawsOf (length s) (stateIn s)) i ≡ ofCell (cellAt (stateIn s) i)
         row h = unfold rawsOf in row-of (stateIn s) i h
 
         go : (p : Bool) → ltb i (length (stateIn s)) ≡ p
-            → cond (ltb i (length (stateIn s))) (not (eqb (num opF (rowAt (rawsOf (length s) (stateIn s)) i)) 1)) false ≡ not (cond (ltb i (length (stateIn s))) (isInput (cellAt (stateIn s) i .eqn)) true)
-        go true q = rw q (ap not (ap (λ (r : Raw). eqb (num opF r) 1) (row (ltb-true i (length (stateIn s)) q)) ∙ op-of (cellAt (stateIn s) i)))
+            → cond (ltb i (length (stateIn s))) (not (isIn (groupOf (num opF (rowAt (rawsOf (length s) (stateIn s)) i))))) false ≡ not (cond (ltb i (length (stateIn s))) (isInput (cellAt (stateIn s) i .eqn)) true)
+        go true q = rw q (ap not (ap (λ (r : Raw). isIn (groupOf (num opF r))) (row (ltb-true i (length (stateIn s)) q)) ∙ op-of (cellAt (stateIn s) i)))
         go false q = rw q
 
     module _ (r : Bool) (er : r ≡ equationRaw n (decode n s) i) where

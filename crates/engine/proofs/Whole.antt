@@ -9,17 +9,15 @@ use native.Mathlib.Decide.{ℕ-discrete}
 use lib.Dec.{eqb, ltb}
 use lib.ListN.{length}
 use borrow.Author.Tests.{eqb-true, eqb-false, ne-eqb}
-use Rattle.meaning.specs.Plan.{reads, eqnAt}
+use Rattle.meaning.specs.Plan.{reads, eqnAt, AllBelow}
 use Rattle.meaning.proofs.CycleTest.{test-sound}
-use Rattle.machine.specs.State.{Declared, State, loaded}
+use Rattle.machine.specs.State.{Declared, declaredPlan, State, loaded}
 use Rattle.machine.specs.Calls.{Call, reading, progress, moving, running, collecting, call}
 use Rattle.runs.specs.History.{Seen, seenOf, Typed, AllTyped, after, log}
-use Rattle.runs.specs.Claim as claim
 use Rattle.runs.specs.Claim.{Keeps}
 use Rattle.runs.proofs.Whole.{whole-runs, rest-reached}
 use Rattle.operators.specs.Limits.{mostStreams, capacity}
 use Rattle.operators.proofs.Sizes.{capacity-few}
-use Rattle.cycle.specs.Graph.{AllBelow}
 use Rattle.cells.specs.View.{bytesOf}
 use Rattle.cells.specs.Sound.{Sound}
 use Rattle.sound.proofs.Calls.{Offered, call-sound}
@@ -37,17 +35,13 @@ use Rattle.engine.specs.History.{Act, load, make, answer, left, seenIn, 
 
 -- ---- a plan that keeps the written rules is one that the theorem on runs speaks of
 
-below : (n : ℕ) (l : List ℕ) → AllBelow n l → claim.All (λ a. a < n) l
-below n [] h = tt
-below n (a ∷ l) h = (h .0, below n l (h .1))
-
-arguments-at : (n : ℕ) (ds : List Declared) (s : ℕ) → Each n ds → claim.All (λ a. a < n) (reads (eqnAt (claim.planOf ds) s))
+arguments-at : (n : ℕ) (ds : List Declared) (s : ℕ) → Each n ds → AllBelow n (reads (eqnAt (declaredPlan ds) s))
 arguments-at n [] s h = tt
-arguments-at n (d ∷ ds) zero h = below n (reads (d .eqn)) (h .0 .arguments)
+arguments-at n (d ∷ ds) zero h = h .0 .arguments
 arguments-at n (d ∷ ds) (suc s) h = arguments-at n ds s (h .1)
 
 pub rules-keep : {cap : ℕ} (ds : List Declared) → KeepsRules cap ds → Keeps ds
-rules-keep {cap} ds k = record { arguments = λ s. arguments-at (length ds) ds s (k .each); acyclic = test-sound cap (claim.planOf ds) (k .clear) }
+rules-keep {cap} ds k = record { arguments = λ s. arguments-at (length ds) ds s (k .each); acyclic = test-sound cap (declaredPlan ds) (k .clear) }
 
 -- ---- one call more
 

@@ -6,21 +6,19 @@ use mathlib.Core.List.{List, [], _∷_, map}
 use native.Mathlib.Omega.{arith}
 use lib.Dec.{T}
 use lib.ListN.{length, length-map}
-use Rattle.meaning.specs.Plan.{isInput, reads, Plan}
+use Rattle.meaning.specs.Plan.{isInput, Plan}
 use Rattle.meaning.specs.Cycle.{acyclic}
-use Rattle.machine.specs.State.{Cell, State, Declared, loaded, cellAt}
-use Rattle.machine.specs.State as state
+use Rattle.machine.specs.State.{Cell, State, Declared, loaded, cellAt, planOf, declaredPlan}
 use Rattle.operators.specs.Limits.{capacity}
 use Rattle.operators.proofs.Sizes.{capacity-few}
-use Rattle.cycle.specs.Graph as graph
 use Rattle.le.specs.Bytes.{Bytes}
 use Rattle.cells.specs.View.{bytesOf}
-use Rattle.cells.specs.Sound.{AllBelow, SoundCell, Sound}
+use Rattle.cells.specs.Sound.{SoundCell, Sound}
 use Rattle.valid.specs.Valid.{valid}
 use Rattle.state.specs.In.{stateIn}
 use Rattle.state.proofs.Whole.{valid-sound, bytes-valid}
 use Rattle.plan.specs.Rules.{number, declared}
-use Rattle.plan.specs.Taken.{StreamKeeps, Each, planOf, KeepsRules}
+use Rattle.plan.specs.Taken.{StreamKeeps, Each, KeepsRules}
 use Rattle.plan.proofs.Taken.{taken-rendered}
 use Rattle.plan.proofs.Rendered.{render-taken}
 use Rattle.render.specs.Render.{render}
@@ -33,22 +31,18 @@ declares c = record { eqn = c .eqn; out = c .out }
 abbrev pub declaredIn : State → List Declared
 declaredIn M = map declares M
 
-below : (n : ℕ) (l : List ℕ) → AllBelow n l → graph.AllBelow n l
-below n [] h = tt
-below n (a ∷ l) h = (h .0, below n l (h .1))
-
 no-output : (x o : Bool) → (T x → o ≡ false) → (x && o) ≡ false
 no-output true o h = h tt
 no-output false o h = refl
 
 stream-keeps : (n : ℕ) (c : Cell) → SoundCell n c → StreamKeeps n (declares c)
-stream-keeps n c h = record { arguments = below n (reads (c .eqn)) (h .arguments); value = h .value; output = no-output (isInput (c .eqn)) (c .out) (h .out) }
+stream-keeps n c h = record { arguments = h .arguments; value = h .value; output = no-output (isInput (c .eqn)) (c .out) (h .out) }
 
 each-keeps : (n : ℕ) (M : State) → ((i : ℕ) → i < length M → SoundCell n (cellAt M i)) → Each n (declaredIn M)
 each-keeps n [] h = tt
 each-keeps n (c ∷ M) h = (stream-keeps n c (h 0 (omega arith)), each-keeps n M (λ i k. h (suc i) (omega arith)))
 
-same-plan : (M : State) → planOf (declaredIn M) ≡ state.planOf M
+same-plan : (M : State) → declaredPlan (declaredIn M) ≡ planOf M
 same-plan [] = refl
 same-plan (c ∷ M) = ap (λ (l : Plan). c .eqn ∷ l) (same-plan M)
 

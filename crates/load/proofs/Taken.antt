@@ -15,9 +15,9 @@ use Rattle.le.specs.Layout.{encRows, decFields, decRows}
 use Rattle.le.proofs.RoundTrip.{All}
 use Rattle.layout.specs.Record.{Raw, Raws, noSlot, noRaw, change, encRaw, decRaw, decSlot, encode, decode}
 use Rattle.layout.proofs.Laws.{RawOk, raw-ok, raw-dec, decode-encode}
-use Rattle.meaning.specs.Plan.{Eqn, input, nil, unit, one, two, last, delay}
+use Rattle.meaning.specs.Plan.{Eqn, input, nil, unit, one, two, last, delay, argA, argB}
 use Rattle.machine.specs.State.{State, Declared, noKept, fresh, loaded}
-use Rattle.operators.specs.Operators.{numberOf, firstOf, secondOf, valueOf}
+use Rattle.operators.specs.Operators.{numberOf, valueOf}
 use Rattle.operators.specs.Limits.{capacity}
 use Rattle.operators.proofs.Sizes.{capacity-fits, capacity-few}
 use Rattle.operators.proofs.Laws.{number-back}
@@ -71,7 +71,7 @@ kept-fresh (two g a b) = refl
 kept-fresh (last a b) = refl
 kept-fresh (delay a b) = refl
 
-fresh-plain : (d : Declared) → ofCell (fresh d) ≡ plain (numberOf (d .eqn)) (firstOf (d .eqn)) (secondOf (d .eqn)) (flag (d .out)) (ofZ w64 (valueOf (d .eqn)))
+fresh-plain : (d : Declared) → ofCell (fresh d) ≡ plain (numberOf (d .eqn)) (argA (d .eqn)) (argB (d .eqn)) (flag (d .out)) (ofZ w64 (valueOf (d .eqn)))
 unfolding ofCell padTo
 fresh-plain d = ap (λ (k : KeptNums). rawOf (d .eqn) (d .out) 0 [] 0 k) (kept-fresh (d .eqn))
 
@@ -85,10 +85,10 @@ stored-fresh : (n : ℕ) (f : Fields) → keeps n f ≡ true → Stored f → st
 stored-fresh n f e s =
     let h = s .op in
     let o : f .op ≡ numberOf (eqnFrom f) = sym (number-back (f .a) (f .b) (toZ w64 (f .k)) (f .op) (h .0) (h .1)) in
-    let a : f .a % 256 ≡ firstOf (eqnFrom f) = mod-eq-of-lt (s .a) ∙ sym (first-of n f h e) in
-    let b : f .b % 256 ≡ secondOf (eqnFrom f) = mod-eq-of-lt (s .b) ∙ sym (second-of n f h e) in
+    let a : f .a % 256 ≡ argA (eqnFrom f) = mod-eq-of-lt (s .a) ∙ sym (first-of n f h e) in
+    let b : f .b % 256 ≡ argB (eqnFrom f) = mod-eq-of-lt (s .b) ∙ sym (second-of n f h e) in
     let k : f .k ≡ ofZ w64 (valueOf (eqnFrom f)) = sym (ap (ofZ w64) (value-of n f h e) ∙ ofZ-toZ {w = w64} {n = f .k} (record { fits = s .k })) in
-    let r : plain (f .op) (f .a % 256) (f .b % 256) (f .out % 256) (f .k) ≡ plain (numberOf (eqnFrom f)) (firstOf (eqnFrom f)) (secondOf (eqnFrom f)) (flag (eqb (f .out) 1)) (ofZ w64 (valueOf (eqnFrom f))) =
+    let r : plain (f .op) (f .a % 256) (f .b % 256) (f .out % 256) (f .k) ≡ plain (numberOf (eqnFrom f)) (argA (eqnFrom f)) (argB (eqnFrom f)) (flag (eqb (f .out) 1)) (ofZ w64 (valueOf (eqnFrom f))) =
     λ i. plain (o i) (a i) (b i) (out-flag (f .out) (s .out) i) (k i) in
     stored-plain f ∙ r ∙ sym (fresh-plain (declaredFrom f))
 

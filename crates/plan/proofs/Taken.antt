@@ -2,22 +2,23 @@
 use Prim.Native.Nat.{ℕ, zero, suc, _+_, _-_, _^_, _<_, _≤_}
 use mathlib.Core.Path.{_≡_, refl, sym, ap, _∙_, subst}
 use mathlib.Core.Logic.{_↔_}
-use mathlib.Core.Bool.{Bool, true, false, not, cond, _&&_, true≢false}
+use mathlib.Core.Bool.{Bool, true, false, cond}
 use mathlib.Core.List.{List, [], _∷_, _++_, append-assoc, append-nil, map}
 use native.Mathlib.Omega.{arith}
 use lib.Dec.{eqb, ltb}
-use lib.IntN.{pos}
 use lib.ListN.{length, drop, length-map}
 use lib.Seq.{drop-length}
-use borrow.Author.Tests.{eqb-true, ltb-true, leb-true, le-leb}
+use borrow.Author.Tests.{eqb-true}
 use mir.Syntax.{w64}
 use mir.Val.{toZ}
 use mir.Facts.{sfits-toZ}
+use Rattle.meaning.specs.Plan.{argA, argB}
 use Rattle.meaning.specs.Cycle.{acyclic}
 use Rattle.machine.specs.State.{Declared}
-use Rattle.operators.specs.Operators.{firstOf, secondOf, valueOf, usesA, usesB, usesK}
+use Rattle.operators.specs.Operators.{valueOf}
 use Rattle.operators.specs.Limits.{mostStreams, textLimit}
-use Rattle.operators.proofs.Laws.{number-back, first-back, second-back, value-back, reads-by-number, input-by-number}
+use Rattle.operators.proofs.Laws.{number-back}
+use Rattle.operators.proofs.Rules.{fields-first, fields-second, fields-value, fields-reads, fields-out}
 use Rattle.operators.proofs.Tests.{left, right}
 use Rattle.text.specs.declared.Fields.{Fields}
 use Rattle.text.specs.declared.Lines.{Lines}
@@ -30,54 +31,37 @@ use Rattle.render.specs.Render.{line, streamText, declaredText, allText, render
 use Rattle.render.proofs.Ranges.{stream-refused}
 use Rattle.render.proofs.Back.{stream-read}
 use Rattle.render.proofs.Heads.{head-fits, head-read, head-refused}
-use Rattle.plan.specs.Rules.{argumentFits, keeps, allKeep, Form, refused, formed, put, others, streams, eqnFrom, declaredFrom, planFrom, numberAfter, numberOfHead, number, declared}
-use Rattle.cycle.specs.Graph.{AllBelow}
+use Rattle.plan.specs.Rules.{keeps, allKeep, Form, refused, formed, put, others, streams, eqnFrom, declaredFrom, planFrom, numberAfter, numberOfHead, number, declared}
 use Rattle.plan.specs.Taken.{StreamKeeps, Each, KeepsRules}
 use Rattle.plan.proofs.Forms.{fieldsIn, endIn, refusalIn, clash}
-use Rattle.plan.proofs.Pass.{out-kept, value-kept, first-kept, second-kept}
-use Rattle.plan.proofs.Noted.{Sound, All, read-sound, same-argument}
+use Rattle.plan.proofs.Noted.{Sound, All, read-sound}
 use Rattle.plan.proofs.Rendered.{same-plan, render-taken}
 
 -- ## One stream
-
-same-value : (used : Bool) (k : ℕ) → cond used true (eqb k 0) ≡ true → cond used (toZ w64 k) (pos 0) ≡ toZ w64 k
-same-value true k e = refl
-same-value false k e = sym (ap (toZ w64) (eqb-true k 0 e))
-
-output-by : (x o : Bool) → cond x (not o) true ≡ true → (x && o) ≡ false
-output-by true true q = absurd (true≢false (sym q))
-output-by true false q = refl
-output-by false o q = refl
 
 abbrev pub InRange : Fields → Type 0
 InRange f = (f .k < 2 ^ 64) × (f .out ≤ 1)
 
 module _ (n : ℕ) (f : Fields) (h : Sound f) (e : keeps n f ≡ true) where
   pub value-of : valueOf (eqnFrom f) ≡ toZ w64 (f .k)
-  value-of = value-back (f .a) (f .b) (toZ w64 (f .k)) (f .op) (h .0) (h .1) ∙ same-value (usesK (f .op)) (f .k) (value-kept n f e)
+  value-of = fields-value n (f .op) (f .a) (f .b) (f .k) (f .out) e
 
-  pub first-of : firstOf (eqnFrom f) ≡ f .a
-  first-of = first-back (f .a) (f .b) (toZ w64 (f .k)) (f .op) (h .0) (h .1) ∙ same-argument (usesA (f .op)) n (f .a) (first-kept n f e)
+  pub first-of : argA (eqnFrom f) ≡ f .a
+  first-of = fields-first n (f .op) (f .a) (f .b) (f .k) (f .out) e (toZ w64 (f .k))
 
-  pub second-of : secondOf (eqnFrom f) ≡ f .b
-  second-of = second-back (f .a) (f .b) (toZ w64 (f .k)) (f .op) (h .0) (h .1) ∙ same-argument (usesB (f .op)) n (f .b) (second-kept n f e)
+  pub second-of : argB (eqnFrom f) ≡ f .b
+  second-of = fields-second n (f .op) (f .a) (f .b) (f .k) (f .out) e (toZ w64 (f .k))
 
   -- its lines are those that its declaration is written with
   same-text : streamText (f .op) (f .a) (f .b) (toZ w64 (f .k)) (eqb (f .out) 1) ≡ declaredText (declaredFrom f)
   unfolding declaredText
   same-text = sym (rw (number-back (f .a) (f .b) (toZ w64 (f .k)) (f .op) (h .0) (h .1), first-of, second-of, value-of))
 
-  arguments-by : (ub ua : Bool) → (ub ≡ true → ua ≡ true) → argumentFits ua n (f .a) ≡ true → argumentFits ub n (f .b) ≡ true → AllBelow n (cond ub (f .a ∷ f .b ∷ []) (cond ua (f .a ∷ []) []))
-  arguments-by true true ba a b = (ltb-true (f .a) n a, (ltb-true (f .b) n b, tt))
-  arguments-by true false ba a b = absurd (true≢false (sym (ba refl)))
-  arguments-by false true ba a b = (ltb-true (f .a) n a, tt)
-  arguments-by false false ba a b = tt
-
   stream-keeps : InRange f → StreamKeeps n (declaredFrom f)
   stream-keeps r = record {
-    arguments = rw (reads-by-number (f .a) (f .b) (toZ w64 (f .k)) (f .op) (h .0) (h .1)) (arguments-by (usesB (f .op)) (usesA (f .op)) (λ d. le-leb 4 (f .op) (omega (arith, leb-true 8 (f .op) d))) (first-kept n f e) (second-kept n f e));
+    arguments = fields-reads n (f .op) (f .a) (f .b) (f .k) (f .out) e (toZ w64 (f .k));
     value = rw value-of (sfits-toZ {w = w64} {n = f .k} (record { fits = r .0 }) .sfits);
-    output = rw (input-by-number (f .a) (f .b) (toZ w64 (f .k)) (f .op) (h .0) (h .1)) (output-by (eqb (f .op) 1) (eqb (f .out) 1) (out-kept n f e));
+    output = fields-out n (f .op) (f .a) (f .b) (f .k) (f .out) e (toZ w64 (f .k));
   }
 
 -- ## All streams

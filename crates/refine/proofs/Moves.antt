@@ -12,17 +12,18 @@ use lib.Seq.{getD-set-same}
 use borrow.Author.Tests.{lt-ltb, le-ltb, leb-false}
 use mir.Syntax.{w64}
 use mir.Val.{ofZ}
-use Rattle.meaning.specs.Plan.{Unary, time, neg, plus, add, sub, mul, div, rem, lt, le, eq, Binary, calc, keep, merge, Eqn, input, nil, unit, one, two, last, delay, isInput, reads}
+use Rattle.meaning.specs.Plan.{Unary, time, neg, plus, Binary, calc, keep, merge, Eqn, input, nil, unit, one, two, last, delay, isInput, reads, argA, argB, AllBelow}
 use Rattle.meaning.specs.Plan as plan
 use Rattle.meaning.specs.Events.{Event, ev, horizon}
 use Rattle.machine.specs.State.{Kept, Cell, State, absent, cellAt, room, withKept}
 use Rattle.machine.specs.Reach.{Next, event, silent, decide}
-use Rattle.machine.specs.Step.{argA, argB, advance, absorb, absorbed, write, tell, release, releases, raise, newBound, added, ahead, canMove, comesIn, move}
+use Rattle.machine.specs.Step.{advance, absorb, absorbed, write, tell, release, releases, raise, newBound, added, ahead, canMove, comesIn, move}
 use Rattle.machine.proofs.Frame.{absorbed-frame, tell-frame}
-use Rattle.operators.specs.Operators.{numberOf, firstOf, secondOf, unaryNumber, binaryNumber}
+use Rattle.operators.specs.Operators.{numberOf, unaryNumber, binaryNumber}
+use Rattle.operators.proofs.Laws.{calc-place, in-number, in-of}
 use Rattle.layout.specs.Record.{Raw, Raws, num, withNum, rowAt, change, changeAll, opF, aF, bF, countF, boundF}
 use Rattle.cells.specs.View.{ofCell, rawsOf}
-use Rattle.cells.specs.Sound.{AllBelow, IsKept, SoundCell, Sound}
+use Rattle.cells.specs.Sound.{IsKept, SoundCell, Sound}
 use Rattle.cells.proofs.Widths.{cell-back}
 use Rattle.sound.proofs.Steps.{Comes, silence, comes-values, set-sound, advance-sound, write-sound, tell-sound, release-sound}
 use Rattle.sound.proofs.Calls.{ahead-fine}
@@ -35,7 +36,6 @@ use Rattle.step.specs.Step.{pushed, toldRow, releasedRow}
 use Rattle.moves.specs.Move.{argIn, ownIn, firstIn, secondIn, aheadRaw, boundRaw, canRaw, absorbedRaw, releasedArgs, releasedAll, silentRaw, eventRaw, stepRaw, movedRaw}
 use Rattle.refine.proofs.Queues.{bound-of, silent-is, push-of}
 use Rattle.refine.proofs.Whole.{row-of, change-of, tell-of, release-row-of}
-use Rattle.refine.proofs.Calls.{input-number}
 
 -- ---- a sound cell is looked at as it is
 
@@ -52,26 +52,6 @@ look-of : (n : ℕ) (c : Cell) → SoundCell n c → lookOf (ofCell c) ≡ c
 look-of n c ok = look-cell c (cell-back n c ok) (ok .bound) (since-below (c .eqn) (c .bound) (c .kept) (ok .kept))
 
 -- ---- the arguments
-
-first-is : (e : Eqn) → firstOf e ≡ argA e
-unfolding firstOf
-first-is input = refl
-first-is nil = refl
-first-is unit = refl
-first-is (one f a) = refl
-first-is (two g a b) = refl
-first-is (last a b) = refl
-first-is (delay a b) = refl
-
-second-is : (e : Eqn) → secondOf e ≡ argB e
-unfolding secondOf
-second-is input = refl
-second-is nil = refl
-second-is unit = refl
-second-is (one f a) = refl
-second-is (two g a b) = refl
-second-is (last a b) = refl
-second-is (delay a b) = refl
 
 first-below : (n : ℕ) (e : Eqn) → 0 < n → AllBelow n (reads e) → argA e < n
 first-below n input h k = h
@@ -93,11 +73,11 @@ second-below n (delay a b) h k = k .1 .0
 
 a-in : (c : Cell) → num aF (ofCell c) ≡ argA (c .eqn)
 unfolding ofCell
-a-in c = first-is (c .eqn)
+a-in c = refl
 
 b-in : (c : Cell) → num bF (ofCell c) ≡ argB (c .eqn)
 unfolding ofCell
-b-in c = second-is (c .eqn)
+b-in c = refl
 
 op-in : (c : Cell) → num opF (ofCell c) ≡ numberOf (c .eqn)
 unfolding ofCell
@@ -163,7 +143,7 @@ module _ {cap : ℕ} (size : ℕ) (M : State) (ok : Sound cap M) where
     pub can-of : canRaw (length M) i (rawsOf size M) ≡ canMove i M
     unfolding canRaw canMove
     can-of =
-        let o : eqb (num opF (rowAt (rawsOf size M) i)) 1 ≡ isInput (cellAt M i .eqn) = ap (λ (r : Raw). eqb (num opF r) 1) (row i l) ∙ ap (λ (x : ℕ). eqb x 1) (op-in (cellAt M i)) ∙ input-number (cellAt M i .eqn) in
+        let o : eqb (num opF (rowAt (rawsOf size M) i)) 1 ≡ isInput (cellAt M i .eqn) = ap (λ (r : Raw). eqb (num opF r) 1) (row i l) ∙ ap (λ (x : ℕ). eqb x 1) (op-in (cellAt M i)) ∙ sym (in-number (numberOf (cellAt M i .eqn))) ∙ in-of (cellAt M i .eqn) in
         let y : num boundF (rowAt (rawsOf size M) i) ≡ cellAt M i .bound = ap (num boundF) (row i l) ∙ bound-in (cellAt M i) in
         let b = ap₂ boundRaw ahead-of count ∙ bound-after (ahead i M) (cellAt M i .held) in
         ap₂ (λ (p : Bool) (q : Bool). not p && not q) o (ap₂ eqb b y)
@@ -188,14 +168,7 @@ one-low (plan.set k) = (omega arith, lit< tt)
 one-low (plus k) = (omega arith, lit< tt)
 
 two-low : (g : Binary) → 8 ≤ binaryNumber g
-two-low (calc add) = omega arith
-two-low (calc sub) = omega arith
-two-low (calc mul) = omega arith
-two-low (calc div) = omega arith
-two-low (calc rem) = omega arith
-two-low (calc lt) = omega arith
-two-low (calc le) = omega arith
-two-low (calc eq) = omega arith
+two-low (calc g) = let k = calc-place g in omega arith
 two-low keep = omega arith
 two-low merge = omega arith
 

@@ -56,5 +56,5 @@ pub fn is_equation(state: &[u8], n: usize, stream: u32) -> bool
     let at = i * 256;
     let end = at + 256;
     let op = layout::byte_at(&state[at..end], 0);
-    op != 1
+    !operators::is_in(operators::group_of(op))
 }

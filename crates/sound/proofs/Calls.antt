@@ -10,12 +10,12 @@ use lib.Dec.{T, ltb, leb, nltb→le, nleb→lt}
 use lib.IntN.{ℤ}
 use lib.ListN.{length, set}
 use borrow.Author.Tests.{ltb-true}
-use Rattle.meaning.specs.Plan.{Eqn, input, nil, unit, one, two, last, delay, isInput}
+use Rattle.meaning.specs.Plan.{Eqn, input, nil, unit, one, two, last, delay, isInput, argA, argB}
 use Rattle.meaning.specs.Events.{Event, ev, horizon}
 use Rattle.meaning.proofs.Tests.{Is, yes!, no!, look}
 use Rattle.machine.specs.State.{Cell, State, cellAt, room, withNext}
 use Rattle.machine.specs.Reach.{stops, limit, reach, first, gives, Next, event, nextOf, decide}
-use Rattle.machine.specs.Step.{argA, argB, newBound, added, ahead, canMove, comesIn, move}
+use Rattle.machine.specs.Step.{newBound, added, ahead, canMove, comesIn, move}
 use Rattle.machine.specs.Calls.{Call, reading, progress, moving, running, collecting, noInput, noEquation, offerReading, offerProgress, moveOne, lowest, run, oldest, handOut, collect, call}
 use Rattle.machine.proofs.Search.{least-le}
 use Rattle.machine.proofs.Cells.{beyond}

@@ -11,13 +11,13 @@ use lib.IntN.{ℤ}
 use lib.ListN.{length, getD, length-set, length-map, length-append, set}
 use lib.Seq.{ext-getD}
 use borrow.Author.Tests.{ltb-true, eqb-true, eq-eqb}
-use Rattle.meaning.specs.Plan.{Eqn, input, nil, unit, one, two, last, delay, reads}
+use Rattle.meaning.specs.Plan.{Eqn, input, nil, unit, one, two, last, delay, reads, argA, argB}
 use Rattle.meaning.specs.Events.{Event, ev, horizon}
 use Rattle.meaning.specs.Table.{latest}
 use Rattle.meaning.specs.Cycle.{acyclic}
 use Rattle.machine.specs.State.{Kept, Cell, State, absent, cellAt, room, planOf, withBound, withHeld, withNext, withKept}
 use Rattle.machine.specs.Reach.{view, valueAt}
-use Rattle.machine.specs.Step.{argA, argB, advance, later, absorb, absorbed, write, valueTold, priorTold, sinceTold, keptTold, told, tell, leastWaiting, dropBelow, release, releases, raise}
+use Rattle.machine.specs.Step.{advance, later, absorb, absorbed, write, valueTold, priorTold, sinceTold, keptTold, told, tell, leastWaiting, dropBelow, release, releases, raise}
 use Rattle.machine.proofs.Cells.{set-cases, told-at}
 use Rattle.machine.proofs.Window.{past-le}
 use Rattle.machine.proofs.Rising.{drop-shorter}

@@ -14,6 +14,7 @@ use Rattle.machine.specs.State.{Cell, State, cellAt, planOf}
 use Rattle.operators.specs.Operators.{numberOf}
 use Rattle.operators.specs.Limits.{capacity}
 use Rattle.operators.proofs.Sizes.{capacity-fits, capacity-few}
+use Rattle.operators.proofs.Laws.{number-range}
 use Rattle.le.specs.Bytes.{Bytes, part, allZero, enc}
 use Rattle.le.specs.Layout.{encFields, encRows}
 use Rattle.le.proofs.Laws.{take-bytes, drop-bytes}
@@ -28,7 +29,7 @@ use Rattle.cells.proofs.Widths.{cell-raw, cell-back}
 use Rattle.valid.specs.Valid.{rowOk, allRows, streamsIn, count, planIn, valid}
 use Rattle.valid.proofs.Tests.{left, right}
 use Rattle.valid.proofs.Link.{rows-at, count-few, count-fits}
-use Rattle.state.proofs.Passes.{row-passes, zeros-zero, op-passes}
+use Rattle.state.proofs.Passes.{row-passes, zeros-zero}
 use Rattle.state.proofs.Tail.{zero-list}
 use Rattle.state.proofs.Back.{row-facts}
 use Rattle.state.proofs.Rows.{row-back, row-sound}
@@ -159,9 +160,7 @@ first-byte c z = refl
 
 byte-not-zero : (c : Cell) → numberOf (c .eqn) % 256 ≡ 0 → ⊥
 byte-not-zero c q =
-    let o = op-passes (c .eqn) in
-    let l = borrow.Author.Tests.leb-true 1 (numberOf (c .eqn)) (left (leb 1 (numberOf (c .eqn))) (leb (numberOf (c .eqn)) 19) o) in
-    let h = borrow.Author.Tests.leb-true (numberOf (c .eqn)) 19 (right (leb 1 (numberOf (c .eqn))) (leb (numberOf (c .eqn)) 19) o) in
+    let r = number-range (c .eqn) in
     omega arith
 
 abbrev rowsOf : State → List ℕ

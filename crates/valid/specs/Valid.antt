@@ -1,7 +1,7 @@
 -- What number 15 tests, reason by reason.
 use Prim.Native.Nat.{ℕ, zero, suc, _+_, _*_}
-use mathlib.Core.List.{List, [], _∷_, map}
-use mathlib.Core.Bool.{Bool, true, false, cond, _&&_, _||_, not}
+use mathlib.Core.List.{List, [], _∷_}
+use mathlib.Core.Bool.{Bool, true, cond, _&&_, not}
 use lib.ListN.{length, getD, take, drop, replicate}
 use lib.Seq.{sets}
 use Rattle.cycle.specs.Graph.{graphLength, entryOf, cleared}
@@ -11,31 +11,16 @@ use Rattle.meaning.specs.Plan.{Plan}
 use Rattle.meaning.specs.Events.{horizon}
 use Rattle.meaning.specs.Cycle.{acyclic}
 use Rattle.machine.specs.State.{room, planOf}
-use Rattle.operators.specs.Operators.{isOperator, usesA, usesB, usesK}
+use Rattle.operators.specs.Operators.{groupOf, isLast, isDelay, isOperator}
+use Rattle.operators.specs.Rules.{fieldsOk}
 use Rattle.operators.specs.Limits.{capacity}
 use Rattle.layout.specs.Record.{Slot, Raw, num, decRaw, opF, aF, bF, outF, countF, flagF, priorFlagF, smallF, kF, boundF, nextF, keptF, valueF, priorF, lastF}
 use Rattle.cells.specs.Back.{stateOf}
 
 -- ---- "contents whose plan no text taken by load gives"
 
--- an argument that is used names a stream; one that is not is 0
-abbrev pub argOk : Bool → ℕ → ℕ → Bool
-argOk used a n = cond used (ltb a n) (eqb a 0)
-
-abbrev pub kOk : Bool → ℕ → Bool
-kOk used k = used || eqb k 0
-
--- no input is an output
-abbrev pub outOk : ℕ → ℕ → Bool
-outOk op out = cond (eqb op 1) (eqb out 0) (ltb out 2)
-
 unfoldable pub planOk : ℕ → Raw → Bool
-planOk n r =
-    isOperator (num opF r)
-    && (argOk (usesA (num opF r)) (num aF r) n
-    && (argOk (usesB (num opF r)) (num bF r) n
-    && (kOk (usesK (num opF r)) (num kF r)
-    && outOk (num opF r) (num outF r))))
+planOk n r = isOperator (num opF r) && fieldsOk n (num opF r) (num aF r) (num bF r) (num kF r) (num outF r)
 
 -- ---- "a bound above the horizon, more than 16 events held"; the mark of collection is an output's and not above its bound
 
@@ -85,7 +70,7 @@ delayOk r =
 
 unfoldable pub keptOk : Raw → Bool
 unfolding lastOk delayOk noneOk
-keptOk r = cond (eqb (num opF r) 18) (lastOk r) (cond (eqb (num opF r) 19) (delayOk r) (noneOk r))
+keptOk r = cond (isLast (groupOf (num opF r))) (lastOk r) (cond (isDelay (groupOf (num opF r))) (delayOk r) (noneOk r))
 
 -- ---- one record, of its 256 bytes; "an unused byte not 0": after the held events every byte is 0
 unfoldable pub rowOk : ℕ → List ℕ → Bool

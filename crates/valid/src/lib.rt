@@ -2,74 +2,29 @@
 ghost use mathlib.Core.Path.{_≡_};
 ghost use mathlib.Core.Bool.{cond};
 ghost use Prim.Native.Nat.{_+_, _*_, _≤_, _<_};
-ghost use lib.ListN.{length, drop};
+ghost use lib.ListN.{length};
 ghost use Rattle.operators.specs.Limits.{mostStreams, capacity};
-ghost use Rattle.operators.specs.Operators as operators;
-ghost use Rattle.operators.specs.Operators.{isOperator};
-ghost use Rattle.layout.specs.Record.{decRaw, num};
-ghost use Rattle.valid.specs.Valid.{argOk, kOk, outOk, planOk, nextOk, sizesOk, risen, flagOk, noneIf, noneOk, lastOk, delayOk, keptOk, rowOk, allRows, streamsIn, count, noted, clearIn, valid};
+ghost use Rattle.layout.specs.Record.{decRaw};
+ghost use Rattle.valid.specs.Valid.{planOk, nextOk, sizesOk, risen, flagOk, noneIf, noneOk, lastOk, delayOk, keptOk, rowOk, allRows, streamsIn, count, noted, clearIn, valid};
 use cycle::GRAPH;
 use limits::Bound;
 use limits::Queue;
+use operators::Group;
 use operators::Plan;
-
-fn is_operator(op: u64) -> bool
-    ensures { λ x. ⌜ x ≡ isOperator op ⌝ }
-{
-    if op < 1 {
-        return false;
-    }
-    op <= 19
-}
-
-fn arg_ok(used: bool, a: u64, n: u64) -> bool
-    ensures { λ x. ⌜ x ≡ argOk used a n ⌝ }
-{
-    if used {
-        return a < n;
-    }
-    a == 0
-}
-
-fn k_ok(op: u64, k: u64) -> bool
-    ensures { λ x. ⌜ x ≡ kOk (operators.usesK op) k ⌝ }
-{
-    if op < 5 {
-        return k == 0;
-    }
-    if 6 < op {
-        return k == 0;
-    }
-    true
-}
-
-fn out_ok(op: u64, out: u64) -> bool
-    ensures { λ x. ⌜ x ≡ outOk op out ⌝ }
-{
-    if op == 1 {
-        return out == 0;
-    }
-    out < 2
-}
 
 fn plan_ok(r: &[u8], n: u64) -> bool
     requires { ⌜ length (now r) ≡ 256 ⌝ }
     ensures { λ x. ⌜ x ≡ planOk n (decRaw (now (r .entry))) ⌝ }
 {
     let op = layout::byte_at(r, 0);
-    if !is_operator(op) {
+    if !operators::is_present(operators::group_of(op)) {
         return false;
     }
-    if !arg_ok(4 <= op, layout::byte_at(r, 1), n) {
-        return false;
-    }
-    if !arg_ok(8 <= op, layout::byte_at(r, 2), n) {
-        return false;
-    }
-    if !k_ok(op, layout::word_at(r, 0)) {
-        return false;
-    }
-    out_ok(op, layout::byte_at(r, 3))
+    let a = layout::byte_at(r, 1);
+    let b = layout::byte_at(r, 2);
+    let k = layout::word_at(r, 0);
+    let out = layout::byte_at(r, 3);
+    operators::fields_ok(n, op, a, b, k, out)
 }
 
 fn next_ok(out: u64, next: u64, bound: u64) -> bool
@@ -212,9 +167,9 @@ fn kept_ok(r: &[u8]) -> bool
     ensures { λ x. ⌜ x ≡ keptOk (decRaw (now (r .entry))) ⌝ }
 {
     let op = layout::byte_at(r, 0);
-    match op {
-        18 => last_ok(r),
-        19 => delay_ok(r),
+    match operators::group_of(op) {
+        Group::Last => last_ok(r),
+        Group::Delay => delay_ok(r),
         _ => none_ok(r),
     }
 }
