@@ -25,10 +25,10 @@ returns : tie.Need-returns
 returns c = (sym (sym (c .before .before .before .before .before .keeps .ensures) ∙ not-true (c .before .before .before .before .before .keeps .result) (c .before .before .before .before .if1 .taken)), c .before .before .note .ensures ∙ noted-broken (c .before .before .before .before .before .before .before .args .n) (c .before .before .before .before .before .before .before .args .i) (c .before .before .before .before .before .before .before .args .f) (now (c .before .before .before .before .before .before .before .args .graph)) (sym (c .before .before .before .before .before .keeps .ensures) ∙ not-true (c .before .before .before .before .before .keeps .result) (c .before .before .before .before .if1 .taken)))
 
 cast-note : tie.Need-cast-note
-cast-note c = omega (arith, arg-small (usesA (c .before .before .before .before .args .f .op)) (c .before .before .before .before .args .n) (c .before .before .before .before .args .f .a) (first-ok (c .before .before .before .before .args .n) (c .before .before .before .before .args .f .op) (c .before .before .before .before .args .f .a) (c .before .before .before .before .args .f .b) (c .before .before .before .before .args .f .k) (c .before .before .before .before .args .f .out) (sym (c .before .before .before .keeps .ensures) ∙ not-false (c .before .before .before .keeps .result) (c .before .before .if1 .left))) 256 (lit< tt) (omega arith))
+cast-note c = omega (arith, arg-small (usesA (c .before .before .before .before .before .args .f .op)) (c .before .before .before .before .before .args .n) (c .before .before .before .before .before .args .f .a) (first-ok (c .before .before .before .before .before .args .n) (c .before .before .before .before .before .args .f .op) (c .before .before .before .before .before .args .f .a) (c .before .before .before .before .before .args .f .b) (c .before .before .before .before .before .args .f .k) (c .before .before .before .before .before .args .f .out) (sym (c .before .before .before .keeps .ensures) ∙ not-false (c .before .before .before .keeps .result) (c .before .before .if1 .left))) 256 (lit< tt) (omega arith))
 
 cast-note-2 : tie.Need-cast-note-2
-cast-note-2 c = omega (arith, arg-small (usesB (c .before .before .before .before .before .args .f .op)) (c .before .before .before .before .before .args .n) (c .before .before .before .before .before .args .f .b) (second-ok (c .before .before .before .before .before .args .n) (c .before .before .before .before .before .args .f .op) (c .before .before .before .before .before .args .f .a) (c .before .before .before .before .before .args .f .b) (c .before .before .before .before .before .args .f .k) (c .before .before .before .before .before .args .f .out) (sym (c .before .before .before .before .keeps .ensures) ∙ not-false (c .before .before .before .before .keeps .result) (c .before .before .before .if1 .left))) 256 (lit< tt) (omega arith))
+cast-note-2 c = omega (arith, arg-small (usesB (c .before .before .before .before .before .before .args .f .op)) (c .before .before .before .before .before .before .args .n) (c .before .before .before .before .before .before .args .f .b) (second-ok (c .before .before .before .before .before .before .args .n) (c .before .before .before .before .before .before .args .f .op) (c .before .before .before .before .before .before .args .f .a) (c .before .before .before .before .before .before .args .f .b) (c .before .before .before .before .before .before .args .f .k) (c .before .before .before .before .before .before .args .f .out) (sym (c .before .before .before .before .keeps .ensures) ∙ not-false (c .before .before .before .before .keeps .result) (c .before .before .before .if1 .left))) 256 (lit< tt) (omega arith))
 
 note-requires-2 : tie.Need-note-requires-2
 note-requires-2 c κs = search needs
