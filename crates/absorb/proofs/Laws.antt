@@ -1,18 +1,19 @@
 -- The kept data of each operator, and the record that holds them.
 use Prim.Native.Nat.{ℕ, _<_, _^_}
 use mathlib.Core.Path.{_≡_, refl, sym, ap, _∙_}
-use mathlib.Core.Bool.{Bool, cond}
+use mathlib.Core.Bool.{Bool, true, false, cond}
 use mathlib.Core.Option.{Option, none}
 use mathlib.Core.List.{List}
 use native.Mathlib.Omega.{arith}
 use lib.IntN.{ℤ}
 use borrow.Author.Tests.{eq-eqb, ne-eqb}
-use Rattle.meaning.specs.Plan.{time, neg, set, plus, add, sub, mul, div, rem, lt, le, eq, calc, keep, merge, Eqn, input, nil, unit, one, two, last, delay}
+use Rattle.meaning.specs.Plan.{Eqn, input, nil, unit, one, two, last, delay}
 use Rattle.meaning.specs.Events.{Event}
 use Rattle.machine.specs.State.{Kept, Cell, withKept}
 use Rattle.machine.specs.Reach.{valueAt}
 use Rattle.machine.specs.Step.{later, absorb}
-use Rattle.operators.specs.Operators.{numberOf}
+use Rattle.operators.specs.Operators.{groupOf, isLast, isDelay, numberOf}
+use Rattle.operators.proofs.Laws.{one-group, two-group}
 use Rattle.layout.specs.Record.{Raw, encRaw, decRaw, num, withNum, opF, flagF, priorFlagF, keptF, valueF, priorF}
 use Rattle.layout.proofs.Laws.{RawOk, raw-enc, num-ok}
 use Rattle.cells.specs.View.{flagOf, bitsOf, keptNums, rawOf, ofCell}
@@ -58,19 +59,17 @@ absorb-near (delay _ _) o a b = refl
 -- ---- the record
 
 module _ (k : Kept) (r : Raw) where
-  pub kept-last : num opF r ≡ 18 → keptRow k r ≡ lastKept (flagOf (k .prev)) (bitsOf (k .prev)) r
+  pub kept-last : isLast (groupOf (num opF r)) ≡ true → keptRow k r ≡ lastKept (flagOf (k .prev)) (bitsOf (k .prev)) r
   unfolding keptRow
-  kept-last e = rw (eq-eqb _ _ e)
+  kept-last l = rw l
 
-  pub kept-delay : num opF r ≡ 19 → keptRow k r ≡ delayKept k r
+  pub kept-delay : isLast (groupOf (num opF r)) ≡ false → isDelay (groupOf (num opF r)) ≡ true → keptRow k r ≡ delayKept k r
   unfolding keptRow
-  kept-delay e =
-      let h : num opF r ≡ 18 → ⊥ = λ q. absurd (omega arith) in
-      rw (ne-eqb _ _ h, eq-eqb _ _ e)
+  kept-delay l d = rw (l, d)
 
-  pub kept-else : (num opF r ≡ 18 → ⊥) → (num opF r ≡ 19 → ⊥) → keptRow k r ≡ r
+  pub kept-else : isLast (groupOf (num opF r)) ≡ false → isDelay (groupOf (num opF r)) ≡ false → keptRow k r ≡ r
   unfolding keptRow
-  kept-else h l = rw (ne-eqb _ _ h, ne-eqb _ _ l)
+  kept-else l d = rw (l, d)
 
 module _ (has bits : ℕ) (r : Raw) where
   pub last-is : lastKept has bits r ≡ withNum keptF bits (withNum flagF has r)
@@ -115,24 +114,12 @@ back p r e ok = ap decRaw e ∙ raw-enc r ok
 -- ---- a cell's record with other kept data is the record of the cell with them
 
 row-of : (k j : Kept) (e : Eqn) (out : Bool) (y : ℕ) (es : List Event) (n : ℕ) → keptRow k (rawOf e out y es n (keptNums e j)) ≡ rawOf e out y es n (keptNums e k)
-unfolding keptRow numberOf
+unfolding keptRow groupOf numberOf
 row-of k j input out y es n = refl
 row-of k j nil out y es n = refl
 row-of k j unit out y es n = refl
-row-of k j (one time a) out y es n = refl
-row-of k j (one neg a) out y es n = refl
-row-of k j (one (set v) a) out y es n = refl
-row-of k j (one (plus v) a) out y es n = refl
-row-of k j (two (calc add) a b) out y es n = refl
-row-of k j (two (calc sub) a b) out y es n = refl
-row-of k j (two (calc mul) a b) out y es n = refl
-row-of k j (two (calc div) a b) out y es n = refl
-row-of k j (two (calc rem) a b) out y es n = refl
-row-of k j (two (calc lt) a b) out y es n = refl
-row-of k j (two (calc le) a b) out y es n = refl
-row-of k j (two (calc eq) a b) out y es n = refl
-row-of k j (two keep a b) out y es n = refl
-row-of k j (two merge a b) out y es n = refl
+row-of k j (one f a) out y es n = rw (one-group f)
+row-of k j (two g a b) out y es n = rw (two-group g)
 row-of k j (last a b) out y es n = refl
 row-of k j (delay a b) out y es n = refl
 

@@ -2,10 +2,10 @@
 use Prim.Native.Nat.{ℕ}
 use mathlib.Core.Bool.{false, cond}
 use mathlib.Core.List.{List}
-use lib.Dec.{eqb}
 use Rattle.meaning.specs.Plan.{Eqn}
 use Rattle.meaning.specs.Events.{Event}
 use Rattle.machine.specs.State.{Kept, Cell}
+use Rattle.operators.specs.Operators.{groupOf, isLast, isDelay}
 use Rattle.layout.specs.Record.{Raw, decRaw, num, withNum, opF, flagF, priorFlagF, keptF, valueF, priorF}
 use Rattle.cells.specs.View.{flagOf, bitsOf}
 use Rattle.cells.specs.Back.{heldOf}
@@ -36,4 +36,4 @@ delayKept k r = priorKept (flagOf (k .prior)) (bitsOf (k .prior)) (valueKept (fl
 -- a last's and a delay's record with this kept; any other stays as it is
 unfoldable pub keptRow : Kept → Raw → Raw
 unfolding lastKept delayKept
-keptRow k r = cond (eqb (num opF r) 18) (lastKept (flagOf (k .prev)) (bitsOf (k .prev)) r) (cond (eqb (num opF r) 19) (delayKept k r) r)
+keptRow k r = cond (isLast (groupOf (num opF r))) (lastKept (flagOf (k .prev)) (bitsOf (k .prev)) r) (cond (isDelay (groupOf (num opF r))) (delayKept k r) r)

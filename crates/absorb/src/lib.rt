@@ -15,6 +15,7 @@ ghost use Rattle.absorb.specs.Keep.{movedCell, movedOf, lastKept, valueK
 use held::Found;
 use look::Kept;
 use look::Look;
+use operators::Group;
 
 fn larger(x: u64, y: u64) -> u64
     ensures { λ r. ⌜ r ≡ max x y ⌝ }
@@ -163,14 +164,14 @@ pub fn keep(r: &mut [u8], k: Kept)
     ensures back { λ _. ⌜ decRaw (now (r .exit)) ≡ keptRow (keptIn k) (decRaw (now (r .entry))) ⌝ }
 {
     let op = layout::byte_at(r, 0);
-    if op == 18 {
-        let prev = k.prev;
-        let has = flag_of(prev);
-        let bits = bits_of(prev);
-        keep_last(r, has, bits);
-        return;
-    }
-    if op == 19 {
-        keep_delay(r, k);
+    match operators::group_of(op) {
+        Group::Last => {
+            let prev = k.prev;
+            let has = flag_of(prev);
+            let bits = bits_of(prev);
+            keep_last(r, has, bits);
+        }
+        Group::Delay => keep_delay(r, k),
+        _ => {}
     }
 }

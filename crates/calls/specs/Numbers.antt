@@ -1,15 +1,16 @@
 -- The refusals of the offers and of collect, and their steps, on raw records.
-use Prim.Native.Nat.{ℕ, suc, _+_, min}
-use mathlib.Core.Bool.{Bool, true, false, cond}
+use Prim.Native.Nat.{ℕ, _+_, min}
+use mathlib.Core.Bool.{cond}
 use lib.Dec.{ltb, leb, eqb}
 use Rattle.meaning.specs.Events.{horizon}
 use Rattle.machine.specs.State.{room}
+use Rattle.operators.specs.Operators.{groupOf, isIn}
 use Rattle.layout.specs.Record.{Raw, Raws, num, withNum, slotAt, rowAt, change, opF, outF, countF, boundF, nextF}
 use Rattle.step.specs.Step.{below, releasedRow}
 
 -- of the stream's own record: 7 not in, 8 stamp below the bound, 9 already 16 held
 unfoldable pub readingRow : Raw → ℕ → ℕ
-readingRow r t = cond (eqb (num opF r) 1) (cond (ltb t (num boundF r)) 8 (cond (leb room (num countF r)) 9 0)) 7
+readingRow r t = cond (isIn (groupOf (num opF r))) (cond (ltb t (num boundF r)) 8 (cond (leb room (num countF r)) 9 0)) 7
 
 unfoldable pub readingRaw : ℕ → Raws → ℕ → ℕ → ℕ
 unfolding readingRow
@@ -17,7 +18,7 @@ readingRaw n st i t = cond (ltb i n) (readingRow (rowAt st i) t) 7
 
 -- 7 not in, 10 above the horizon, 8 below the present bound
 unfoldable pub progressRow : Raw → ℕ → ℕ
-progressRow r y = cond (eqb (num opF r) 1) (cond (ltb horizon y) 10 (cond (ltb y (num boundF r)) 8 0)) 7
+progressRow r y = cond (isIn (groupOf (num opF r))) (cond (ltb horizon y) 10 (cond (ltb y (num boundF r)) 8 0)) 7
 
 unfoldable pub progressRaw : ℕ → Raws → ℕ → ℕ → ℕ
 unfolding progressRow

@@ -11,18 +11,17 @@ use lib.ListN.{length, take}
 use mir.Syntax.{w64}
 use mir.Val.{ofZ, toZ}
 use mir.Facts.{toZ-ofZ}
-use Rattle.meaning.specs.Plan.{Unary, time, neg, plus, add, sub, mul, div, rem, lt, le, eq, Binary, calc, keep, merge, Eqn, input, nil, unit, one, two, last, delay, reads}
-use Rattle.meaning.specs.Plan as plan
+use Rattle.meaning.specs.Plan.{Eqn, input, nil, unit, one, two, last, delay, reads, argA, argB, AllBelow}
 use Rattle.meaning.specs.Events.{Event, ev, horizon}
-use Rattle.machine.specs.State.{Kept, Cell, room, noKept}
-use Rattle.operators.specs.Operators.{numberOf, firstOf, secondOf, valueOf, eqnOf}
-use Rattle.operators.proofs.Laws.{eqn-back}
+use Rattle.machine.specs.State.{Kept, Cell, room}
+use Rattle.operators.specs.Operators.{groupOf, numberOf, valueOf, eqnOf}
+use Rattle.operators.proofs.Laws.{one-group, two-group, number-range, eqn-back}
 use Rattle.le.proofs.RoundTrip.{All}
 use Rattle.layout.specs.Record.{noSlot}
 use Rattle.layout.proofs.Laws.{RawOk, SlotOk}
 use Rattle.cells.specs.View.{flag, flagOf, bitsOf, KeptNums, keptNums, slotOf, padTo, rawOf, ofCell}
 use Rattle.cells.specs.Back.{optional, eventOf, heldOf, keptOf, toCell}
-use Rattle.cells.specs.Sound.{IsValue, IsOptional, AllBelow, Rising, IsNext, IsKept, SoundCell}
+use Rattle.cells.specs.Sound.{IsValue, IsOptional, Rising, IsNext, IsKept, SoundCell}
 
 -- ---- numbers below their widths
 
@@ -49,37 +48,11 @@ optional-back : (o : Option ℤ) → IsOptional o → optional (flagOf o) (bitsO
 optional-back none h = refl
 optional-back (some v) h = ap some (value-back v h)
 
-one-number : (f : Unary) → Rattle.operators.specs.Operators.unaryNumber f < 256
-one-number time = lit< tt
-one-number neg = lit< tt
-one-number (plan.set k) = lit< tt
-one-number (plus k) = lit< tt
-
-two-number : (g : Binary) → Rattle.operators.specs.Operators.binaryNumber g < 256
-two-number (calc add) = lit< tt
-two-number (calc sub) = lit< tt
-two-number (calc mul) = lit< tt
-two-number (calc div) = lit< tt
-two-number (calc rem) = lit< tt
-two-number (calc lt) = lit< tt
-two-number (calc le) = lit< tt
-two-number (calc eq) = lit< tt
-two-number keep = lit< tt
-two-number merge = lit< tt
-
 number-below : (e : Eqn) → numberOf e < 256
-unfolding numberOf
-number-below input = lit< tt
-number-below nil = lit< tt
-number-below unit = lit< tt
-number-below (one f a) = one-number f
-number-below (two g a b) = two-number g
-number-below (last a b) = lit< tt
-number-below (delay a b) = lit< tt
+number-below e = let r = number-range e in omega arith
 
 module _ (n : ℕ) (h : n ≤ 256) where
-  first-below : (e : Eqn) → AllBelow n (reads e) → firstOf e < 256
-  unfolding firstOf
+  first-below : (e : Eqn) → AllBelow n (reads e) → argA e < 256
   first-below input k = lit< tt
   first-below nil k = lit< tt
   first-below unit k = lit< tt
@@ -88,8 +61,7 @@ module _ (n : ℕ) (h : n ≤ 256) where
   first-below (last a b) k = omega (arith, k .0)
   first-below (delay a b) k = omega (arith, k .0)
 
-  second-below : (e : Eqn) → AllBelow n (reads e) → secondOf e < 256
-  unfolding secondOf
+  second-below : (e : Eqn) → AllBelow n (reads e) → argB e < 256
   second-below input k = lit< tt
   second-below nil k = lit< tt
   second-below unit k = lit< tt
@@ -182,36 +154,13 @@ held-back lo top zero (e ∷ es) h r = absurd (omega arith)
 held-back lo top (suc n) (e ∷ es) h r =
     ap₂ _∷_ (ap (ev (e .stamp)) (value-back (e .value) (r .1))) (held-back (suc (e .stamp)) top n es (omega arith) (r .2))
 
-abbrev rest-kept : Eqn → Type 0
-rest-kept e = (k : Kept) (n : KeptNums) → k ≡ noKept → (o : Bool) (y : ℕ) (h : List Event) (m : ℕ) → keptOf (rawOf e o y h m n) ≡ k
-
-one-kept : (f : Unary) (a : ℕ) → rest-kept (one f a)
-unfolding keptOf numberOf
-one-kept time a k n e o y h m = sym e
-one-kept neg a k n e o y h m = sym e
-one-kept (plan.set v) a k n e o y h m = sym e
-one-kept (plus v) a k n e o y h m = sym e
-
-two-kept : (g : Binary) (a b : ℕ) → rest-kept (two g a b)
-unfolding keptOf numberOf
-two-kept (calc add) a b k n e o y h m = sym e
-two-kept (calc sub) a b k n e o y h m = sym e
-two-kept (calc mul) a b k n e o y h m = sym e
-two-kept (calc div) a b k n e o y h m = sym e
-two-kept (calc rem) a b k n e o y h m = sym e
-two-kept (calc lt) a b k n e o y h m = sym e
-two-kept (calc le) a b k n e o y h m = sym e
-two-kept (calc eq) a b k n e o y h m = sym e
-two-kept keep a b k n e o y h m = sym e
-two-kept merge a b k n e o y h m = sym e
-
 kept-back : (e : Eqn) (k : Kept) (o : Bool) (y : ℕ) (h : List Event) (m : ℕ) → IsKept e y k → keptOf (rawOf e o y h m (keptNums e k)) ≡ k
-unfolding keptOf numberOf
+unfolding keptOf groupOf numberOf
 kept-back input k o y h m ok = sym ok
 kept-back nil k o y h m ok = sym ok
 kept-back unit k o y h m ok = sym ok
-kept-back (one f a) k o y h m ok = one-kept f a k (keptNums (one f a) k) ok o y h m
-kept-back (two g a b) k o y h m ok = two-kept g a b k (keptNums (two g a b) k) ok o y h m
+kept-back (one f a) k o y h m ok = rw (one-group f) (sym ok)
+kept-back (two g a b) k o y h m ok = rw (two-group g) (sym ok)
 kept-back (last a b) k o y h m ok =
     let p = optional-back (k .prev) (ok .prev) in
     λ i. record { prev = p i; since = sym (ok .since) i; value = sym (ok .value) i; prior = sym (ok .prior) i }
@@ -230,7 +179,7 @@ unfolding toCell heldOf ofCell
 cell-back n c ok =
     let f = ok .few in
     let m : min (length (c .held)) room ≡ length (c .held) = omega arith in
-    let e = ap (eqnOf (numberOf (c .eqn)) (firstOf (c .eqn)) (secondOf (c .eqn))) (value-back (valueOf (c .eqn)) (ok .value)) ∙ eqn-back (c .eqn) in
+    let e = ap (eqnOf (numberOf (c .eqn)) (argA (c .eqn)) (argB (c .eqn))) (value-back (valueOf (c .eqn)) (ok .value)) ∙ eqn-back (c .eqn) in
     let h = ap (λ (j : ℕ). map eventOf (take j (padTo room noSlot (map slotOf (c .held))))) m ∙ held-back 0 (c .bound) room (c .held) f (ok .held) in
     let k = kept-back (c .eqn) (c .kept) (c .out) (c .bound) (c .held) (c .next) (ok .kept) in
     λ i. record { eqn = e i; out = out-back (c .out) i; bound = c .bound; held = h i; next = c .next; kept = k i }

@@ -1,8 +1,8 @@
 -- A raw record read as a cell of the machine: total, also where the numbers are no cell's.
 use Prim.Native.Nat.{ℕ, min}
-use mathlib.Core.Bool.{Bool, true, false, not, cond}
+use mathlib.Core.Bool.{not, cond}
 use mathlib.Core.Option.{Option, none, some}
-use mathlib.Core.List.{List, [], _∷_, map}
+use mathlib.Core.List.{List, map}
 use lib.Dec.{eqb}
 use lib.ListN.{take}
 use lib.IntN.{ℤ}
@@ -10,8 +10,8 @@ use mir.Syntax.{w64}
 use mir.Val.{toZ}
 use Rattle.meaning.specs.Events.{Event, ev}
 use Rattle.machine.specs.State.{Kept, Cell, State, room, noKept}
-use Rattle.operators.specs.Operators.{eqnOf}
-use Rattle.layout.specs.Record.{Slot, Raw, Raws, num, decode, opF, aF, bF, outF, countF, flagF, priorFlagF, kF, boundF, nextF, keptF, valueF, priorF}
+use Rattle.operators.specs.Operators.{groupOf, isLast, isDelay, eqnOf}
+use Rattle.layout.specs.Record.{Slot, Raw, num, decode, opF, aF, bF, outF, countF, flagF, priorFlagF, kF, boundF, nextF, keptF, valueF, priorF}
 
 -- what may be absent
 abbrev pub optional : ℕ → ℕ → Option ℤ
@@ -26,8 +26,8 @@ heldOf r = map eventOf (take (min (num countF r) room) (r .slots))
 
 unfoldable pub keptOf : Raw → Kept
 keptOf r =
-    cond (eqb (num opF r) 18) (record { prev = optional (num flagF r) (num keptF r); since = 0; value = none; prior = none })
-    (cond (eqb (num opF r) 19)
+    cond (isLast (groupOf (num opF r))) (record { prev = optional (num flagF r) (num keptF r); since = 0; value = none; prior = none })
+    (cond (isDelay (groupOf (num opF r)))
     (record { prev = none; since = num keptF r; value = optional (num flagF r) (num valueF r); prior = optional (num priorFlagF r) (num priorF r) })
     noKept)
 

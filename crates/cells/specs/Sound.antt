@@ -1,5 +1,5 @@
 -- The states that the layout can hold: what holds of every cell, of a run or not.
-use Prim.Native.Nat.{ℕ, zero, suc, _^_, _≤_, _<_}
+use Prim.Native.Nat.{ℕ, suc, _^_, _≤_, _<_}
 use mathlib.Core.Path.{_≡_}
 use mathlib.Core.Bool.{Bool, true, false}
 use mathlib.Core.Option.{Option, none, some}
@@ -8,12 +8,11 @@ use lib.Dec.{T}
 use lib.ListN.{length}
 use lib.IntN.{ℤ}
 use lib.Signed.{mag}
-use Rattle.meaning.specs.Plan.{Eqn, input, nil, unit, one, two, last, delay, isInput, reads}
+use Rattle.meaning.specs.Plan.{Eqn, input, nil, unit, one, two, last, delay, isInput, reads, AllBelow}
 use Rattle.meaning.specs.Events.{Event, horizon}
 use Rattle.meaning.specs.Cycle.{acyclic}
 use Rattle.machine.specs.State.{Kept, Cell, State, room, noKept, cellAt, planOf}
 use Rattle.operators.specs.Operators.{valueOf}
-use Rattle.operators.specs.Limits.{streamLimit}
 
 -- a signed 64-bit whole number
 abbrev pub IsValue : ℤ → Type 0
@@ -22,10 +21,6 @@ IsValue v = mag v < 2 ^ 63
 abbrev pub IsOptional : Option ℤ → Type 0
 IsOptional none = Unit {0}
 IsOptional (some v) = IsValue v
-
-abbrev pub AllBelow : ℕ → List ℕ → Type 0
-AllBelow n [] = Unit {0}
-AllBelow n (a ∷ l) = (a < n) × AllBelow n l
 
 -- held events, by rising stamp from lo on, below top
 abbrev pub Rising : (lo top : ℕ) → List Event → Type 0
@@ -73,8 +68,9 @@ pub record SoundCell (n : ℕ) (c : Cell) : Type 0 where
   pub next : IsNext (c .out) (c .next) (c .bound)
   pub kept : IsKept (c .eqn) (c .bound) (c .kept)
 
-pub record Sound (M : State) : Type 0 where
+-- a state of a size with room for so many streams
+pub record Sound (cap : ℕ) (M : State) : Type 0 where
   pub some : 0 < length M
-  pub few : length M ≤ streamLimit
+  pub few : length M ≤ cap
   pub each : (i : ℕ) → i < length M → SoundCell (length M) (cellAt M i)
-  pub acyclic : acyclic streamLimit (planOf M) ≡ true
+  pub acyclic : acyclic cap (planOf M) ≡ true

@@ -1,16 +1,16 @@
 -- A cell of the machine as a raw record, and a state as bytes.
-use Prim.Native.Nat.{ℕ, zero, suc, _+_, _*_, _-_}
-use mathlib.Core.Bool.{Bool, true, false}
+use Prim.Native.Nat.{ℕ, zero, suc, _*_, _-_}
+use mathlib.Core.Bool.{Bool, true, false, cond}
 use mathlib.Core.Option.{Option, none, some}
 use mathlib.Core.List.{List, [], _∷_, map}
 use lib.ListN.{length, replicate}
 use lib.IntN.{ℤ}
 use mir.Syntax.{w64}
 use mir.Val.{ofZ}
-use Rattle.meaning.specs.Plan.{Eqn, input, nil, unit, one, two, last, delay}
+use Rattle.meaning.specs.Plan.{Eqn, argA, argB}
 use Rattle.meaning.specs.Events.{Event}
 use Rattle.machine.specs.State.{Kept, Cell, State, room}
-use Rattle.operators.specs.Operators.{numberOf, firstOf, secondOf, valueOf}
+use Rattle.operators.specs.Operators.{isLast, isDelay, eqnGroup, numberOf, valueOf}
 use Rattle.layout.specs.Record.{Slot, Raw, Raws, noSlot, encode}
 
 abbrev pub flag : Bool → ℕ
@@ -37,15 +37,15 @@ pub record KeptNums : Type 0 where
 abbrev pub noNums : KeptNums
 noNums = record { flag = 0; priorFlag = 0; kept = 0; value = 0; prior = 0 }
 
+abbrev pub lastNums : Kept → KeptNums
+lastNums k = record { flag = flagOf (k .prev); priorFlag = 0; kept = bitsOf (k .prev); value = 0; prior = 0 }
+
+abbrev pub delayNums : Kept → KeptNums
+delayNums k = record { flag = flagOf (k .value); priorFlag = flagOf (k .prior); kept = k .since; value = bitsOf (k .value); prior = bitsOf (k .prior) }
+
+-- by the group of the equation
 abbrev pub keptNums : Eqn → Kept → KeptNums
-keptNums input k = noNums
-keptNums nil k = noNums
-keptNums unit k = noNums
-keptNums (one f a) k = noNums
-keptNums (two g a b) k = noNums
-keptNums (last a b) k = record { flag = flagOf (k .prev); priorFlag = 0; kept = bitsOf (k .prev); value = 0; prior = 0 }
-keptNums (delay a b) k =
-    record { flag = flagOf (k .value); priorFlag = flagOf (k .prior); kept = k .since; value = bitsOf (k .value); prior = bitsOf (k .prior) }
+keptNums e k = cond (isLast (eqnGroup e)) (lastNums k) (cond (isDelay (eqnGroup e)) (delayNums k) noNums)
 
 abbrev pub slotOf : Event → Slot
 slotOf e = record { stamp = e .stamp; value = ofZ w64 (e .value) }
@@ -60,7 +60,7 @@ padTo (suc n) d (a ∷ l) = a ∷ padTo n d l
 abbrev pub rawOf : Eqn → Bool → ℕ → List Event → ℕ → KeptNums → Raw
 rawOf e out bound held next n =
     record {
-      nums = numberOf e ∷ firstOf e ∷ secondOf e ∷ flag out ∷ length held ∷ n .flag ∷ n .priorFlag ∷ 0
+      nums = numberOf e ∷ argA e ∷ argB e ∷ flag out ∷ length held ∷ n .flag ∷ n .priorFlag ∷ 0
           ∷ ofZ w64 (valueOf e) ∷ bound ∷ next ∷ n .kept ∷ n .value ∷ n .prior ∷ 0 ∷ [];
       slots = padTo room noSlot (map slotOf held);
     }

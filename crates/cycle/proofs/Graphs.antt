@@ -7,45 +7,26 @@ use native.Mathlib.Omega.{arith}
 use lib.Dec.{lit<}
 use lib.ListN.{length, getD, length-append, List·getD-append}
 use lib.Seq.{getD-append-add}
-use Rattle.meaning.specs.Plan.{time, neg, set, plus, add, sub, mul, div, rem, lt, le, eq, calc, keep, merge, Eqn, input, nil, unit, one, two, last, delay, Plan, eqnAt, undelayed}
+use Rattle.meaning.specs.Plan.{Eqn, input, nil, unit, one, two, last, delay, Plan, eqnAt, undelayed, prompts, argA, argB, AllBelow}
 use Rattle.meaning.specs.Cycle.{acyclic}
-use Rattle.operators.specs.Operators.{numberOf, firstOf, secondOf}
-use Rattle.operators.specs.Limits.{streamLimit}
-use Rattle.cycle.specs.Graph.{AllBelow, entryOf, graphOf, cleared}
+use Rattle.operators.specs.Operators.{groupOf, argumentsOf, numberOf}
+use Rattle.operators.proofs.Laws.{arguments-of}
+use Rattle.cycle.specs.Graph.{entryBy, entryOf, graphOf, cleared}
 use Rattle.cycle.proofs.Tied.{howOf, Args, argsAt, Tied, cleared-acyclic}
 
--- a stream's three bytes, by its undelayed arguments
-abbrev entryBy : List ℕ → List ℕ
-entryBy [] = 2 ∷ 0 ∷ 0 ∷ []
-entryBy (a ∷ []) = 0 ∷ a ∷ a ∷ []
-entryBy (a ∷ b ∷ l) = 0 ∷ a ∷ b ∷ []
-
-entry-by : (e : Eqn) → entryOf (numberOf e) (firstOf e) (secondOf e) ≡ entryBy (undelayed e)
-unfolding entryOf numberOf firstOf secondOf
-entry-by input = refl
-entry-by nil = refl
-entry-by unit = refl
-entry-by (one time a) = refl
-entry-by (one (set k) a) = refl
-entry-by (one (plus k) a) = refl
-entry-by (one neg a) = refl
-entry-by (two (calc add) a b) = refl
-entry-by (two (calc sub) a b) = refl
-entry-by (two (calc mul) a b) = refl
-entry-by (two (calc div) a b) = refl
-entry-by (two (calc rem) a b) = refl
-entry-by (two (calc lt) a b) = refl
-entry-by (two (calc le) a b) = refl
-entry-by (two (calc eq) a b) = refl
-entry-by (two keep a b) = refl
-entry-by (two merge a b) = refl
-entry-by (last a b) = refl
-entry-by (delay a b) = refl
+entry-by : (e : Eqn) → entryOf (numberOf e) (argA e) (argB e) ≡ entryBy (undelayed e)
+unfolding entryOf
+entry-by e = ap (λ l. entryBy (prompts l)) (arguments-of e)
 
 three : (l : List ℕ) → length (entryBy l) ≡ 3
 three [] = refl
 three (a ∷ []) = refl
 three (a ∷ b ∷ l) = refl
+
+-- three bytes, whatever the numbers
+pub entry-length : (n a b : ℕ) → length (entryOf n a b) ≡ 3
+unfolding entryOf
+entry-length n a b = three (prompts (argumentsOf (groupOf n) a b))
 
 how-by : (l : List ℕ) → getD (entryBy l) 0 0 ≡ howOf false l
 how-by [] = refl
@@ -82,7 +63,7 @@ at (e ∷ plan) r (suc i) j h l =
 
 -- bytes that are at each stream of the plan its three bytes are tied to the plan
 pub entries-tied : (plan : Plan) (g : List ℕ) → 3 * length plan ≤ length g
-    → ((i j : ℕ) → i < length plan → j < 3 → getD g (3 * i + j) 0 ≡ getD (entryOf (numberOf (eqnAt plan i)) (firstOf (eqnAt plan i)) (secondOf (eqnAt plan i))) j 0)
+    → ((i j : ℕ) → i < length plan → j < 3 → getD g (3 * i + j) 0 ≡ getD (entryOf (numberOf (eqnAt plan i)) (argA (eqnAt plan i)) (argB (eqnAt plan i))) j 0)
     → Tied plan g (λ s. false)
 entries-tied plan g size f = record {
   size = size;
@@ -103,5 +84,5 @@ graph-tied plan r =
     (λ i j l h. at plan r i j l h ∙ ap (λ (e : List ℕ). getD e j 0) (sym (entry-by (eqnAt plan i))))
 
 -- The code's test on the graph of a plan whose arguments are streams of the plan is the definition's test of the plan.
-pub graph-acyclic : (plan : Plan) (r : List ℕ) → length plan ≤ streamLimit → ((i : ℕ) → i < length plan → AllBelow (length plan) (argsAt plan i)) → (d : ℕ) → cleared d (length plan) (graphOf plan ++ r) .isClear ≡ acyclic d plan
-graph-acyclic plan r few bound d = cleared-acyclic plan few bound d (graphOf plan ++ r) (graph-tied plan r)
+pub graph-acyclic : (plan : Plan) (r : List ℕ) → ((i : ℕ) → i < length plan → AllBelow (length plan) (argsAt plan i)) → (d : ℕ) → cleared d (length plan) (graphOf plan ++ r) .isClear ≡ acyclic d plan
+graph-acyclic plan r bound d = cleared-acyclic plan bound d (graphOf plan ++ r) (graph-tied plan r)

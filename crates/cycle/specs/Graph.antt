@@ -1,22 +1,30 @@
 -- The graph of a plan in bytes, and the test that follows it.
-use Prim.Native.Nat.{ℕ, zero, suc, _+_, _*_, _<_}
+use Prim.Native.Nat.{ℕ, zero, suc, _+_, _*_}
 use mathlib.Core.Bool.{Bool, true, false, cond, _&&_}
 use mathlib.Core.List.{List, [], _∷_, _++_}
-use lib.Dec.{eqb, leb, ltb}
-use lib.ListN.{getD, set}
-use Rattle.meaning.specs.Plan.{Plan}
-use Rattle.operators.specs.Limits.{streamLimit}
-use Rattle.operators.specs.Operators.{numberOf, firstOf, secondOf}
+use lib.Dec.{eqb, ltb}
+use lib.ListN.{length, getD, set}
+use Rattle.meaning.specs.Plan.{Plan, prompts, argA, argB}
+use Rattle.operators.specs.Limits.{mostStreams}
+use Rattle.operators.specs.Operators.{groupOf, argumentsOf, numberOf}
+
+-- the bytes of a graph: three for each stream that a plan may have
+abbrev pub graphLength : ℕ
+graphLength = 3 * mostStreams
 
 -- Three bytes for each stream: how it stands (0: its arguments are to be followed, 1: found clear, 2: it has no undelayed
 -- argument), and its two undelayed arguments; a single one stands twice.
+abbrev pub entryBy : List ℕ → List ℕ
+entryBy [] = 2 ∷ 0 ∷ 0 ∷ []
+entryBy (a ∷ []) = 0 ∷ a ∷ a ∷ []
+entryBy (a ∷ b ∷ l) = 0 ∷ a ∷ b ∷ []
+
 unfoldable pub entryOf : ℕ → ℕ → ℕ → List ℕ
-entryOf n a b =
-    cond (leb n 3) (2 ∷ 0 ∷ 0 ∷ []) (cond (leb n 7) (0 ∷ a ∷ a ∷ []) (cond (leb n 17) (0 ∷ a ∷ b ∷ []) (0 ∷ b ∷ b ∷ [])))
+entryOf n a b = entryBy (prompts (argumentsOf (groupOf n) a b))
 
 unfoldable pub graphOf : Plan → List ℕ
 graphOf [] = []
-graphOf (e ∷ plan) = entryOf (numberOf e) (firstOf e) (secondOf e) ++ graphOf plan
+graphOf (e ∷ plan) = entryOf (numberOf e) (argA e) (argB e) ++ graphOf plan
 
 -- What following gives: whether it was clear, and the graph with the marks of those found clear
 pub record Walk : Type 0 where
@@ -34,15 +42,15 @@ marked i w = cond (w .isClear) (walked true (set (w .graph) (3 * i) 1)) w
 abbrev pub both : ℕ → (ℕ → List ℕ → Walk) → Walk → Walk
 both i follow w = cond (w .isClear) (marked i (follow (getD (w .graph) (3 * i + 2) 0) (w .graph))) w
 
--- whether stream i is one that a plan may have
-abbrev pub present : ℕ → Bool
-present i = ltb i streamLimit
+-- whether the graph has stream i: its three bytes
+abbrev pub present : ℕ → List ℕ → Bool
+present i g = ltb (3 * i + 2) (length g)
 
 -- stream i is followed, with this depth left: at depth 0 only a stream found clear before is clear
 unfoldable pub followed : ℕ → ℕ → List ℕ → Walk
-followed zero i g = walked (present i && eqb (getD g (3 * i) 0) 1) g
+followed zero i g = walked (present i g && eqb (getD g (3 * i) 0) 1) g
 followed (suc d) i g =
-    cond (present i)
+    cond (present i g)
     (cond (eqb (getD g (3 * i) 0) 1)
     (walked true g)
     (cond (eqb (getD g (3 * i) 0) 2)
@@ -58,8 +66,3 @@ rest w others = cond (w .isClear) (others (w .graph)) w
 unfoldable pub cleared : ℕ → ℕ → List ℕ → Walk
 cleared depth zero g = walked true g
 cleared depth (suc n) g = rest (followed depth n g) (cleared depth n)
-
--- every argument is a stream below n
-abbrev pub AllBelow : ℕ → List ℕ → Type 0
-AllBelow n [] = Unit {0}
-AllBelow n (a ∷ l) = (a < n) × AllBelow n l

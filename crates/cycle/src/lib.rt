@@ -3,12 +3,13 @@ ghost use mathlib.Core.Path.{_≡_};
 ghost use Prim.Native.Nat.{_+_, _*_, _<_};
 ghost use mathlib.Core.List.{[], _∷_};
 ghost use lib.Seq.{sets};
-ghost use Rattle.operators.specs.Limits.{streamLimit};
+ghost use lib.ListN.{length};
 ghost use Rattle.cycle.specs.Graph.{walked, followed, cleared, entryOf};
+use operators::Group;
 use operators::Plan;
 
 // The bytes of a graph: three for each stream that a plan may have.
-pub const GRAPH: usize = 3 * Plan::STREAMS;
+pub const GRAPH: usize = 3 * Plan::MOST;
 
 // How a stream stands in the graph: its two arguments are to be followed.
 pub const OPEN: u8 = 0;
@@ -18,8 +19,8 @@ pub const CLEAR: u8 = 1;
 pub const BARE: u8 = 2;
 
 // Stores the three bytes of a stream.
-fn store(graph: &mut [u8; GRAPH], at: usize, how: u8, a: u8, b: u8)
-    requires { ⌜ at + 2 < 3 * streamLimit ⌝ }
+fn store(graph: &mut [u8], at: usize, how: u8, a: u8, b: u8)
+    requires { ⌜ at + 2 < length (now graph) ⌝ }
     ensures { λ _. ⌜ now (graph .exit) ≡ sets (now (graph .entry)) at (how ∷ a ∷ b ∷ []) ⌝ }
 {
     graph[at] = how;
@@ -27,17 +28,17 @@ fn store(graph: &mut [u8; GRAPH], at: usize, how: u8, a: u8, b: u8)
     graph[at + 2] = b;
 }
 
-// Notes the undelayed arguments of stream i, by its stored number.
-pub fn note(graph: &mut [u8; GRAPH], i: usize, op: u8, a: u8, b: u8)
-    requires { ⌜ i < streamLimit ⌝ }
+// Notes the undelayed arguments of stream i, by the group of its stored number.
+pub fn note(graph: &mut [u8], i: usize, op: u8, a: u8, b: u8)
+    requires { ⌜ 3 * i + 2 < length (now graph) ⌝ }
     ensures { λ _. ⌜ now (graph .exit) ≡ sets (now (graph .entry)) (3 * i) (entryOf op a b) ⌝ }
 {
     let at = 3 * i;
-    match op {
-        0..=3 => store(graph, at, BARE, 0, 0),
-        4..=7 => store(graph, at, OPEN, a, a),
-        8..=17 => store(graph, at, OPEN, a, b),
-        _ => store(graph, at, OPEN, b, b),
+    match operators::group_of(op as u64) {
+        Group::Absent | Group::Input | Group::Plain => store(graph, at, BARE, 0, 0),
+        Group::One => store(graph, at, OPEN, a, a),
+        Group::Two => store(graph, at, OPEN, a, b),
+        Group::Last | Group::Delay => store(graph, at, OPEN, b, b),
     }
 }
 
@@ -48,14 +49,13 @@ fn wide(x: u8) -> usize
 }
 
 // Whether stream i is clear, followed at most this deep. A stream once found clear is not followed again.
-pub fn follow(graph: &mut [u8; GRAPH], i: u8, depth: u8) -> bool
+pub fn follow(graph: &mut [u8], i: u8, depth: u8) -> bool
     ensures { λ r. ⌜ walked r (now (graph .exit)) ≡ followed depth i (now (graph .entry)) ⌝ }
 {
-    let stream = wide(i);
-    if Plan::STREAMS <= stream {
+    let at = 3 * wide(i);
+    if graph.len() <= at + 2 {
         return false;
     }
-    let at = 3 * stream;
     let how = graph[at];
     if how == CLEAR {
         return true;
@@ -80,7 +80,7 @@ pub fn follow(graph: &mut [u8; GRAPH], i: u8, depth: u8) -> bool
 }
 
 // Whether all streams below n are clear, the last one followed first.
-pub fn clear(graph: &mut [u8; GRAPH], n: u8, depth: u8) -> bool
+pub fn clear(graph: &mut [u8], n: u8, depth: u8) -> bool
     ensures { λ r. ⌜ walked r (now (graph .exit)) ≡ cleared depth n (now (graph .entry)) ⌝ }
 {
     let mut i = n;

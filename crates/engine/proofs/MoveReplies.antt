@@ -4,7 +4,7 @@ use mathlib.Core.Path.{_≡_, refl, sym, ap, ap₂, _∙_}
 use mathlib.Core.List.{List}
 use mathlib.Core.Bool.{Bool, true, false, not, cond}
 use native.Mathlib.Omega.{arith}
-use lib.Dec.{ltb, eqb}
+use lib.Dec.{ltb}
 use lib.IntN.{pos}
 use lib.ListN.{length}
 use borrow.Author.Tests.{ltb-true}
@@ -14,9 +14,10 @@ use Rattle.machine.specs.Step.{canMove, comesIn, move}
 use Rattle.machine.specs.Calls.{moving, running, refused, done, arrivals, noEquation, moveOne, run, call}
 use Rattle.machine.proofs.Outcomes.{run-number}
 use Rattle.le.specs.Bytes.{Bytes}
+use Rattle.operators.specs.Operators.{groupOf, isIn}
 use Rattle.layout.specs.Record.{Raw, Raws, num, encode, decode, rowAt, opF}
 use Rattle.cells.specs.View.{ofCell, rawsOf, bytesOf}
-use Rattle.valid.specs.Valid.{stateLength, count, valid}
+use Rattle.valid.specs.Valid.{count, valid}
 use Rattle.state.specs.In.{stateIn, IsState}
 use Rattle.moves.specs.Move.{canRaw, movedRaw}
 use Rattle.running.specs.Equation.{equationRaw}
@@ -39,10 +40,10 @@ module _ (s : List ℕ) (b : Bytes s) (n : ℕ) (e : n ≡ cond (valid s) (count
 
   -- ---- run
 
-  pub run-reply : (most made : ℕ) (s′ : List ℕ) → made ≡ run most (stateIn s) .moves → s′ ≡ bytesOf stateLength (run most (stateIn s) .state)
+  pub run-reply : (most made : ℕ) (s′ : List ℕ) → made ≡ run most (stateIn s) .moves → s′ ≡ bytesOf (length s) (run most (stateIn s) .state)
       → (0 ≡ reply (running most) s .number) × (made ≡ reply (running most) s .moves) × (s′ ≡ reply (running most) s .buffer)
   run-reply most made s′ em es =
-      let r : reply (running most) s ≡ replyOf (run most (stateIn s)) = reply-is s b ok (running most) ∙ (unfold call in refl) in
+      let r : reply (running most) s ≡ replyOf (length s) (run most (stateIn s)) = reply-is s b ok (running most) ∙ (unfold call in refl) in
       (sym (ap (λ (y : Reply). y .number) r ∙ run-number most (stateIn s)), em ∙ sym (ap (λ (y : Reply). y .moves) r), es ∙ sym (ap (λ (y : Reply). y .buffer) r))
 
   -- ---- move
@@ -52,15 +53,15 @@ module _ (s : List ℕ) (b : Bytes s) (n : ℕ) (e : n ≡ cond (valid s) (count
     equation-is : equationRaw n (decode n s) i ≡ not (noEquation i (stateIn s))
     unfolding equationRaw
     equation-is =
-        ap₂ (λ (m : ℕ) (st : Raws). cond (ltb i m) (not (eqb (num opF (rowAt st i)) 1)) false) n-is (raws s b n here)
+        ap₂ (λ (m : ℕ) (st : Raws). cond (ltb i m) (not (isIn (groupOf (num opF (rowAt st i))))) false) n-is (raws s b n here)
         ∙ go (ltb i (length (stateIn s))) refl
       where
-        row : i < length (stateIn s) → rowAt (rawsOf stateLength (stateIn s)) i ≡ ofCell (cellAt (stateIn s) i)
+        row : i < length (stateIn s) → rowAt (rawsOf (length s) (stateIn s)) i ≡ ofCell (cellAt (stateIn s) i)
         row h = unfold rawsOf in row-of (stateIn s) i h
 
         go : (p : Bool) → ltb i (length (stateIn s)) ≡ p
-            → cond (ltb i (length (stateIn s))) (not (eqb (num opF (rowAt (rawsOf stateLength (stateIn s)) i)) 1)) false ≡ not (cond (ltb i (length (stateIn s))) (isInput (cellAt (stateIn s) i .eqn)) true)
-        go true q = rw q (ap not (ap (λ (r : Raw). eqb (num opF r) 1) (row (ltb-true i (length (stateIn s)) q)) ∙ op-of (cellAt (stateIn s) i)))
+            → cond (ltb i (length (stateIn s))) (not (isIn (groupOf (num opF (rowAt (rawsOf (length s) (stateIn s)) i))))) false ≡ not (cond (ltb i (length (stateIn s))) (isInput (cellAt (stateIn s) i .eqn)) true)
+        go true q = rw q (ap not (ap (λ (r : Raw). isIn (groupOf (num opF r))) (row (ltb-true i (length (stateIn s)) q)) ∙ op-of (cellAt (stateIn s) i)))
         go false q = rw q
 
     module _ (r : Bool) (er : r ≡ equationRaw n (decode n s) i) where
@@ -72,7 +73,7 @@ module _ (s : List ℕ) (b : Bytes s) (n : ℕ) (e : n ≡ cond (valid s) (count
       move-11 h =
           let q : noEquation i (stateIn s) ≡ true = not-true-is (noEquation i (stateIn s)) (sym equation-is ∙ sym er ∙ h) in
           let o : call (moving i) (stateIn s) ≡ refused 11 (stateIn s) = refused-11 q in
-          ap (λ (l : List ℕ). record { number = 11; moves = 0; stamp = 0; value = pos 0; buffer = l }) (stays s b ok) ∙ sym (reply-is s b ok (moving i) ∙ ap replyOf o)
+          ap (λ (l : List ℕ). record { number = 11; moves = 0; stamp = 0; value = pos 0; buffer = l }) (stays s b ok) ∙ sym (reply-is s b ok (moving i) ∙ ap (replyOf (length s)) o)
         where
           refused-11 : noEquation i (stateIn s) ≡ true → call (moving i) (stateIn s) ≡ refused 11 (stateIn s)
           refused-11 q = unfold call moveOne in rw q
@@ -101,7 +102,7 @@ module _ (s : List ℕ) (b : Bytes s) (n : ℕ) (e : n ≡ cond (valid s) (count
               let c : canRaw n i (decode n s) ≡ false = sym em ∙ k in
               let q : s′ ≡ s = es ∙ rw c in
               let o : call (moving i) (stateIn s) ≡ refused 12 (stateIn s) = refused-12 (sym can-is ∙ c) in
-              ap (λ (l : List ℕ). record { number = 12; moves = 0; stamp = 0; value = pos 0; buffer = l }) (q ∙ stays s b ok) ∙ sym (reply-is s b ok (moving i) ∙ ap replyOf o)
+              ap (λ (l : List ℕ). record { number = 12; moves = 0; stamp = 0; value = pos 0; buffer = l }) (q ∙ stays s b ok) ∙ sym (reply-is s b ok (moving i) ∙ ap (replyOf (length s)) o)
             where
               refused-12 : canMove i (stateIn s) ≡ false → call (moving i) (stateIn s) ≡ refused 12 (stateIn s)
               refused-12 c = unfold call moveOne in rw (is-equation, c)
@@ -110,9 +111,9 @@ module _ (s : List ℕ) (b : Bytes s) (n : ℕ) (e : n ≡ cond (valid s) (count
           move-done k =
               let c : canRaw n i (decode n s) ≡ true = sym em ∙ k in
               let d : canMove i (stateIn s) ≡ true = sym can-is ∙ c in
-              let q : s′ ≡ bytesOf stateLength (move i (stateIn s)) = es ∙ ap (λ (p : Bool). cond p (encode n (movedRaw n i (decode n s))) s) c ∙ turns.moved-bytes s b n here i move-there d in
+              let q : s′ ≡ bytesOf (length s) (move i (stateIn s)) = es ∙ ap (λ (p : Bool). cond p (encode n (movedRaw n i (decode n s))) s) c ∙ turns.moved-bytes s b n here i move-there d in
               let o : call (moving i) (stateIn s) ≡ done (arrivals i (comesIn i (stateIn s))) (move i (stateIn s)) = moved d in
-              ap (λ (l : List ℕ). record { number = 0; moves = 0; stamp = 0; value = pos 0; buffer = l }) q ∙ sym (reply-is s b ok (moving i) ∙ ap replyOf o)
+              ap (λ (l : List ℕ). record { number = 0; moves = 0; stamp = 0; value = pos 0; buffer = l }) q ∙ sym (reply-is s b ok (moving i) ∙ ap (replyOf (length s)) o)
             where
               moved : canMove i (stateIn s) ≡ true → call (moving i) (stateIn s) ≡ done (arrivals i (comesIn i (stateIn s))) (move i (stateIn s))
               moved d = unfold call moveOne in rw (is-equation, d)

@@ -16,12 +16,14 @@ use Rattle.meaning.specs.Events.{Event, ev, horizon}
 use Rattle.machine.specs.State.{Cell, State, cellAt, room, withBound, withNext}
 use Rattle.machine.specs.Step.{advance, absorbed, write, told, tell, release, releases, raise}
 use Rattle.machine.specs.Calls.{Call, reading, progress, collecting, Outcome, refused, unless, done, arrivals, noInput, offerReading, offerProgress, oldest, handOut, collect, call}
+use Rattle.operators.specs.Limits.{capacity}
 use Rattle.le.specs.Bytes.{Bytes}
 use Rattle.layout.specs.Record.{Slot, Raws, noSlot, encode, decode, rowAt, slotAt, change, withNum, boundF}
 use Rattle.cells.specs.View.{slotOf, padTo, ofCell, rawsOf, bytesOf}
 use Rattle.cells.specs.Sound.{IsValue, Rising, SoundCell, Sound}
 use Rattle.cells.proofs.Widths.{value-back}
-use Rattle.valid.specs.Valid.{stateLength, count, valid}
+use Rattle.valid.specs.Valid.{count, valid}
+use Rattle.valid.proofs.Link.{count-fits}
 use Rattle.state.proofs.Whole.{valid-facts, state-length, decoded, valid-bytes, valid-sound}
 use Rattle.step.specs.Step.{offered}
 use Rattle.calls.specs.Numbers.{readingRaw, progressRaw, waitingSlot, collectRaw, collectedRaw}
@@ -61,28 +63,28 @@ module _ (s : List ℕ) (n : ℕ) (e : n ≡ cond (valid s) (count s) 0) where
 -- ---- on a state
 
 module _ (s : List ℕ) (b : Bytes s) (ok : valid s ≡ true) where
-  pub reply-is : (c : Call) → reply c s ≡ replyOf (call c (stateIn s))
+  pub reply-is : (c : Call) → reply c s ≡ replyOf (length s) (call c (stateIn s))
   unfolding reply
   reply-is c = rw ok
 
-  pub sound : Sound (stateIn s)
+  pub sound : Sound (capacity (length s)) (stateIn s)
   sound = valid-sound s b ok
 
   pub streams : length (stateIn s) ≡ count s
   streams = state-length (count s) s
 
   -- the decoded bytes are the state's records
-  pub raws : (n : ℕ) → n ≡ count s → decode n s ≡ rawsOf stateLength (stateIn s)
+  pub raws : (n : ℕ) → n ≡ count s → decode n s ≡ rawsOf (length s) (stateIn s)
   raws n e = ap (λ (m : ℕ). decode m s) e ∙ decoded s b ok
 
   -- a refusal leaves the buffer
-  pub stays : s ≡ bytesOf stateLength (stateIn s)
+  pub stays : s ≡ bytesOf (length s) (stateIn s)
   stays = valid-bytes s b ok
 
   -- records of as many streams are the next state's bytes
-  pub written : (n : ℕ) (M : State) (s′ : List ℕ) → n ≡ count s → length M ≡ length (stateIn s) → s′ ≡ encode n (rawsOf stateLength M) → s′ ≡ bytesOf stateLength M
+  pub written : (n : ℕ) (M : State) (s′ : List ℕ) → n ≡ count s → length M ≡ length (stateIn s) → s′ ≡ encode n (rawsOf (length s) M) → s′ ≡ bytesOf (length s) M
   unfolding bytesOf
-  written n M s′ e l q = q ∙ ap (λ (m : ℕ). encode m (rawsOf stateLength M)) (e ∙ sym streams ∙ sym l)
+  written n M s′ e l q = q ∙ ap (λ (m : ℕ). encode m (rawsOf (length s) M)) (e ∙ sym streams ∙ sym l)
 
   few-at : (j : ℕ) → j < length (stateIn s) → length (cellAt (stateIn s) j .held) ≤ room
   few-at j h = sound .each j h .few
@@ -219,7 +221,7 @@ slots-in : (c : Cell) → ofCell c .slots ≡ padTo room noSlot (map slotOf (c .
 unfolding ofCell
 slots-in c = refl
 
-pub collect-done : (i : ℕ) (M : State) → Sound M → collect i M .number ≡ 0 → CollectDone i M
+pub collect-done : {cap : ℕ} (i : ℕ) (M : State) → Sound cap M → collect i M .number ≡ 0 → CollectDone i M
 unfolding collect
 collect-done i M snd e =
     let c = cellAt M i in
@@ -286,11 +288,11 @@ module _ (s : List ℕ) (b : Bytes s) (n : ℕ) (e : n ≡ cond (valid s) (count
   n-length = n-is ∙ sym (streams s b ok)
 
   -- the bytes hold n records
-  pub room-for : n ≤ 32 → n * 256 ≤ length s
-  room-for h = let l = valid-facts s ok .size in omega arith
+  pub room-for : n * 256 ≤ length s
+  room-for = rw n-is (count-fits s)
 
   -- the raw number is the machine's
-  raw-number : (f : ℕ → Raws → ℕ) (g : State → ℕ) → f (length (stateIn s)) (rawsOf stateLength (stateIn s)) ≡ g (stateIn s) → (k : ℕ) → k ≡ f n (decode n s) → k ≡ g (stateIn s)
+  raw-number : (f : ℕ → Raws → ℕ) (g : State → ℕ) → f (length (stateIn s)) (rawsOf (length s) (stateIn s)) ≡ g (stateIn s) → (k : ℕ) → k ≡ f n (decode n s) → k ≡ g (stateIn s)
   raw-number f g h k q = q ∙ ap₂ f n-length (raws s b ok n n-is) ∙ h
 
   -- a refusal: its number, all results 0, and the buffer as it came
@@ -298,11 +300,11 @@ module _ (s : List ℕ) (b : Bytes s) (n : ℕ) (e : n ≡ cond (valid s) (count
       → record { number = k; moves = 0; stamp = 0; value = pos 0; buffer = s } ≡ reply c s
   refused-reply c k d q h =
       ap (λ (l : List ℕ). record { number = k; moves = 0; stamp = 0; value = pos 0; buffer = l }) (stays s b ok)
-      ∙ sym (reply-is s b ok c ∙ ap replyOf (refused-is (stateIn s) (call c (stateIn s)) k d q h))
+      ∙ sym (reply-is s b ok c ∙ ap (replyOf (length s)) (refused-is (stateIn s) (call c (stateIn s)) k d q h))
 
   module _ (i t : ℕ) (v : ℤ) (k : ℕ) (q : k ≡ readingRaw n (decode n s) i t) where
     reading-k : k ≡ offerReading i t v (stateIn s) .number
-    reading-k = raw-number (λ m r. readingRaw m r i t) (λ M. offerReading i t v M .number) (reading-number stateLength (stateIn s) i t v) k q
+    reading-k = raw-number (λ m r. readingRaw m r i t) (λ M. offerReading i t v M .number) (reading-number (length s) (stateIn s) i t v) k q
 
     pub reading-refused : (k ≡ 0 → ⊥) → record { number = k; moves = 0; stamp = 0; value = pos 0; buffer = s } ≡ reply (reading i t v) s
     reading-refused h = refused-reply (reading i t v) k (unfold call in reading-ended i t v (stateIn s)) (unfold call in reading-k) h
@@ -319,13 +321,13 @@ module _ (s : List ℕ) (b : Bytes s) (n : ℕ) (e : n ≡ cond (valid s) (count
         let f = facts h in
         let M′ = raise i (suc t) (ev t v ∷ []) (stateIn s) in
         let o : call (reading i t v) (stateIn s) ≡ done (arrivals i (ev t v ∷ [])) M′ = unfold call in f .outcome in
-        let p = w ∙ ap (encode n) (ap (offered i t (ofZ w64 v)) (raws s b ok n n-is) ∙ step-of stateLength (stateIn s) i t v (f .there) (f .isInput) (f .space)) in
+        let p = w ∙ ap (encode n) (ap (offered i t (ofZ w64 v)) (raws s b ok n n-is) ∙ step-of (length s) (stateIn s) i t v (f .there) (f .isInput) (f .space)) in
         ap (λ (l : List ℕ). record { number = 0; moves = 0; stamp = 0; value = pos 0; buffer = l }) (written s b ok n M′ s′ n-is (raise-length i (suc t) (ev t v ∷ []) (stateIn s)) p)
-        ∙ sym (reply-is s b ok (reading i t v) ∙ ap replyOf o)
+        ∙ sym (reply-is s b ok (reading i t v) ∙ ap (replyOf (length s)) o)
 
   module _ (i y : ℕ) (k : ℕ) (q : k ≡ progressRaw n (decode n s) i y) where
     progress-k : k ≡ offerProgress i y (stateIn s) .number
-    progress-k = raw-number (λ m r. progressRaw m r i y) (λ M. offerProgress i y M .number) (progress-number stateLength (stateIn s) i y) k q
+    progress-k = raw-number (λ m r. progressRaw m r i y) (λ M. offerProgress i y M .number) (progress-number (length s) (stateIn s) i y) k q
 
     pub progress-refused : (k ≡ 0 → ⊥) → record { number = k; moves = 0; stamp = 0; value = pos 0; buffer = s } ≡ reply (progress i y) s
     progress-refused h = refused-reply (progress i y) k (unfold call in progress-ended i y (stateIn s)) (unfold call in progress-k) h
@@ -342,15 +344,15 @@ module _ (s : List ℕ) (b : Bytes s) (n : ℕ) (e : n ≡ cond (valid s) (count
         let f = progress-facts h in
         let M′ = set (stateIn s) i (withBound y (cellAt (stateIn s) i)) in
         let o : call (progress i y) (stateIn s) ≡ done [] M′ = unfold call in f .outcome in
-        let p = w ∙ ap (encode n) (ap (change i (withNum boundF y)) (raws s b ok n n-is) ∙ progress-of stateLength (stateIn s) i y (f .there)) in
+        let p = w ∙ ap (encode n) (ap (change i (withNum boundF y)) (raws s b ok n n-is) ∙ progress-of (length s) (stateIn s) i y (f .there)) in
         ap (λ (l : List ℕ). record { number = 0; moves = 0; stamp = 0; value = pos 0; buffer = l }) (written s b ok n M′ s′ n-is (length-set (stateIn s) i (withBound y (cellAt (stateIn s) i))) p)
-        ∙ sym (reply-is s b ok (progress i y) ∙ ap replyOf o)
+        ∙ sym (reply-is s b ok (progress i y) ∙ ap (replyOf (length s)) o)
 
   -- ---- collect
 
   module _ (i : ℕ) (k : ℕ) (q : k ≡ collectRaw n (decode n s) i) where
     collect-k : k ≡ collect i (stateIn s) .number
-    collect-k = raw-number (λ m r. collectRaw m r i) (λ M. collect i M .number) (collect-number stateLength (stateIn s) i (few-at s b ok)) k q
+    collect-k = raw-number (λ m r. collectRaw m r i) (λ M. collect i M .number) (collect-number (length s) (stateIn s) i (few-at s b ok)) k q
 
     pub collect-refused : (k ≡ 0 → ⊥) → record { number = k; moves = 0; stamp = 0; value = pos 0; buffer = s } ≡ reply (collecting i) s
     collect-refused h = refused-reply (collecting i) k (unfold call in collect-ended i (stateIn s)) (unfold call in collect-k) h
@@ -388,6 +390,6 @@ module _ (s : List ℕ) (b : Bytes s) (n : ℕ) (e : n ≡ cond (valid s) (count
           let pv : v ≡ x .value = ev′ ∙ ap (toZ w64) (eu ∙ ap (λ (y : Slot). y .value) slot-is) ∙ value-back (x .value) (f .value) in
           let sl : slotAt j (ofCell c) ≡ slotOf x = ap (λ (m : ℕ). slotAt m (ofCell c)) j-is ∙ f .slot in
           let l = f .there in
-          let p = es ∙ ap (encode n) (ap (collectedRaw i j) (raws s b ok n n-is) ∙ collect-of stateLength (stateIn s) i j x l (few-at s b ok i l) sl) in
+          let p = es ∙ ap (encode n) (ap (collectedRaw i j) (raws s b ok n n-is) ∙ collect-of (length s) (stateIn s) i j x l (few-at s b ok i l) sl) in
           let pb = written s b ok n M′ s′ n-is (release-length i (set (stateIn s) i c′) ∙ length-set (stateIn s) i c′) p in
-          (λ y. record { number = 0; moves = 0; stamp = pt y; value = pv y; buffer = pb y }) ∙ sym (reply-is s b ok (collecting i) ∙ ap replyOf o)
+          (λ y. record { number = 0; moves = 0; stamp = pt y; value = pv y; buffer = pb y }) ∙ sym (reply-is s b ok (collecting i) ∙ ap (replyOf (length s)) o)

@@ -1,29 +1,29 @@
 -- The whole theorem, over bytes: any history of loads and calls on a lent buffer.
-use Prim.Native.Nat.{ℕ, zero, suc, _<_}
+use Prim.Native.Nat.{ℕ, zero, suc, _<_, _≤_}
 use mathlib.Core.Path.{_≡_, refl, sym, ap, ap₂, _∙_, subst}
 use mathlib.Core.Bool.{Bool, true, false, cond}
 use mathlib.Core.Option.{Option, none, some}
 use mathlib.Core.List.{List, [], _∷_, _++_}
 use native.Mathlib.Omega.{arith}
-use lib.Dec.{eqb}
+use native.Mathlib.Decide.{ℕ-discrete}
+use lib.Dec.{eqb, ltb}
 use lib.ListN.{length}
 use borrow.Author.Tests.{eqb-true, eqb-false, ne-eqb}
-use Rattle.meaning.specs.Plan.{reads, eqnAt}
+use Rattle.meaning.specs.Plan.{reads, eqnAt, AllBelow}
 use Rattle.meaning.proofs.CycleTest.{test-sound}
-use Rattle.machine.specs.State.{Declared, State, loaded}
+use Rattle.machine.specs.State.{Declared, declaredPlan, State, loaded}
 use Rattle.machine.specs.Calls.{Call, reading, progress, moving, running, collecting, call}
 use Rattle.runs.specs.History.{Seen, seenOf, Typed, AllTyped, after, log}
-use Rattle.runs.specs.Claim as claim
 use Rattle.runs.specs.Claim.{Keeps}
 use Rattle.runs.proofs.Whole.{whole-runs, rest-reached}
-use Rattle.operators.specs.Limits.{streamLimit}
-use Rattle.cycle.specs.Graph.{AllBelow}
+use Rattle.operators.specs.Limits.{mostStreams, capacity}
+use Rattle.operators.proofs.Sizes.{capacity-few}
 use Rattle.cells.specs.View.{bytesOf}
 use Rattle.cells.specs.Sound.{Sound}
 use Rattle.sound.proofs.Calls.{Offered, call-sound}
-use Rattle.valid.specs.Valid.{stateLength, valid}
+use Rattle.valid.specs.Valid.{valid}
 use Rattle.state.specs.In.{stateIn}
-use Rattle.state.proofs.Whole.{bytes-valid}
+use Rattle.state.proofs.Whole.{bytes-valid, bytes-length}
 use Rattle.plan.specs.Rules.{number, declared}
 use Rattle.plan.specs.Taken.{Each, KeepsRules}
 use Rattle.plan.proofs.Taken.{taken-rendered}
@@ -35,17 +35,13 @@ use Rattle.engine.specs.History.{Act, load, make, answer, left, seenIn, 
 
 -- ---- a plan that keeps the written rules is one that the theorem on runs speaks of
 
-below : (n : ℕ) (l : List ℕ) → AllBelow n l → claim.All (λ a. a < n) l
-below n [] h = tt
-below n (a ∷ l) h = (h .0, below n l (h .1))
-
-arguments-at : (n : ℕ) (ds : List Declared) (s : ℕ) → Each n ds → claim.All (λ a. a < n) (reads (eqnAt (claim.planOf ds) s))
+arguments-at : (n : ℕ) (ds : List Declared) (s : ℕ) → Each n ds → AllBelow n (reads (eqnAt (declaredPlan ds) s))
 arguments-at n [] s h = tt
-arguments-at n (d ∷ ds) zero h = below n (reads (d .eqn)) (h .0 .arguments)
+arguments-at n (d ∷ ds) zero h = h .0 .arguments
 arguments-at n (d ∷ ds) (suc s) h = arguments-at n ds s (h .1)
 
-pub rules-keep : (ds : List Declared) → KeepsRules ds → Keeps ds
-rules-keep ds k = record { arguments = λ s. arguments-at (length ds) ds s (k .each); acyclic = test-sound streamLimit (claim.planOf ds) (k .clear) }
+pub rules-keep : {cap : ℕ} (ds : List Declared) → KeepsRules cap ds → Keeps ds
+rules-keep {cap} ds k = record { arguments = λ s. arguments-at (length ds) ds s (k .each); acyclic = test-sound cap (declaredPlan ds) (k .clear) }
 
 -- ---- one call more
 
@@ -71,68 +67,96 @@ typed-offered (running n) h = tt
 typed-offered (collecting s) h = tt
 
 -- the answer on the bytes of a sound state is that of the machine
-reply-machine : (c : Call) (M : State) (b : List ℕ) → Sound M → b ≡ bytesOf stateLength M → reply c b ≡ replyOf (call c M)
+reply-machine : (size : ℕ) (c : Call) (M : State) (b : List ℕ) → Sound (capacity size) M → b ≡ bytesOf size M → reply c b ≡ replyOf size (call c M)
 unfolding reply
-reply-machine c M b ok e =
-    let v : valid b ≡ true = ap valid e ∙ bytes-valid M ok in
-    ap (λ (x : Bool). cond x (replyOf (call c (stateIn b))) (notState b)) v ∙ ap (λ (N : State). replyOf (call c N)) (bytes-in M b ok e)
+reply-machine size c M b ok e =
+    let v : valid b ≡ true = ap valid e ∙ bytes-valid size M ok in
+    let l : length b ≡ size = ap length e ∙ bytes-length size M ok in
+    ap (λ (x : Bool). cond x (replyOf (length b) (call c (stateIn b))) (notState b)) v ∙ ap₂ (λ (n : ℕ) (N : State). replyOf n (call c N)) l (bytes-in size M b ok e)
 
 -- ---- a load
 
-load-done : (text s : List ℕ) → loadReply text s .number ≡ 0 → (number text ≡ 0) × (loadReply text s .buffer ≡ bytesOf stateLength (loaded (declared text)))
+load-done : (text s : List ℕ) → loadReply text s .number ≡ 0 → (number (capacity (length s)) text ≡ 0) × (loadReply text s .buffer ≡ bytesOf (length s) (loaded (declared (capacity (length s)) text)))
 unfolding loadReply
-load-done text s = by (eqb (length s) stateLength)
+load-done text s = by (ltb 0 (capacity (length s)))
   where
-    full : (n : ℕ) → n ≡ 0 → (n ≡ 0) × (loadOf n text s .buffer ≡ bytesOf stateLength (loaded (declared text)))
+    most : ℕ
+    most = capacity (length s)
+
+    full : (n : ℕ) → n ≡ 0 → (n ≡ 0) × (loadOf n text s .buffer ≡ bytesOf (length s) (loaded (declared most text)))
     full zero e = (refl, refl)
     full (suc n) e = absurd (omega arith)
 
-    by : (x : Bool) → cond x (loadOf (number text) text s) (notState s) .number ≡ 0 → (number text ≡ 0) × (cond x (loadOf (number text) text s) (notState s) .buffer ≡ bytesOf stateLength (loaded (declared text)))
-    by true e = full (number text) e
+    by : (x : Bool) → cond x (loadOf (number most text) text s) (notState s) .number ≡ 0 → (number most text ≡ 0) × (cond x (loadOf (number most text) text s) (notState s) .buffer ≡ bytesOf (length s) (loaded (declared most text)))
+    by true e = full (number most text) e
     by false e = absurd (omega arith)
 
 load-refused : (text s : List ℕ) → (loadReply text s .number ≡ 0 → ⊥) → loadReply text s .buffer ≡ s
 unfolding loadReply
-load-refused text s = by (eqb (length s) stateLength)
+load-refused text s = by (ltb 0 (capacity (length s)))
   where
+    most : ℕ
+    most = capacity (length s)
+
     full : (n : ℕ) → (n ≡ 0 → ⊥) → loadOf n text s .buffer ≡ s
     full n e = rw (ne-eqb n 0 e)
 
-    by : (x : Bool) → (cond x (loadOf (number text) text s) (notState s) .number ≡ 0 → ⊥) → cond x (loadOf (number text) text s) (notState s) .buffer ≡ s
-    by true e = full (number text) e
+    by : (x : Bool) → (cond x (loadOf (number most text) text s) (notState s) .number ≡ 0 → ⊥) → cond x (loadOf (number most text) text s) (notState s) .buffer ≡ s
+    by true e = full (number most text) e
     by false e = refl
+
+-- a load leaves the buffer as long as it was
+pub load-length : (text s : List ℕ) → length (loadReply text s .buffer) ≡ length s
+load-length text s = go (ℕ-discrete (loadReply text s .number) 0)
+  where
+    go : Dec (loadReply text s .number ≡ 0) → length (loadReply text s .buffer) ≡ length s
+    go (yes e) =
+        let d = load-done text s e in
+        let ds = declared (capacity (length s)) text in
+        ap length (d .1) ∙ bytes-length (length s) (loaded ds) (loaded-sound ds (taken-rendered (capacity (length s)) text (d .0) .1))
+    go (no n) = ap length (load-refused text s n)
 
 -- ---- what every call keeps
 
 record Kept (x : Since) (b : List ℕ) : Type 0 where
-  rules : KeepsRules (x .plan)
+  rules : KeepsRules (capacity (length b)) (x .plan)
   typed : AllTyped (x .calls)
-  sound : Sound (after (x .calls) (loaded (x .plan)))
-  buffer : b ≡ bytesOf stateLength (after (x .calls) (loaded (x .plan)))
+  sound : Sound (capacity (length b)) (after (x .calls) (loaded (x .plan)))
+  buffer : b ≡ bytesOf (length b) (after (x .calls) (loaded (x .plan)))
   seen : x .seen ≡ log (x .calls) (loaded (x .plan))
 
 abbrev KeptOf : Option Since → List ℕ → Type 0
 KeptOf none b = Unit {0}
 KeptOf (some x) b = Kept x b
 
-start : (text b : List ℕ) → number text ≡ 0 → b ≡ bytesOf stateLength (loaded (declared text)) → Kept (record { plan = declared text; calls = []; seen = [] }) b
+-- a load that was done: the plan is read with the room that the buffer has, which stays as long as it was
+start : (text b : List ℕ) (size : ℕ) → number (capacity size) text ≡ 0 → b ≡ bytesOf size (loaded (declared (capacity size) text)) → Kept (record { plan = declared (capacity (length b)) text; calls = []; seen = [] }) b
 unfolding after log
-start text b e q =
-    let k = taken-rendered text e .1 in
-    record { rules = k; typed = tt; sound = loaded-sound (declared text) k; buffer = q; seen = refl }
+start text b size e q =
+    let sized : length b ≡ size = ap length q ∙ bytes-length size (loaded (declared (capacity size) text)) (loaded-sound (declared (capacity size) text) (taken-rendered (capacity size) text e .1)) in
+    fresh (ap (λ (n : ℕ). number (capacity n) text) sized ∙ e) (q ∙ ap (λ (n : ℕ). bytesOf n (loaded (declared (capacity n) text))) (sym sized))
+  where
+    fresh : number (capacity (length b)) text ≡ 0 → b ≡ bytesOf (length b) (loaded (declared (capacity (length b)) text)) → Kept (record { plan = declared (capacity (length b)) text; calls = []; seen = [] }) b
+    fresh e q =
+        let k = taken-rendered (capacity (length b)) text e .1 in
+        record { rules = k; typed = tt; sound = loaded-sound (declared (capacity (length b)) text) k; buffer = q; seen = refl }
 
--- one call more
+-- one call more, on a buffer that stays as long as it was
 further : (x : Since) (b : List ℕ) (c : Call) → Typed c → Kept x b
     → Kept (record { plan = x .plan; calls = x .calls ++ c ∷ []; seen = x .seen ++ seenIn c (reply c b) ∷ [] }) (reply c b .buffer)
 further x b c t k =
     let M = after (x .calls) (loaded (x .plan)) in
-    let r = reply-machine c M b (k .sound) (k .buffer) in
+    let size = length b in
+    let r = reply-machine size c M b (k .sound) (k .buffer) in
     let m = after-more (x .calls) c (loaded (x .plan)) in
+    let ok = call-sound c M (typed-offered c t) (k .sound) in
+    let left : reply c b .buffer ≡ bytesOf size (call c M .state) = ap (λ (y : Reply). y .buffer) r in
+    let sized : size ≡ length (reply c b .buffer) = sym (ap length left ∙ bytes-length size (call c M .state) ok) in
     record {
-      rules = k .rules;
+      rules = subst (λ (n : ℕ). KeepsRules (capacity n) (x .plan)) sized (k .rules);
       typed = typed-more (x .calls) c (k .typed) t;
-      sound = subst Sound (sym m) (call-sound c M (typed-offered c t) (k .sound));
-      buffer = ap (λ (y : Reply). y .buffer) r ∙ ap (bytesOf stateLength) (sym m);
+      sound = subst (λ (n : ℕ). Sound (capacity n) (after (x .calls ++ c ∷ []) (loaded (x .plan)))) sized (subst (Sound (capacity size)) (sym m) ok);
+      buffer = left ∙ ap₂ bytesOf sized (sym m);
       seen = ap₂ (λ (l : List Seen) (y : Reply). l ++ seenIn c y ∷ []) (k .seen) r ∙ sym (log-more (x .calls) c (loaded (x .plan)));
     }
 
@@ -140,8 +164,8 @@ keeps-one : (a : Act) (s : List ℕ) (o : Option Since) → TypedAct a → KeptO
 unfolding noted answer
 keeps-one (load text) s o t k = by (eqb (loadReply text s .number) 0) refl
   where
-    by : (x : Bool) → eqb (loadReply text s .number) 0 ≡ x → KeptOf (cond x (some (record { plan = declared text; calls = []; seen = [] })) o) (loadReply text s .buffer)
-    by true e = let d = load-done text s (eqb-true (loadReply text s .number) 0 e) in start text (loadReply text s .buffer) (d .0) (d .1)
+    by : (x : Bool) → eqb (loadReply text s .number) 0 ≡ x → KeptOf (cond x (some (record { plan = declared (capacity (length (loadReply text s .buffer))) text; calls = []; seen = [] })) o) (loadReply text s .buffer)
+    by true e = let d = load-done text s (eqb-true (loadReply text s .number) 0 e) in start text (loadReply text s .buffer) (length s) (d .0) (d .1)
     by false e = subst (KeptOf o) (sym (load-refused text s (eqb-false (loadReply text s .number) 0 e))) k
 keeps-one (make c) s none t k = tt
 keeps-one (make c) s (some x) t k = further x s c t k
@@ -155,12 +179,12 @@ holds : (o : Option Since) (b : List ℕ) → KeptOf o b → HoldsOf o b
 holds none b k = tt
 holds (some x) b k =
     let keep = rules-keep (x .plan) (k .rules) in
-    let few = k .rules .few in
+    let few : length (x .plan) ≤ mostStreams = omega (arith, k .rules .few, capacity-few (length b)) in
     record {
       rules = k .rules;
       buffer = k .buffer;
       seen = k .seen;
-      answers = λ c. reply-machine c (after (x .calls) (loaded (x .plan))) b (k .sound) (k .buffer);
+      answers = λ c. reply-machine (length b) c (after (x .calls) (loaded (x .plan))) b (k .sound) (k .buffer);
       claim = whole-runs (x .plan) keep (x .calls) (k .typed);
       reached = rest-reached (x .plan) keep (omega arith) (x .calls) (k .typed);
     }

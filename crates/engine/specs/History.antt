@@ -1,16 +1,17 @@
 -- A lent buffer over a history of loads and calls, and what its caller saw since the last load that was done.
 use Prim.Native.Nat.{ℕ}
 use mathlib.Core.Path.{_≡_}
-use mathlib.Core.Bool.{true, cond}
+use mathlib.Core.Bool.{cond}
 use mathlib.Core.Option.{Option, none, some}
 use mathlib.Core.List.{List, [], _∷_, _++_}
 use lib.Dec.{eqb}
-use Rattle.machine.specs.State.{Declared, State, loaded}
+use lib.ListN.{length}
+use Rattle.machine.specs.State.{Declared, loaded}
 use Rattle.machine.specs.Calls.{Call, call}
-use Rattle.runs.specs.History.{Seen, Typed, AllTyped, after, log}
+use Rattle.runs.specs.History.{Seen, Typed, after, log}
 use Rattle.runs.specs.Claim.{Claim, RestReached}
+use Rattle.operators.specs.Limits.{capacity}
 use Rattle.cells.specs.View.{bytesOf}
-use Rattle.valid.specs.Valid.{stateLength, valid}
 use Rattle.plan.specs.Rules.{declared}
 use Rattle.plan.specs.Taken.{KeepsRules}
 use Rattle.engine.specs.Reply.{Reply, replyOf, reply}
@@ -42,7 +43,7 @@ pub record Since : Type 0 where
 
 -- a done load starts anew, a refused one leaves all as it is
 unfoldable pub noted : Act → Reply → Option Since → Option Since
-noted (load text) r o = cond (eqb (r .number) 0) (some (record { plan = declared text; calls = []; seen = [] })) o
+noted (load text) r o = cond (eqb (r .number) 0) (some (record { plan = declared (capacity (length (r .buffer))) text; calls = []; seen = [] })) o
 noted (make c) r none = none
 noted (make c) r (some x) = some (record { plan = x .plan; calls = x .calls ++ c ∷ []; seen = x .seen ++ seenIn c r ∷ [] })
 
@@ -62,12 +63,12 @@ AllTypedActs (a ∷ acts) = TypedAct a × AllTypedActs acts
 -- what holds of a buffer whose last done load and calls since are these
 pub record Holds (x : Since) (b : List ℕ) : Type 1 where
   -- the plan keeps the written rules
-  pub rules : KeepsRules (x .plan)
+  pub rules : KeepsRules (capacity (length b)) (x .plan)
   -- the buffer is the machine's state after the calls, and what was seen is what the machine's calls give
-  pub buffer : b ≡ bytesOf stateLength (after (x .calls) (loaded (x .plan)))
+  pub buffer : b ≡ bytesOf (length b) (after (x .calls) (loaded (x .plan)))
   pub seen : x .seen ≡ log (x .calls) (loaded (x .plan))
   -- "No state left by load and the calls is refused 15": the next call is answered from that state
-  pub answers : (c : Call) → reply c b ≡ replyOf (call c (after (x .calls) (loaded (x .plan))))
+  pub answers : (c : Call) → reply c b ≡ replyOf (length b) (call c (after (x .calls) (loaded (x .plan))))
   -- demands 2 and 3 of these calls, and rest is reached
   pub claim : Claim (x .plan) (x .calls)
   pub reached : RestReached (x .plan) (x .calls)

@@ -2,19 +2,19 @@
 use Prim.Native.Nat.{ℕ}
 use mathlib.Core.Bool.{cond}
 use mathlib.Core.List.{List}
-use lib.Dec.{eqb}
+use lib.Dec.{eqb, ltb}
 use lib.IntN.{pos}
 use lib.ListN.{length}
 use Rattle.machine.specs.State.{loaded}
 use Rattle.cells.specs.View.{bytesOf}
-use Rattle.valid.specs.Valid.{stateLength}
+use Rattle.operators.specs.Limits.{capacity}
 use Rattle.plan.specs.Rules.{number, declared}
 use Rattle.engine.specs.Reply.{Reply, notState}
 
 -- the fresh state of the streams that the text declares; on any other number the buffer stays
 abbrev pub loadOf : ℕ → List ℕ → List ℕ → Reply
-loadOf n text s = record { number = n; moves = 0; stamp = 0; value = pos 0; buffer = cond (eqb n 0) (bytesOf stateLength (loaded (declared text))) s }
+loadOf n text s = record { number = n; moves = 0; stamp = 0; value = pos 0; buffer = cond (eqb n 0) (bytesOf (length s) (loaded (declared (capacity (length s)) text))) s }
 
--- "Load checks only the state's length: 12,288 bytes, or 15."
+-- "Load checks only the state's length: 12,288 bytes, or 15.": a length that states have
 unfoldable pub loadReply : List ℕ → List ℕ → Reply
-loadReply text s = cond (eqb (length s) stateLength) (loadOf (number text) text s) (notState s)
+loadReply text s = cond (ltb 0 (capacity (length s))) (loadOf (number (capacity (length s)) text) text s) (notState s)

@@ -4,6 +4,7 @@ ghost use mathlib.Core.Path.{_≡_};
 ghost use Rattle.machine.specs.Calls.{reading, progress, moving, running, collecting};
 ghost use Rattle.engine.specs.Load.{loadReply};
 ghost use Rattle.engine.specs.Reply.{reply};
+use operators::Plan;
 
 // Loads a plan text: on 0 the state is fresh, with the plan's streams; on any other number it is as it was.
 #[no_mangle]
@@ -11,14 +12,15 @@ pub extern "C" fn tessla_load(state: &mut [u8], text: &[u8]) -> u32
     ensures number { λ r. ⌜ r ≡ loadReply (now (text .entry)) (now (state .entry)) .number ⌝ }
     ensures buffer { λ _. ⌜ now (state .exit) ≡ loadReply (now (text .entry)) (now (state .entry)) .buffer ⌝ }
 {
-    if state.len() != 12288 {
+    let most = Plan::capacity(state.len());
+    if most == 0 {
         return 15;
     }
-    let number = plan::number(text);
+    let number = plan::number(text, most);
     if number != 0 {
         return number;
     }
-    load::fill(state, text);
+    load::fill(state, text, most);
     0
 }
 

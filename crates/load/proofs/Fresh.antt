@@ -6,19 +6,12 @@ use mathlib.Core.List.{List, [], _∷_, map}
 use native.Mathlib.Omega.{arith}
 use lib.Dec.{T}
 use lib.ListN.{length}
-use Rattle.meaning.specs.Plan.{Eqn, input, nil, unit, one, two, last, delay, isInput, reads, Plan}
+use Rattle.meaning.specs.Plan.{Eqn, input, nil, unit, one, two, last, delay, isInput, Plan}
 use Rattle.meaning.specs.Cycle.{acyclic}
-use Rattle.machine.specs.State.{Declared, noKept, fresh, loaded, cellAt}
-use Rattle.machine.specs.State as state
-use Rattle.operators.specs.Limits.{streamLimit}
-use Rattle.cycle.specs.Graph as graph
-use Rattle.cells.specs.Sound.{AllBelow, IsNext, IsKept, SoundCell, Sound}
-use Rattle.plan.specs.Taken.{StreamKeeps, Each, planOf, KeepsRules}
+use Rattle.machine.specs.State.{Declared, noKept, fresh, loaded, cellAt, planOf, declaredPlan}
+use Rattle.cells.specs.Sound.{IsNext, IsKept, SoundCell, Sound}
+use Rattle.plan.specs.Taken.{StreamKeeps, Each, KeepsRules}
 use Rattle.load.proofs.Taken.{many}
-
-below : (n : ℕ) (l : List ℕ) → graph.AllBelow n l → AllBelow n l
-below n [] h = tt
-below n (a ∷ l) h = (h .0, below n l (h .1))
 
 next-fresh : (b : Bool) → IsNext b 0 0
 next-fresh true = omega arith
@@ -39,7 +32,7 @@ no-output false o e t = absurd t
 
 cell-fresh : (n : ℕ) (d : Declared) → StreamKeeps n d → SoundCell n (fresh d)
 cell-fresh n d k = record {
-  arguments = below n (reads (d .eqn)) (k .arguments);
+  arguments = k .arguments;
   value = k .value;
   out = no-output (isInput (d .eqn)) (d .out) (k .output);
   bound = omega arith;
@@ -54,18 +47,18 @@ cell-at n [] e i h = absurd (omega arith)
 cell-at n (d ∷ ds) e zero h = cell-fresh n d (e .0)
 cell-at n (d ∷ ds) e (suc i) h = cell-at n ds (e .1) i (omega arith)
 
-pub plan-loaded : (ds : List Declared) → state.planOf (loaded ds) ≡ planOf ds
+pub plan-loaded : (ds : List Declared) → planOf (loaded ds) ≡ declaredPlan ds
 unfolding loaded
 plan-loaded [] = refl
 plan-loaded (d ∷ ds) = ap (λ (l : Plan). d .eqn ∷ l) (plan-loaded ds)
 
 -- a plan that keeps the rules loads as a sound state
-pub loaded-sound : (ds : List Declared) → KeepsRules ds → Sound (loaded ds)
-loaded-sound ds k = record {
+pub loaded-sound : {cap : ℕ} (ds : List Declared) → KeepsRules cap ds → Sound cap (loaded ds)
+loaded-sound {cap} ds k = record {
   some = rw (many ds) (k .some);
   few = rw (many ds) (k .few);
   each = λ i h. rw (many ds) (at i (subst (λ (n : ℕ). i < n) (many ds) h));
-  acyclic = ap (acyclic streamLimit) (plan-loaded ds) ∙ k .clear;
+  acyclic = ap (acyclic cap) (plan-loaded ds) ∙ k .clear;
 }
   where
     at : (i : ℕ) → i < length ds → SoundCell (length ds) (cellAt (loaded ds) i)

@@ -15,14 +15,14 @@ use Rattle.le.specs.Layout.{encRows, decFields, decRows}
 use Rattle.le.proofs.RoundTrip.{All}
 use Rattle.layout.specs.Record.{Raw, Raws, noSlot, noRaw, change, encRaw, decRaw, decSlot, encode, decode}
 use Rattle.layout.proofs.Laws.{RawOk, raw-ok, raw-dec, decode-encode}
-use Rattle.meaning.specs.Plan.{Eqn, input, nil, unit, one, two, last, delay}
+use Rattle.meaning.specs.Plan.{Eqn, input, nil, unit, one, two, last, delay, argA, argB}
 use Rattle.machine.specs.State.{State, Declared, noKept, fresh, loaded}
-use Rattle.operators.specs.Operators.{numberOf, firstOf, secondOf, valueOf}
-use Rattle.operators.specs.Limits.{streamLimit}
+use Rattle.operators.specs.Operators.{numberOf, valueOf}
+use Rattle.operators.specs.Limits.{capacity}
+use Rattle.operators.proofs.Sizes.{capacity-fits, capacity-few}
 use Rattle.operators.proofs.Laws.{number-back}
 use Rattle.operators.proofs.Tests.{left, right}
 use Rattle.cells.specs.View.{KeptNums, noNums, keptNums, flag, padTo, rawOf, ofCell, rawsOf, bytesOf}
-use Rattle.valid.specs.Valid.{stateLength}
 use Rattle.text.specs.declared.Fields.{Fields}
 use Rattle.text.specs.declared.Lines.{Lines}
 use Rattle.text.specs.declared.Lines.the-variants as Lines
@@ -71,7 +71,7 @@ kept-fresh (two g a b) = refl
 kept-fresh (last a b) = refl
 kept-fresh (delay a b) = refl
 
-fresh-plain : (d : Declared) → ofCell (fresh d) ≡ plain (numberOf (d .eqn)) (firstOf (d .eqn)) (secondOf (d .eqn)) (flag (d .out)) (ofZ w64 (valueOf (d .eqn)))
+fresh-plain : (d : Declared) → ofCell (fresh d) ≡ plain (numberOf (d .eqn)) (argA (d .eqn)) (argB (d .eqn)) (flag (d .out)) (ofZ w64 (valueOf (d .eqn)))
 unfolding ofCell padTo
 fresh-plain d = ap (λ (k : KeptNums). rawOf (d .eqn) (d .out) 0 [] 0 k) (kept-fresh (d .eqn))
 
@@ -85,10 +85,10 @@ stored-fresh : (n : ℕ) (f : Fields) → keeps n f ≡ true → Stored f → st
 stored-fresh n f e s =
     let h = s .op in
     let o : f .op ≡ numberOf (eqnFrom f) = sym (number-back (f .a) (f .b) (toZ w64 (f .k)) (f .op) (h .0) (h .1)) in
-    let a : f .a % 256 ≡ firstOf (eqnFrom f) = mod-eq-of-lt (s .a) ∙ sym (first-of n f h e) in
-    let b : f .b % 256 ≡ secondOf (eqnFrom f) = mod-eq-of-lt (s .b) ∙ sym (second-of n f h e) in
+    let a : f .a % 256 ≡ argA (eqnFrom f) = mod-eq-of-lt (s .a) ∙ sym (first-of n f h e) in
+    let b : f .b % 256 ≡ argB (eqnFrom f) = mod-eq-of-lt (s .b) ∙ sym (second-of n f h e) in
     let k : f .k ≡ ofZ w64 (valueOf (eqnFrom f)) = sym (ap (ofZ w64) (value-of n f h e) ∙ ofZ-toZ {w = w64} {n = f .k} (record { fits = s .k })) in
-    let r : plain (f .op) (f .a % 256) (f .b % 256) (f .out % 256) (f .k) ≡ plain (numberOf (eqnFrom f)) (firstOf (eqnFrom f)) (secondOf (eqnFrom f)) (flag (eqb (f .out) 1)) (ofZ w64 (valueOf (eqnFrom f))) =
+    let r : plain (f .op) (f .a % 256) (f .b % 256) (f .out % 256) (f .k) ≡ plain (numberOf (eqnFrom f)) (argA (eqnFrom f)) (argB (eqnFrom f)) (flag (eqb (f .out) 1)) (ofZ w64 (valueOf (eqnFrom f))) =
     λ i. plain (o i) (a i) (b i) (out-flag (f .out) (s .out) i) (k i) in
     stored-plain f ∙ r ∙ sym (fresh-plain (declaredFrom f))
 
@@ -141,14 +141,14 @@ all-blank : (n : ℕ) → All RawOk (replicate n blank)
 all-blank zero = tt
 all-blank (suc n) = (blank-ok, all-blank n)
 
-cleared : (n : ℕ) → n ≤ streamLimit → decode n (replicate stateLength 0) ≡ record { rows = replicate n blank; spare = replicate (stateLength - n * 256) 0 }
+cleared : (size n : ℕ) → n * 256 ≤ size → decode n (replicate size 0) ≡ record { rows = replicate n blank; spare = replicate (size - n * 256) 0 }
 unfolding encode
-cleared n h =
-    let z = replicate {A = ℕ} (stateLength - n * 256) 0 in
+cleared size n h =
+    let z = replicate {A = ℕ} (size - n * 256) 0 in
     let st : Raws = record { rows = replicate n blank; spare = z } in
-    let e : n * 256 + (stateLength - n * 256) ≡ stateLength = omega arith in
-    let b : encode n st ≡ replicate stateLength 0 =
-    ap (λ (l : List ℕ). l ++ z) (zero-rows n) ∙ replicate-append-replicate {A = ℕ} (n * 256) (stateLength - n * 256) 0 ∙ ap (λ (j : ℕ). replicate {A = ℕ} j 0) e in
+    let e : n * 256 + (size - n * 256) ≡ size = omega arith in
+    let b : encode n st ≡ replicate size 0 =
+    ap (λ (l : List ℕ). l ++ z) (zero-rows n) ∙ replicate-append-replicate {A = ℕ} (n * 256) (size - n * 256) 0 ∙ ap (λ (j : ℕ). replicate {A = ℕ} j 0) e in
     ap (decode n) (sym b) ∙ decode-encode n st (record { many = length-replicate {A = Raw} n blank; good = all-blank n })
 
 -- ---- the whole text
@@ -158,19 +158,21 @@ unfolding loaded
 many ds = length-map ds fresh
 
 -- "On 0 the state holds the plan, all bounds 0, nothing held": the bytes of the fresh state of the streams declared
-pub taken-filled : (text s : List ℕ) → number text ≡ 0 → filled text s ≡ bytesOf stateLength (loaded (declared text))
+pub taken-filled : (text s : List ℕ) → number (capacity (length s)) text ≡ 0 → filled (capacity (length s)) text s ≡ bytesOf (length s) (loaded (declared (capacity (length s)) text))
 unfolding filled bytesOf rawsOf
 taken-filled text s e =
-    let p = taken-parts text e in
+    let size = length s in
+    let most = capacity size in
+    let p = taken-parts most text e in
     let n = p .count in
     let fs = p .fields in
-    let t = taken-stored text p in
-    let h = head-fits text n (p .start) (p .opens) in
-    let z = replicate {A = ℕ} (stateLength - n * 256) 0 in
+    let t = taken-stored most (capacity-few size) text p in
+    let h = head-fits most text n (p .start) (p .opens) in
+    let z = replicate {A = ℕ} (size - n * 256) 0 in
     let M : State = loaded (map declaredFrom fs) in
     let m : length M ≡ n = many (map declaredFrom fs) ∙ length-map fs declaredFrom ∙ t .1 in
     ap (λ (x : Head). filledHead text x s) (p .opens)
-    ∙ ap (λ (st : Raws). encode n (written text (p .start) n 0 st)) (cleared n (h .1))
+    ∙ ap (λ (st : Raws). encode n (written text (p .start) n 0 st)) (cleared size n (omega (arith, h .1, capacity-fits size)))
     ∙ ap (encode n) (pass-rows text z n (p .start) 0 (length text) fs [] refl (p .lists) ∙ ap (λ (l : List Raw). rows text z l) (all-fresh n fs (p .kept) (t .0)))
-    ∙ ap (λ (j : ℕ). encode j (record { rows = map ofCell M; spare = replicate (stateLength - j * 256) 0 })) (sym m)
-    ∙ ap (λ (ds : List Declared). bytesOf stateLength (loaded ds)) (sym (parts-declared text p))
+    ∙ ap (λ (j : ℕ). encode j (record { rows = map ofCell M; spare = replicate (size - j * 256) 0 })) (sym m)
+    ∙ ap (λ (ds : List Declared). bytesOf size (loaded ds)) (sym (parts-declared most text p))

@@ -41,14 +41,15 @@ fn write(state: &mut [u8], text: &[u8], n: usize, at: usize)
     }
 }
 
-// Clears the state and stores the streams of a text.
-pub fn fill(state: &mut [u8], text: &[u8])
-    requires { ⌜ length (now state) ≡ 12288 ⌝ }
-    ensures { λ _. ⌜ now (state .exit) ≡ filled (now (text .entry)) (now (state .entry)) ⌝ }
+// Clears the state, with room for so many streams, and stores the streams of a text.
+pub fn fill(state: &mut [u8], text: &[u8], most: usize)
+    requires { ⌜ most * 256 ≤ length (now state) ⌝ }
+    ensures { λ _. ⌜ now (state .exit) ≡ filled most (now (text .entry)) (now (state .entry)) ⌝ }
 {
-    match text::read_head(text) {
+    match text::read_head(text, most) {
         Head::Streams(n, at) => {
-            le::clear(state, 0, 12288);
+            let size = state.len();
+            le::clear(state, 0, size);
             write(state, text, n, at);
         }
         Head::Refused(_) => {}

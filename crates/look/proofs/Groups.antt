@@ -2,8 +2,9 @@
 use Prim.Native.Nat.{ℕ, _≤_, _<_}
 use mathlib.Core.Path.{_≡_, refl}
 use native.Mathlib.Omega.{arith}
-use Rattle.meaning.specs.Plan.{Unary, time, neg, set, plus, Calc, add, sub, mul, div, rem, lt, le, eq, Binary, calc, keep, merge, Eqn, input, nil, unit, one, two, last, delay}
-use Rattle.operators.specs.Operators.{numberOf, unaryNumber, calcNumber, binaryNumber}
+use Rattle.meaning.specs.Plan.{Unary, time, neg, set, plus, Binary, calc, keep, merge, Eqn, input, nil, unit, one, two, last, delay}
+use Rattle.operators.specs.Operators.{numberOf, unaryNumber, binaryNumber}
+use Rattle.operators.proofs.Laws.{calc-place}
 
 abbrev Between : ℕ → ℕ → ℕ → Type 0
 Between lo hi n = (lo ≤ n) × (n ≤ hi)
@@ -14,18 +15,8 @@ unary-range neg = (omega arith, omega arith)
 unary-range (set k) = (omega arith, omega arith)
 unary-range (plus k) = (omega arith, omega arith)
 
-calc-range : (g : Calc) → Between 8 17 (calcNumber g)
-calc-range add = (omega arith, omega arith)
-calc-range sub = (omega arith, omega arith)
-calc-range mul = (omega arith, omega arith)
-calc-range div = (omega arith, omega arith)
-calc-range rem = (omega arith, omega arith)
-calc-range lt = (omega arith, omega arith)
-calc-range le = (omega arith, omega arith)
-calc-range eq = (omega arith, omega arith)
-
 binary-range : (g : Binary) → Between 8 17 (binaryNumber g)
-binary-range (calc g) = calc-range g
+binary-range (calc g) = let k = calc-place g in (omega arith, omega arith)
 binary-range keep = (omega arith, omega arith)
 binary-range merge = (omega arith, omega arith)
 

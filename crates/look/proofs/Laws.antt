@@ -13,7 +13,7 @@ use Rattle.meaning.specs.Plan.{nil}
 use Rattle.meaning.specs.Events.{horizon}
 use Rattle.machine.specs.State.{Cell, noKept}
 use Rattle.operators.specs.Operators.{Operator, operators, noOperator, eqnOf, numberOf}
-use Rattle.operators.proofs.Laws.{number-back}
+use Rattle.operators.proofs.Laws.{last-number, delay-number, number-back}
 use Rattle.layout.specs.Record.{Raw, num, opF, aF, bF, kF, flagF, priorFlagF, boundF, keptF, valueF, priorF}
 use Rattle.cells.specs.View.{ofCell}
 use Rattle.cells.specs.Back.{toCell, keptOf, optional}
@@ -74,16 +74,16 @@ module _ (r : Raw) where
 
   pub kept-last : num opF r ≡ 18 → lookOf r .kept ≡ record { prev = optional (num flagF r) (num keptF r); since = 0; value = none; prior = none }
   unfolding keptOf
-  kept-last e = let z : min 0 (lookOf r .bound) ≡ 0 = omega arith in look-kept ∙ rw (e, z)
+  kept-last e = let z : min 0 (lookOf r .bound) ≡ 0 = omega arith in look-kept ∙ rw (last-number, e, z)
 
   pub kept-delay : num opF r ≡ 19
       → lookOf r .kept ≡ record { prev = none; since = min (num keptF r) (lookOf r .bound); value = optional (num flagF r) (num valueF r); prior = optional (num priorFlagF r) (num priorF r) }
   unfolding keptOf
-  kept-delay e = look-kept ∙ rw e
+  kept-delay e = look-kept ∙ rw (last-number, delay-number, e)
 
   pub kept-else : (num opF r ≡ 18 → ⊥) → (num opF r ≡ 19 → ⊥) → lookOf r .kept ≡ noKept
   unfolding keptOf
-  kept-else h k = let z : min 0 (lookOf r .bound) ≡ 0 = omega arith in look-kept ∙ rw (ne-eqb _ _ h, ne-eqb _ _ k, z)
+  kept-else h k = let z : min 0 (lookOf r .bound) ≡ 0 = omega arith in look-kept ∙ rw (last-number, delay-number, ne-eqb _ _ h, ne-eqb _ _ k, z)
 
   -- a record with bound and set point within their ranges is looked at as its cell
   pub look-valid : num boundF r ≤ horizon → toCell r .kept .since ≤ num boundF r → lookOf r ≡ toCell r

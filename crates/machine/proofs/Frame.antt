@@ -6,10 +6,10 @@ use native.Mathlib.Omega.{arith}
 use native.Mathlib.Decide.{decLt}
 use lib.Dec.{T}
 use lib.ListN.{length, set, length-set, length-map}
-use Rattle.meaning.specs.Plan.{isInput, reads}
+use Rattle.meaning.specs.Plan.{isInput, reads, argA, argB}
 use Rattle.meaning.specs.Events.{Event}
 use Rattle.machine.specs.State.{Cell, State, cellAt, withKept}
-use Rattle.machine.specs.Step.{argA, argB, advance, absorb, absorbed, write, told, tell, raise}
+use Rattle.machine.specs.Step.{advance, absorb, absorbed, write, told, tell, raise}
 use Rattle.machine.proofs.Cells.{set-cases, told-at, beyond}
 use Rattle.machine.proofs.Release.{Frame, looser-frame, releases-looser}
 

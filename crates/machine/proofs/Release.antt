@@ -9,10 +9,9 @@ use native.Mathlib.Decide.{decLt}
 use lib.Dec.{T, eqb, eqb→eq, eqb-refl}
 use lib.ListN.{length, set, length-set}
 use lib.Seq.{set-out, getD-set-same, getD-set-other}
-use Rattle.meaning.specs.Plan.{Eqn, input, nil, unit, one, two, last, delay, reads}
+use Rattle.meaning.specs.Plan.{Eqn, input, nil, unit, one, two, last, delay, reads, Each}
 use Rattle.meaning.specs.Events.{Event, horizon}
 use Rattle.meaning.proofs.Tests.{Is, yes!, no!, look, true-is, T-or, T-or-l, T-or-r}
-use Rattle.meaning.proofs.Each.{Each}
 use Rattle.machine.specs.State.{Cell, State, absent, cellAt, withHeld}
 use Rattle.machine.specs.Step.{readsIt, leastReader, leastWaiting, dropBelow, release, releases}
 use Rattle.machine.proofs.Cells.{beyond, eqb-ne}

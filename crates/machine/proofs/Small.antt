@@ -7,12 +7,12 @@ use Prim.Native.Nat.{ℕ, zero, suc, _+_, _≤_, _<_}
 use native.Mathlib.Omega.{arith}
 use lib.Dec.{T, leb, ltb, ltb→lt, nleb→lt}
 use lib.ListN.{length, set, length-append, length-set}
-use Rattle.meaning.specs.Plan.{reads, isInput}
+use Rattle.meaning.specs.Plan.{reads, isInput, argA, argB}
 use Rattle.meaning.specs.Events.{Event, ev, horizon}
 use Rattle.meaning.proofs.Tests.{Is, yes!, no!, look, not-twice}
 use Rattle.machine.specs.State.{Cell, State, cellAt, room, withKept, withBound, withNext}
 use Rattle.machine.specs.Reach.{Next, event, silent}
-use Rattle.machine.specs.Step.{argA, argB, advance, absorb, absorbed, write, told, tell, dropBelow, leastWaiting, releases, raise, ahead, newBound, added, canMove, comesIn, move}
+use Rattle.machine.specs.Step.{advance, absorb, absorbed, write, told, tell, dropBelow, leastWaiting, releases, raise, ahead, newBound, added, canMove, comesIn, move}
 use Rattle.machine.specs.Calls.{Call, reading, progress, moving, running, collecting, noInput, noEquation, offerReading, offerProgress, moveOne, lowest, run, oldest, handOut, collect, call}
 use Rattle.machine.proofs.Cells.{set-cases, told-at}
 use Rattle.machine.proofs.Rising.{drop-shorter}

@@ -60,6 +60,9 @@ pub record Declared : Type 0 where
   pub eqn : Eqn
   pub out : Bool
 
+abbrev pub declaredPlan : List Declared → Plan
+declaredPlan ds = map (λ d. d .eqn) ds
+
 -- a stream as load leaves it: "a fresh state, all bounds 0"
 abbrev pub fresh : Declared → Cell
 fresh d = record { eqn = d .eqn; out = d .out; bound = 0; held = []; next = 0; kept = noKept }

@@ -6,30 +6,11 @@ use mathlib.Core.List.{List, [], _∷_, _++_, map}
 use lib.Dec.{leb, ltb, eqb}
 use lib.ListN.{length, set}
 use lib.IntN.{ℤ}
-use Rattle.meaning.specs.Plan.{Eqn, input, nil, unit, one, two, last, delay, isInput, reads}
+use Rattle.meaning.specs.Plan.{Eqn, input, nil, unit, one, two, last, delay, isInput, reads, argA, argB}
 use Rattle.meaning.specs.Events.{Event, ev, found, horizon, orElse}
 use Rattle.meaning.specs.Table.{latest}
 use Rattle.machine.specs.State.{Kept, Cell, State, cellAt, room, withBound, withHeld, withKept, withPrev, withSince, withValue, withPrior}
 use Rattle.machine.specs.Reach.{view, pastLatest, valueAt, Next, event, silent, decide}
-
--- the arguments of an equation; 0 where its operator uses none
-abbrev pub argA : Eqn → ℕ
-argA input = 0
-argA nil = 0
-argA unit = 0
-argA (one f a) = a
-argA (two g a b) = a
-argA (last a b) = a
-argA (delay a b) = a
-
-abbrev pub argB : Eqn → ℕ
-argB input = 0
-argB nil = 0
-argB unit = 0
-argB (one f a) = 0
-argB (two g a b) = b
-argB (last a b) = b
-argB (delay a b) = b
 
 -- ---- Write: the bound goes to y, with the new events below it; own kept data follows
 
@@ -64,15 +45,18 @@ write s y new M = absorbed s (set M s (advance y new (cellAt M s)))
 
 -- ---- Tell: every reader of s whose bound is above the new event's stamp takes what it needs of it
 
+-- a or one of the list is s
+abbrev pub anyFrom : ℕ → ℕ → List ℕ → Bool
+anyFrom s a [] = eqb a s
+anyFrom s a (b ∷ l) = eqb a s || anyFrom s b l
+
+abbrev pub anyOf : ℕ → List ℕ → Bool
+anyOf s [] = false
+anyOf s (a ∷ l) = anyFrom s a l
+
 -- the equation reads stream s
 abbrev pub readsIt : ℕ → Eqn → Bool
-readsIt s input = false
-readsIt s nil = false
-readsIt s unit = false
-readsIt s (one f a) = eqb a s
-readsIt s (two g a b) = eqb a s || eqb b s
-readsIt s (last a b) = eqb a s || eqb b s
-readsIt s (delay a b) = eqb a s || eqb b s
+readsIt s e = anyOf s (reads e)
 
 -- a delay with bound y: a's event at its latest set point; a's event just below its bound; b's event there, a new set point
 abbrev pub valueTold : Bool → (t : ℕ) → ℤ → Kept → Kept

@@ -5,10 +5,9 @@ use Prim.Native.Nat.{ℕ, zero, suc, _<_}
 use native.Mathlib.Nat.{lt-suc-self}
 use native.Mathlib.Omega.{arith}
 use lib.Dec.{T, ltb}
-use Rattle.meaning.specs.Plan.{Eqn, input, nil, unit, one, two, last, delay, isInput, undelayed}
+use Rattle.meaning.specs.Plan.{Eqn, input, nil, unit, one, two, last, delay, isInput, undelayed, Each}
 use Rattle.meaning.specs.Events.{Stream, Streams, has, events}
 use Rattle.meaning.specs.Table.{latest, any-below, fires, delay-at, at}
-use Rattle.meaning.proofs.Each.{Each}
 
 -- two streams agree below t
 abbrev pub SameBelow : ℕ → Stream → Stream → Type 0

@@ -18,6 +18,7 @@ use Rattle.machine.specs.Reach.{view, valueAt}
 use Rattle.machine.specs.Step.{later, absorb}
 use Rattle.machine.proofs.Window.{past-le}
 use Rattle.le.proofs.RoundTrip.{All}
+use Rattle.operators.specs.Operators.{groupOf, isLast, isDelay}
 use Rattle.layout.specs.Record.{Slot, Raw, num, opF, countF, flagF, priorFlagF, keptF, valueF, priorF}
 use Rattle.layout.proofs.Laws.{RawOk, SlotOk, num-small, num-ok}
 use Rattle.cells.specs.View.{flagOf, bitsOf}
@@ -58,7 +59,7 @@ pub record KeptFits (k : Kept) : Type 0 where
 
 kept-of : (r : Raw) → RawOk r → IsOptional (keptOf r .prev) × IsOptional (keptOf r .value) × IsOptional (keptOf r .prior)
 unfolding keptOf
-kept-of r ok = go (eqb (num opF r) 18) (eqb (num opF r) 19)
+kept-of r ok = go (isLast (groupOf (num opF r))) (isDelay (groupOf (num opF r)))
   where
     p : ℕ
     p = num keptF r
@@ -119,8 +120,8 @@ kept-ok k r f ok =
     let r₂ = valueKept (flagOf (k .value)) (bitsOf (k .value)) r₁ in
     let last′ = lastKept (flagOf (k .prev)) (bitsOf (k .prev)) r in
     let delay′ = priorKept (flagOf (k .prior)) (bitsOf (k .prior)) r₂ in
-    cond-ok (eqb (num opF r) 18) last′ (cond (eqb (num opF r) 19) delay′ r)
+    cond-ok (isLast (groupOf (num opF r))) last′ (cond (isDelay (groupOf (num opF r))) delay′ r)
     (last-ok (flagOf (k .prev)) (bitsOf (k .prev)) r (flag-below (k .prev)) (bits-small (k .prev) (f .prev)) ok)
-    (cond-ok (eqb (num opF r) 19) delay′ r
+    (cond-ok (isDelay (groupOf (num opF r))) delay′ r
     (prior-ok (flagOf (k .prior)) (bitsOf (k .prior)) r₂ (flag-below (k .prior)) (bits-small (k .prior) (f .prior))
     (value-ok (flagOf (k .value)) (bitsOf (k .value)) r₁ (flag-below (k .value)) (bits-small (k .value) (f .value)) (num-ok r keptF (k .since) ok (omega arith)))) ok)

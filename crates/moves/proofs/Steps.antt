@@ -12,6 +12,7 @@ use Rattle.meaning.specs.Events.{horizon}
 use Rattle.machine.specs.State.{room, Kept}
 use Rattle.machine.specs.Step.{absorb}
 use Rattle.le.specs.Bytes.{Bytes}
+use Rattle.operators.proofs.Laws.{last-number, delay-number}
 use Rattle.layout.specs.Record.{Slot, Raw, Raws, noRaw, num, withNum, dropped, encode, decode, rowAt, change, changeAll, opF, aF, bF, countF, boundF}
 use Rattle.layout.proofs.Laws.{RawOk, RawsOk, raws-ok, row-ok, change-ok, changeAll-ok, num-ok, num-small, whole-then}
 use Rattle.layout.proofs.Slots.{shift-ok}
@@ -29,7 +30,7 @@ unfolding keptRow
 kept-none k r h =
     let p : num opF r ≡ 18 → ⊥ = λ q. absurd (omega arith) in
     let l : num opF r ≡ 19 → ⊥ = λ q. absurd (omega arith) in
-    rw (ne-eqb _ _ p, ne-eqb _ _ l)
+    rw (last-number, delay-number, ne-eqb _ _ p, ne-eqb _ _ l)
 
 pub absorb-none : (n i : ℕ) (st : Raws) → num opF (rowAt st i) < 18 → absorbedRaw n i st ≡ st
 unfolding absorbedRaw

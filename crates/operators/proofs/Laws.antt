@@ -1,47 +1,130 @@
--- The operator table read both ways.
-use Prim.Native.Nat.{ℕ, _≤_}
-use mathlib.Core.Path.{_≡_, refl}
-use mathlib.Core.Bool.{cond}
-use mathlib.Core.List.{[], _∷_}
+-- The operator table read both ways, each law proved once by computing over the table.
+use Prim.Native.Nat.{ℕ, _+_, _≤_, _<_}
+use mathlib.Core.Path.{_≡_, refl, sym, ap, _∙_}
+use mathlib.Core.Bool.{Bool, true, false, cond, _&&_}
+use mathlib.Core.List.{map}
 use native.Mathlib.Omega.{arith}
-use lib.Dec.{eqb, lit≤}
+use borrow.Author.Tests.{leb-true, leb-false, lt-leb, ne-eqb}
+use lib.Dec.{leb, eqb, lit≤}
+use lib.ListN.{getD, List·getD-eq-default}
 use lib.IntN.{ℤ, pos}
-use Rattle.meaning.specs.Plan.{time, neg, set, plus, Calc, add, sub, mul, div, rem, lt, le, eq, calc, keep, merge, Eqn, input, nil, unit, one, two, last, delay, isInput, undelayed, reads}
-use Rattle.operators.specs.Operators.{operatorCount, calcNumber, eqnOf, numberOf, firstOf, secondOf, valueOf, usesA, usesB, usesK, delaysA}
-use Rattle.operators.proofs.Numbers.{listed, agree}
+use Rattle.meaning.specs.Plan.{Unary, time, neg, set, plus, Calc, add, sub, mul, div, rem, lt, le, eq, Binary, calc, keep, merge, Eqn, input, nil, unit, one, two, last, delay, isInput, arguments, argA, argB}
+use Rattle.operators.specs.Operators.{Operator, noOperator, operators, operatorCount, calcs, calcPlace, unaryNumber, binaryNumber, groupOf, eqnOf, numberOf, valueOf, isPresent, isIn, isLast, isDelay, takesFirst, takesSecond, isOperator, usesA, usesB, usesK, argumentsOf, eqnGroup}
+use Rattle.operators.specs.declared.Group.{Group}
+use Rattle.operators.specs.declared.Group.the-variants.{Absent, One, Two}
+use Rattle.operators.proofs.Tests.{left, right}
+use Rattle.operators.proofs.Numbers.{listed, agree, agreeing}
 
--- every equation is its number with its fields
-pub eqn-back : (e : Eqn) → eqnOf (numberOf e) (firstOf e) (secondOf e) (valueOf e) ≡ e
-unfolding eqnOf numberOf firstOf secondOf valueOf
-eqn-back input = refl
-eqn-back nil = refl
-eqn-back unit = refl
-eqn-back (one time a) = refl
-eqn-back (one (set k) a) = refl
-eqn-back (one (plus k) a) = refl
-eqn-back (one neg a) = refl
-eqn-back (two (calc add) a b) = refl
-eqn-back (two (calc sub) a b) = refl
-eqn-back (two (calc mul) a b) = refl
-eqn-back (two (calc div) a b) = refl
-eqn-back (two (calc rem) a b) = refl
-eqn-back (two (calc lt) a b) = refl
-eqn-back (two (calc le) a b) = refl
-eqn-back (two (calc eq) a b) = refl
-eqn-back (two keep a b) = refl
-eqn-back (two merge a b) = refl
-eqn-back (last a b) = refl
-eqn-back (delay a b) = refl
+and-false : (x : Bool) → (x && false) ≡ false
+and-false true = refl
+and-false false = refl
 
-calc-range : (g : Calc) → (8 ≤ calcNumber g) × (calcNumber g ≤ 15)
-calc-range add = (lit≤ tt, lit≤ tt)
-calc-range sub = (lit≤ tt, lit≤ tt)
-calc-range mul = (lit≤ tt, lit≤ tt)
-calc-range div = (lit≤ tt, lit≤ tt)
-calc-range rem = (lit≤ tt, lit≤ tt)
-calc-range lt = (lit≤ tt, lit≤ tt)
-calc-range le = (lit≤ tt, lit≤ tt)
-calc-range eq = (lit≤ tt, lit≤ tt)
+-- ---- the calculations
+
+pub calc-placed : (g : Calc) → getD calcs (calcPlace g) add ≡ g
+calc-placed add = refl
+calc-placed sub = refl
+calc-placed mul = refl
+calc-placed div = refl
+calc-placed rem = refl
+calc-placed lt = refl
+calc-placed le = refl
+calc-placed eq = refl
+
+pub calc-place : (g : Calc) → calcPlace g ≤ 7
+calc-place add = lit≤ tt
+calc-place sub = lit≤ tt
+calc-place mul = lit≤ tt
+calc-place div = lit≤ tt
+calc-place rem = lit≤ tt
+calc-place lt = lit≤ tt
+calc-place le = lit≤ tt
+calc-place eq = lit≤ tt
+
+-- ---- laws by computing over the table
+
+-- what two functions of a row give at every row of the table, they give at every number, with a row or not
+by-row : {A : Type 0} (f g : Operator → A) → f noOperator ≡ g noOperator → map f operators ≡ map g operators → (n : ℕ) → f (getD operators n noOperator) ≡ g (getD operators n noOperator)
+by-row f g = agreeing f g operators noOperator
+
+-- what two functions of the stored number give at all nineteen, they give at every one
+everywhere : {A : Type 0} (f g : ℕ → A) → listed f 1 operatorCount ≡ listed g 1 operatorCount → (n : ℕ) → 1 ≤ n → n ≤ operatorCount → f n ≡ g n
+everywhere f g e n l h = agree f g 1 operatorCount e n l (omega arith)
+
+-- what two functions of a place among the calculations give at all eight, they give at the place of each
+every-calc : {A : Type 0} (f g : ℕ → A) → listed f 0 8 ≡ listed g 0 8 → (c : Calc) → f (calcPlace c) ≡ g (calcPlace c)
+every-calc f g e c = let h = calc-place c in agree f g 0 8 e (calcPlace c) (omega arith) (omega arith)
+
+-- ---- groups
+
+-- from lo on, k numbers have the group x
+pub group-range : (x : Group) (lo k : ℕ) → listed groupOf lo k ≡ listed (λ n. x) lo k → (n : ℕ) → lo ≤ n → n < lo + k → groupOf n ≡ x
+group-range x = agree groupOf (λ n. x)
+
+-- a number above the table has no row
+pub none-above : (n : ℕ) → operatorCount < n → getD operators n noOperator ≡ noOperator
+none-above n h = List·getD-eq-default operators noOperator {n = n} h
+
+pub absent-above : (n : ℕ) → operatorCount < n → groupOf n ≡ Absent
+unfolding groupOf
+absent-above n h = rw (none-above n h)
+
+pub one-group : (f : Unary) → groupOf (unaryNumber f) ≡ One
+unfolding groupOf
+one-group time = refl
+one-group (set k) = refl
+one-group (plus k) = refl
+one-group neg = refl
+
+pub two-group : (g : Binary) → groupOf (binaryNumber g) ≡ Two
+unfolding groupOf
+two-group (calc g) = every-calc (λ p. groupOf (8 + p)) (λ p. Two) refl g
+two-group keep = refl
+two-group merge = refl
+
+pub two-value : (g : Binary) → usesK (binaryNumber g) ≡ false
+unfolding usesK
+two-value (calc g) = every-calc (λ p. usesK (8 + p)) (λ p. false) refl g
+two-value keep = refl
+two-value merge = refl
+
+-- the group of an equation's number, by the shape of the equation
+pub group-of : (e : Eqn) → groupOf (numberOf e) ≡ eqnGroup e
+unfolding groupOf numberOf
+group-of input = refl
+group-of nil = refl
+group-of unit = refl
+group-of (one f a) = one-group f
+group-of (two g a b) = two-group g
+group-of (last a b) = refl
+group-of (delay a b) = refl
+
+pub in-of : (e : Eqn) → isIn (groupOf (numberOf e)) ≡ isInput e
+in-of e = ap isIn (group-of e) ∙ shape e
+  where
+    shape : (e : Eqn) → isIn (eqnGroup e) ≡ isInput e
+    shape input = refl
+    shape nil = refl
+    shape unit = refl
+    shape (one f a) = refl
+    shape (two g a b) = refl
+    shape (last a b) = refl
+    shape (delay a b) = refl
+
+-- and its arguments
+pub arguments-of : (e : Eqn) → argumentsOf (groupOf (numberOf e)) (argA e) (argB e) ≡ arguments e
+arguments-of e = ap (λ g. argumentsOf g (argA e) (argB e)) (group-of e) ∙ shape e
+  where
+    shape : (e : Eqn) → argumentsOf (eqnGroup e) (argA e) (argB e) ≡ arguments e
+    shape input = refl
+    shape nil = refl
+    shape unit = refl
+    shape (one f a) = refl
+    shape (two g a b) = refl
+    shape (last a b) = refl
+    shape (delay a b) = refl
+
+-- ---- from an equation to its row
 
 -- every stored number is one of the nineteen
 pub number-range : (e : Eqn) → (1 ≤ numberOf e) × (numberOf e ≤ operatorCount)
@@ -53,42 +136,98 @@ number-range (one time a) = (lit≤ tt, lit≤ tt)
 number-range (one (set k) a) = (lit≤ tt, lit≤ tt)
 number-range (one (plus k) a) = (lit≤ tt, lit≤ tt)
 number-range (one neg a) = (lit≤ tt, lit≤ tt)
-number-range (two (calc g) a b) = let r = calc-range g in (omega arith, omega arith)
+number-range (two (calc g) a b) = let r = calc-place g in (omega arith, omega arith)
 number-range (two keep a b) = (lit≤ tt, lit≤ tt)
 number-range (two merge a b) = (lit≤ tt, lit≤ tt)
 number-range (last a b) = (lit≤ tt, lit≤ tt)
 number-range (delay a b) = (lit≤ tt, lit≤ tt)
 
--- what two functions of the stored number have at all nineteen, they have at every one
-everywhere : {A : Type 0} (f g : ℕ → A) → listed f 1 operatorCount ≡ listed g 1 operatorCount → (n : ℕ) → 1 ≤ n → n ≤ operatorCount → f n ≡ g n
-everywhere f g e n l h = agree f g 1 operatorCount e n l (omega arith)
+-- every equation is its number with its fields: the row of its number makes it again
+pub eqn-back : (e : Eqn) → eqnOf (numberOf e) (argA e) (argB e) (valueOf e) ≡ e
+unfolding eqnOf numberOf valueOf
+eqn-back input = refl
+eqn-back nil = refl
+eqn-back unit = refl
+eqn-back (one time a) = refl
+eqn-back (one (set k) a) = refl
+eqn-back (one (plus k) a) = refl
+eqn-back (one neg a) = refl
+eqn-back (two (calc g) a b) = every-calc (λ p. eqnOf (8 + p) a b (pos 0)) (λ p. two (calc (getD calcs p add)) a b) refl g ∙ ap (λ c. two (calc c) a b) (calc-placed g)
+eqn-back (two keep a b) = refl
+eqn-back (two merge a b) = refl
+eqn-back (last a b) = refl
+eqn-back (delay a b) = refl
+
+-- ---- from a row to its equation
+
+-- a test of rows that just the numbers from lo to hi pass
+by-range : (f : Operator → Bool) (lo hi : ℕ) → hi ≤ operatorCount → f noOperator ≡ false → listed (λ n. f (getD operators n noOperator)) 0 20 ≡ listed (λ n. leb lo n && leb n hi) 0 20
+    → (n : ℕ) → f (getD operators n noOperator) ≡ (leb lo n && leb n hi)
+by-range f lo hi t d e n = go (leb n operatorCount) refl
+  where
+    go : (b : Bool) → leb n operatorCount ≡ b → f (getD operators n noOperator) ≡ (leb lo n && leb n hi)
+    go true q = let h = leb-true n operatorCount q in agree (λ m. f (getD operators m noOperator)) (λ m. leb lo m && leb m hi) 0 20 e n (omega arith) (omega arith)
+    go false q = let h = leb-false n operatorCount q in rw (none-above n h, d, lt-leb n hi (omega arith)) (sym (and-false (leb lo n)))
+
+-- a number is an operator's just where it is one of the nineteen
+pub operator-range : (n : ℕ) → isOperator n ≡ (leb 1 n && leb n operatorCount)
+unfolding groupOf
+operator-range = by-range (λ o. isPresent (o .group)) 1 operatorCount (lit≤ tt) refl refl
+
+-- the number of an operator
+pub operator-low : (n : ℕ) → isOperator n ≡ true → 1 ≤ n
+operator-low n e = leb-true 1 n (left (leb 1 n) (leb n operatorCount) (sym (operator-range n) ∙ e))
+
+pub operator-high : (n : ℕ) → isOperator n ≡ true → n ≤ operatorCount
+operator-high n e = leb-true n operatorCount (right (leb 1 n) (leb n operatorCount) (sym (operator-range n) ∙ e))
+
+-- one number alone passes a test of groups
+by-number : (f : Group → Bool) (m : ℕ) → m ≤ operatorCount → f Absent ≡ false → listed (λ n. f (groupOf n)) 0 20 ≡ listed (λ n. eqb n m) 0 20 → (n : ℕ) → f (groupOf n) ≡ eqb n m
+by-number f m t d e n = go (leb n operatorCount) refl
+  where
+    go : (b : Bool) → leb n operatorCount ≡ b → f (groupOf n) ≡ eqb n m
+    go true q = let h = leb-true n operatorCount q in agree (λ x. f (groupOf x)) (λ x. eqb x m) 0 20 e n (omega arith) (omega arith)
+    go false q = let h = leb-false n operatorCount q in ap f (absent-above n h) ∙ d ∙ sym (ne-eqb n m (λ z. omega arith))
+
+pub in-number : (n : ℕ) → isIn (groupOf n) ≡ eqb n 1
+unfolding groupOf
+in-number = by-number isIn 1 (lit≤ tt) refl refl
+
+pub last-number : (n : ℕ) → isLast (groupOf n) ≡ eqb n 18
+unfolding groupOf
+last-number = by-number isLast 18 (lit≤ tt) refl refl
+
+pub delay-number : (n : ℕ) → isDelay (groupOf n) ≡ eqb n 19
+unfolding groupOf
+delay-number = by-number isDelay 19 (lit≤ tt) refl refl
+
+-- set and plus
+pub value-range : (n : ℕ) → usesK n ≡ (leb 5 n && leb n 6)
+unfolding usesK
+value-range = by-range (λ o. o .value) 5 6 (lit≤ tt) refl refl
 
 module _ (a b : ℕ) (k : ℤ) where
   pub number-back : (n : ℕ) → 1 ≤ n → n ≤ operatorCount → numberOf (eqnOf n a b k) ≡ n
   unfolding eqnOf numberOf
   number-back = everywhere (λ n. numberOf (eqnOf n a b k)) (λ n. n) refl
 
-  pub first-back : (n : ℕ) → 1 ≤ n → n ≤ operatorCount → firstOf (eqnOf n a b k) ≡ cond (usesA n) a 0
-  unfolding eqnOf firstOf
-  first-back = everywhere (λ n. firstOf (eqnOf n a b k)) (λ n. cond (usesA n) a 0) refl
+  pub first-back : (n : ℕ) → argA (eqnOf n a b k) ≡ cond (usesA n) a 0
+  unfolding eqnOf groupOf
+  first-back = by-row (λ o. argA (o .eqn a b k)) (λ o. cond (takesFirst (o .group)) a 0) refl refl
 
-  pub second-back : (n : ℕ) → 1 ≤ n → n ≤ operatorCount → secondOf (eqnOf n a b k) ≡ cond (usesB n) b 0
-  unfolding eqnOf secondOf
-  second-back = everywhere (λ n. secondOf (eqnOf n a b k)) (λ n. cond (usesB n) b 0) refl
+  pub second-back : (n : ℕ) → argB (eqnOf n a b k) ≡ cond (usesB n) b 0
+  unfolding eqnOf groupOf
+  second-back = by-row (λ o. argB (o .eqn a b k)) (λ o. cond (takesSecond (o .group)) b 0) refl refl
 
-  pub value-back : (n : ℕ) → 1 ≤ n → n ≤ operatorCount → valueOf (eqnOf n a b k) ≡ cond (usesK n) k (pos 0)
-  unfolding eqnOf valueOf
-  value-back = everywhere (λ n. valueOf (eqnOf n a b k)) (λ n. cond (usesK n) k (pos 0)) refl
+  pub value-back : (n : ℕ) → valueOf (eqnOf n a b k) ≡ cond (usesK n) k (pos 0)
+  unfolding eqnOf usesK valueOf
+  value-back = by-row (λ o. valueOf (o .eqn a b k)) (λ o. cond (o .value) k (pos 0)) refl refl
 
-  -- the arguments by the groups of the stored number
-  pub reads-by-number : (n : ℕ) → 1 ≤ n → n ≤ operatorCount → reads (eqnOf n a b k) ≡ cond (usesB n) (a ∷ b ∷ []) (cond (usesA n) (a ∷ []) [])
-  unfolding eqnOf
-  reads-by-number = everywhere (λ n. reads (eqnOf n a b k)) (λ n. cond (usesB n) (a ∷ b ∷ []) (cond (usesA n) (a ∷ []) [])) refl
+  -- the arguments by the group of the stored number
+  pub arguments-by-number : (n : ℕ) → arguments (eqnOf n a b k) ≡ argumentsOf (groupOf n) a b
+  unfolding eqnOf groupOf
+  arguments-by-number = by-row (λ o. arguments (o .eqn a b k)) (λ o. argumentsOf (o .group) a b) refl refl
 
-  pub undelayed-by-number : (n : ℕ) → 1 ≤ n → n ≤ operatorCount → undelayed (eqnOf n a b k) ≡ cond (delaysA n) (b ∷ []) (reads (eqnOf n a b k))
-  unfolding eqnOf
-  undelayed-by-number = everywhere (λ n. undelayed (eqnOf n a b k)) (λ n. cond (delaysA n) (b ∷ []) (reads (eqnOf n a b k))) refl
-
-  pub input-by-number : (n : ℕ) → 1 ≤ n → n ≤ operatorCount → isInput (eqnOf n a b k) ≡ eqb n 1
-  unfolding eqnOf
-  input-by-number = everywhere (λ n. isInput (eqnOf n a b k)) (λ n. eqb n 1) refl
+  pub input-by-number : (n : ℕ) → isInput (eqnOf n a b k) ≡ isIn (groupOf n)
+  unfolding eqnOf groupOf
+  input-by-number = by-row (λ o. isInput (o .eqn a b k)) (λ o. isIn (o .group)) refl refl

@@ -1,8 +1,9 @@
--- Two functions that agree at each stored number, by computing both, agree at every one: one law instead of nineteen cases.
+-- Two functions that agree at each row of a table, by computing both, agree at every one: one law instead of a case for each row.
 use Prim.Native.Nat.{ℕ, zero, suc, _+_, _≤_, _<_}
 use mathlib.Core.Path.{_≡_, sym, ap, _∙_}
 use mathlib.Core.Logic.{⊎-elim}
-use mathlib.Core.List.{List, [], _∷_}
+use mathlib.Core.List.{List, [], _∷_, map}
+use lib.ListN.{getD}
 use native.Mathlib.Omega.{arith}
 use native.Mathlib.Nat.{eq-or-lt-of-le}
 
@@ -26,3 +27,9 @@ agree f g lo (suc k) e n l h =
     (λ m. ap f (sym m) ∙ ap (firstOr (f lo)) e ∙ ap g m)
     (λ m. agree f g (suc lo) k (ap tailOf e) n m (omega arith))
     (eq-or-lt-of-le l)
+
+-- the same of functions of what a list holds, d where it ends
+pub agreeing : {X A : Type 0} (f g : X → A) (l : List X) (d : X) → f d ≡ g d → map f l ≡ map g l → (n : ℕ) → f (getD l n d) ≡ g (getD l n d)
+agreeing f g [] d q e n = q
+agreeing f g (x ∷ l) d q e zero = ap (firstOr (f d)) e
+agreeing f g (x ∷ l) d q e (suc n) = agreeing f g l d q (ap tailOf e) n

@@ -1,49 +1,76 @@
--- The operator table: each operator's name, its stored number, and the equation that it makes of the fields of a stream.
-use Prim.Native.Nat.{ℕ}
-use mathlib.Core.Bool.{Bool, _&&_}
-use mathlib.Core.List.{List, [], _∷_}
-use lib.Dec.{leb}
+-- The operator table: each operator's name, its stored number, its group, and the equation that it makes of the fields of a stream.
+use Prim.Native.Nat.{ℕ, _+_}
+use mathlib.Core.Bool.{Bool, true, false}
+use mathlib.Core.List.{List, [], _∷_, _++_, map}
 use lib.ListN.{getD}
 use lib.IntN.{ℤ, pos}
-use Rattle.meaning.specs.Plan.{Unary, time, neg, set, plus, Calc, add, sub, mul, div, rem, lt, le, eq, Binary, calc, keep, merge, Eqn, input, nil, unit, one, two, last, delay}
+use Rattle.meaning.specs.Plan.{Unary, time, neg, set, plus, Calc, add, sub, mul, div, rem, lt, le, eq, Binary, calc, keep, merge, Eqn, input, nil, unit, one, two, last, delay, Argument, prompt, late}
+use Rattle.operators.specs.declared.Group.{Group}
+use Rattle.operators.specs.declared.Group.the-variants.{Absent, Input, Plain, One, Two, Last, Delay}
 
--- An operator: its name in bytes, and its equation with the arguments a and b and the value k.
+-- An operator: its name in bytes, its group, whether it uses a value k, and its equation with the arguments a and b and the value k.
 -- "In the engine a stream is its operator with just the arguments which that operator uses."
 pub record Operator : Type 0 where
   pub name : List ℕ
+  pub group : Group
+  pub value : Bool
   pub eqn : ℕ → ℕ → ℤ → Eqn
 
-abbrev pub operator : List ℕ → (ℕ → ℕ → ℤ → Eqn) → Operator
-operator name eqn = record { name = name; eqn = eqn }
+abbrev pub operator : List ℕ → Group → Bool → (ℕ → ℕ → ℤ → Eqn) → Operator
+operator name group value eqn = record { name = name; group = group; value = value; eqn = eqn }
 
 -- what stands for a number that no operator has
 abbrev pub noOperator : Operator
-noOperator = operator [] (λ a b k. nil)
+noOperator = operator [] Absent false (λ a b k. nil)
+
+-- ---- the calculations, in the order of their numbers
+
+abbrev pub calcs : List Calc
+calcs = add ∷ sub ∷ mul ∷ div ∷ rem ∷ lt ∷ le ∷ eq ∷ []
+
+abbrev pub calcName : Calc → List ℕ
+calcName add = 97 ∷ 100 ∷ 100 ∷ []
+calcName sub = 115 ∷ 117 ∷ 98 ∷ []
+calcName mul = 109 ∷ 117 ∷ 108 ∷ []
+calcName div = 100 ∷ 105 ∷ 118 ∷ []
+calcName rem = 114 ∷ 101 ∷ 109 ∷ []
+calcName lt = 108 ∷ 116 ∷ []
+calcName le = 108 ∷ 101 ∷ []
+calcName eq = 101 ∷ 113 ∷ []
+
+-- the place of a calculation in that list
+abbrev pub calcPlace : Calc → ℕ
+calcPlace add = 0
+calcPlace sub = 1
+calcPlace mul = 2
+calcPlace div = 3
+calcPlace rem = 4
+calcPlace lt = 5
+calcPlace le = 6
+calcPlace eq = 7
+
+abbrev pub calcRow : Calc → Operator
+calcRow g = operator (calcName g) Two false (λ a b k. two (calc g) a b)
+
+-- ---- the table
 
 -- "The op line names one of nineteen operators." The stored number is the place in this list; place 0 is no operator.
 abbrev pub operators : List Operator
 operators =
     noOperator
-    ∷ operator (105 ∷ 110 ∷ []) (λ a b k. input)  -- 1 in
-    ∷ operator (110 ∷ 105 ∷ 108 ∷ []) (λ a b k. nil)  -- 2 nil
-    ∷ operator (117 ∷ 110 ∷ 105 ∷ 116 ∷ []) (λ a b k. unit)  -- 3 unit
-    ∷ operator (116 ∷ 105 ∷ 109 ∷ 101 ∷ []) (λ a b k. one time a)  -- 4 time
-    ∷ operator (115 ∷ 101 ∷ 116 ∷ []) (λ a b k. one (set k) a)  -- 5 set
-    ∷ operator (112 ∷ 108 ∷ 117 ∷ 115 ∷ []) (λ a b k. one (plus k) a)  -- 6 plus
-    ∷ operator (110 ∷ 101 ∷ 103 ∷ []) (λ a b k. one neg a)  -- 7 neg
-    ∷ operator (97 ∷ 100 ∷ 100 ∷ []) (λ a b k. two (calc add) a b)  -- 8 add
-    ∷ operator (115 ∷ 117 ∷ 98 ∷ []) (λ a b k. two (calc sub) a b)  -- 9 sub
-    ∷ operator (109 ∷ 117 ∷ 108 ∷ []) (λ a b k. two (calc mul) a b)  -- 10 mul
-    ∷ operator (100 ∷ 105 ∷ 118 ∷ []) (λ a b k. two (calc div) a b)  -- 11 div
-    ∷ operator (114 ∷ 101 ∷ 109 ∷ []) (λ a b k. two (calc rem) a b)  -- 12 rem
-    ∷ operator (108 ∷ 116 ∷ []) (λ a b k. two (calc lt) a b)  -- 13 lt
-    ∷ operator (108 ∷ 101 ∷ []) (λ a b k. two (calc le) a b)  -- 14 le
-    ∷ operator (101 ∷ 113 ∷ []) (λ a b k. two (calc eq) a b)  -- 15 eq
-    ∷ operator (107 ∷ 101 ∷ 101 ∷ 112 ∷ []) (λ a b k. two keep a b)  -- 16 keep
-    ∷ operator (109 ∷ 101 ∷ 114 ∷ 103 ∷ 101 ∷ []) (λ a b k. two merge a b)  -- 17 merge
-    ∷ operator (108 ∷ 97 ∷ 115 ∷ 116 ∷ []) (λ a b k. last a b)  -- 18 last
-    ∷ operator (100 ∷ 101 ∷ 108 ∷ 97 ∷ 121 ∷ []) (λ a b k. delay a b)  -- 19 delay
-    ∷ []
+    ∷ operator (105 ∷ 110 ∷ []) Input false (λ a b k. input)  -- 1 in
+    ∷ operator (110 ∷ 105 ∷ 108 ∷ []) Plain false (λ a b k. nil)  -- 2 nil
+    ∷ operator (117 ∷ 110 ∷ 105 ∷ 116 ∷ []) Plain false (λ a b k. unit)  -- 3 unit
+    ∷ operator (116 ∷ 105 ∷ 109 ∷ 101 ∷ []) One false (λ a b k. one time a)  -- 4 time
+    ∷ operator (115 ∷ 101 ∷ 116 ∷ []) One true (λ a b k. one (set k) a)  -- 5 set
+    ∷ operator (112 ∷ 108 ∷ 117 ∷ 115 ∷ []) One true (λ a b k. one (plus k) a)  -- 6 plus
+    ∷ operator (110 ∷ 101 ∷ 103 ∷ []) One false (λ a b k. one neg a)  -- 7 neg
+    ∷ (map calcRow calcs  -- 8 add to 15 eq
+    ++ (operator (107 ∷ 101 ∷ 101 ∷ 112 ∷ []) Two false (λ a b k. two keep a b)  -- 16 keep
+    ∷ operator (109 ∷ 101 ∷ 114 ∷ 103 ∷ 101 ∷ []) Two false (λ a b k. two merge a b)  -- 17 merge
+    ∷ operator (108 ∷ 97 ∷ 115 ∷ 116 ∷ []) Last false (λ a b k. last a b)  -- 18 last
+    ∷ operator (100 ∷ 101 ∷ 108 ∷ 97 ∷ 121 ∷ []) Delay false (λ a b k. delay a b)  -- 19 delay
+    ∷ []))
 
 -- how many operators there are, and so the greatest stored number
 abbrev pub operatorCount : ℕ
@@ -52,37 +79,115 @@ operatorCount = 19
 unfoldable pub nameOf : ℕ → List ℕ
 nameOf n = getD operators n noOperator .name
 
+unfoldable pub groupOf : ℕ → Group
+groupOf n = getD operators n noOperator .group
+
+-- set and plus
+unfoldable pub usesK : ℕ → Bool
+usesK n = getD operators n noOperator .value
+
 -- the equation with this stored number and these fields
 unfoldable pub eqnOf : ℕ → ℕ → ℕ → ℤ → Eqn
 eqnOf n a b k = getD operators n noOperator .eqn a b k
 
--- The groups are ranges of the stored number: 1 to 3 use nothing, 4 to 7 one argument, 8 to 17 two, then last and delay,
--- which use two as well and whose first argument is delayed. set and plus, 5 and 6, use k.
+-- ---- what a group says of its operators
+
+abbrev pub isPresent : Group → Bool
+isPresent Absent = false
+isPresent Input = true
+isPresent Plain = true
+isPresent One = true
+isPresent Two = true
+isPresent Last = true
+isPresent Delay = true
+
+abbrev pub isIn : Group → Bool
+isIn Absent = false
+isIn Input = true
+isIn Plain = false
+isIn One = false
+isIn Two = false
+isIn Last = false
+isIn Delay = false
+
+abbrev pub isLast : Group → Bool
+isLast Absent = false
+isLast Input = false
+isLast Plain = false
+isLast One = false
+isLast Two = false
+isLast Last = true
+isLast Delay = false
+
+abbrev pub isDelay : Group → Bool
+isDelay Absent = false
+isDelay Input = false
+isDelay Plain = false
+isDelay One = false
+isDelay Two = false
+isDelay Last = false
+isDelay Delay = true
+
+abbrev pub takesFirst : Group → Bool
+takesFirst Absent = false
+takesFirst Input = false
+takesFirst Plain = false
+takesFirst One = true
+takesFirst Two = true
+takesFirst Last = true
+takesFirst Delay = true
+
+abbrev pub takesSecond : Group → Bool
+takesSecond Absent = false
+takesSecond Input = false
+takesSecond Plain = false
+takesSecond One = false
+takesSecond Two = true
+takesSecond Last = true
+takesSecond Delay = true
+
+-- the first argument of a last or a delay is delayed
+abbrev pub delaysFirst : Group → Bool
+delaysFirst Absent = false
+delaysFirst Input = false
+delaysFirst Plain = false
+delaysFirst One = false
+delaysFirst Two = false
+delaysFirst Last = true
+delaysFirst Delay = true
+
+-- the arguments that an operator of the group makes of a and b
+abbrev pub argumentsOf : Group → ℕ → ℕ → List Argument
+argumentsOf Absent a b = []
+argumentsOf Input a b = []
+argumentsOf Plain a b = []
+argumentsOf One a b = prompt a ∷ []
+argumentsOf Two a b = prompt a ∷ prompt b ∷ []
+argumentsOf Last a b = late a ∷ prompt b ∷ []
+argumentsOf Delay a b = late a ∷ prompt b ∷ []
+
 abbrev pub isOperator : ℕ → Bool
-isOperator n = leb 1 n && leb n operatorCount
+isOperator n = isPresent (groupOf n)
 
 abbrev pub usesA : ℕ → Bool
-usesA n = leb 4 n
+usesA n = takesFirst (groupOf n)
 
 abbrev pub usesB : ℕ → Bool
-usesB n = leb 8 n
-
-abbrev pub usesK : ℕ → Bool
-usesK n = leb 5 n && leb n 6
+usesB n = takesSecond (groupOf n)
 
 abbrev pub delaysA : ℕ → Bool
-delaysA n = leb 18 n
+delaysA n = delaysFirst (groupOf n)
 
--- Back from an equation: the stored number, and the fields, 0 where the operator uses none.
-abbrev pub calcNumber : Calc → ℕ
-calcNumber add = 8
-calcNumber sub = 9
-calcNumber mul = 10
-calcNumber div = 11
-calcNumber rem = 12
-calcNumber lt = 13
-calcNumber le = 14
-calcNumber eq = 15
+-- ---- back from an equation: the group, the stored number, and the value, 0 where the operator uses none
+
+abbrev pub eqnGroup : Eqn → Group
+eqnGroup input = Input
+eqnGroup nil = Plain
+eqnGroup unit = Plain
+eqnGroup (one f a) = One
+eqnGroup (two g a b) = Two
+eqnGroup (last a b) = Last
+eqnGroup (delay a b) = Delay
 
 abbrev pub unaryNumber : Unary → ℕ
 unaryNumber time = 4
@@ -91,7 +196,7 @@ unaryNumber (plus k) = 6
 unaryNumber neg = 7
 
 abbrev pub binaryNumber : Binary → ℕ
-binaryNumber (calc g) = calcNumber g
+binaryNumber (calc g) = 8 + calcPlace g
 binaryNumber keep = 16
 binaryNumber merge = 17
 
@@ -103,24 +208,6 @@ numberOf (one f a) = unaryNumber f
 numberOf (two g a b) = binaryNumber g
 numberOf (last a b) = 18
 numberOf (delay a b) = 19
-
-unfoldable pub firstOf : Eqn → ℕ
-firstOf input = 0
-firstOf nil = 0
-firstOf unit = 0
-firstOf (one f a) = a
-firstOf (two g a b) = a
-firstOf (last a b) = a
-firstOf (delay a b) = a
-
-unfoldable pub secondOf : Eqn → ℕ
-secondOf input = 0
-secondOf nil = 0
-secondOf unit = 0
-secondOf (one f a) = 0
-secondOf (two g a b) = b
-secondOf (last a b) = b
-secondOf (delay a b) = b
 
 abbrev pub unaryValue : Unary → ℤ
 unaryValue time = pos 0

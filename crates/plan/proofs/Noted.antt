@@ -1,33 +1,30 @@
 -- What the pass notes of a plan that keeps rule 5 is the plan's graph, and so the code's test decides rule 6.
 use Prim.Native.Nat.{ℕ, zero, suc, _+_, _*_, _-_, _<_, _≤_}
 use mathlib.Core.Path.{_≡_, refl, sym, ap, _∙_, subst}
-use mathlib.Core.Bool.{Bool, true, false, cond, true≢false}
+use mathlib.Core.Bool.{true}
 use mathlib.Core.List.{List, [], _∷_, _++_, append-assoc}
 use native.Mathlib.Omega.{arith}
 use Rattle.operators.proofs.Tests.{left, right}
-use lib.Dec.{leb}
 use lib.ListN.{length, drop, replicate, length-append, length-map, length-drop, length-replicate}
 use lib.Seq.{sets-eq, take-at, drop-append-add, drop-drop}
-use borrow.Author.Tests.{eqb-true, ltb-true, leb-true, le-leb}
 use mir.Syntax.{w64}
 use mir.Val.{toZ}
-use Rattle.meaning.specs.Plan.{undelayed}
+use Rattle.meaning.specs.Plan.{undelayed, argA, argB, AllBelow}
 use Rattle.meaning.specs.Cycle.{acyclic}
-use Rattle.operators.specs.Operators.{operatorCount, numberOf, firstOf, secondOf, usesA, usesB, delaysA}
-use Rattle.operators.specs.Limits.{streamLimit}
-use Rattle.operators.proofs.Laws.{number-back, first-back, second-back, reads-by-number, undelayed-by-number}
-use Rattle.cycle.specs.Graph.{AllBelow, entryOf, graphOf, cleared}
+use Rattle.operators.specs.Operators.{operatorCount, numberOf}
+use Rattle.operators.proofs.Laws.{number-back}
+use Rattle.operators.proofs.Rules.{fields-first, fields-second, fields-undelayed}
+use Rattle.cycle.specs.Graph.{entryOf, graphOf, cleared}
 use Rattle.cycle.proofs.Tied.{argsAt}
-use Rattle.cycle.proofs.Graphs.{graph-acyclic}
+use Rattle.cycle.proofs.Graphs.{entry-length, graph-acyclic}
 use Rattle.text.specs.declared.Fields.{Fields}
 use Rattle.text.specs.declared.Lines.{Lines}
 use Rattle.text.specs.declared.Lines.the-variants as Lines
 use Rattle.text.specs.Grammar.{stream}
 use Rattle.render.proofs.Ranges.{op-range}
-use Rattle.plan.specs.Rules.{argumentFits, keeps, allKeep, Form, refused, formed, put, others, streams, eqnFrom, planFrom}
+use Rattle.plan.specs.Rules.{keeps, allKeep, Form, refused, formed, put, others, streams, eqnFrom, planFrom}
 use Rattle.plan.specs.Pass.{notedStream, notedAll}
 use Rattle.plan.proofs.Forms.{fieldsIn, clash}
-use Rattle.plan.proofs.Pass.{first-kept, second-kept}
 
 -- ## The streams that were read
 
@@ -56,49 +53,22 @@ read-sound s (suc n) at fs end e = by-lines (λ at fs end e. read-sound s n at f
 
 -- ## The graph
 
-pub same-argument : (used : Bool) (n a : ℕ) → argumentFits used n a ≡ true → cond used a 0 ≡ a
-same-argument true n a e = refl
-same-argument false n a e = sym (eqb-true a 0 e)
-
-three : (n a b : ℕ) → length (entryOf n a b) ≡ 3
-unfolding entryOf
-three n a b = by (leb n 3) (leb n 7) (leb n 17)
-  where
-    by : (x y z : Bool) → length (cond x (2 ∷ 0 ∷ 0 ∷ []) (cond y (0 ∷ a ∷ a ∷ []) (cond z (0 ∷ a ∷ b ∷ []) (0 ∷ b ∷ b ∷ [])))) ≡ 3
-    by true y z = refl
-    by false true z = refl
-    by false false true = refl
-    by false false false = refl
-
 module _ (n : ℕ) (f : Fields) (h : Sound f) (e : keeps n f ≡ true) where
-  same-entry : entryOf (f .op) (f .a) (f .b) ≡ entryOf (numberOf (eqnFrom f)) (firstOf (eqnFrom f)) (secondOf (eqnFrom f))
+  same-entry : entryOf (f .op) (f .a) (f .b) ≡ entryOf (numberOf (eqnFrom f)) (argA (eqnFrom f)) (argB (eqnFrom f))
   same-entry =
       let k = toZ w64 (f .k) in
-      sym (
-      rw (number-back (f .a) (f .b) k (f .op) (h .0) (h .1), first-back (f .a) (f .b) k (f .op) (h .0) (h .1), second-back (f .a) (f .b) k (f .op) (h .0) (h .1))
-      (rw (same-argument (usesA (f .op)) n (f .a) (first-kept n f e), same-argument (usesB (f .op)) n (f .b) (second-kept n f e))))
+      sym (rw (number-back (f .a) (f .b) k (f .op) (h .0) (h .1), fields-first n (f .op) (f .a) (f .b) (f .k) (f .out) e k, fields-second n (f .op) (f .a) (f .b) (f .k) (f .out) e k))
 
   -- the arguments that are followed are streams of the plan
-  below-by : (d ub ua : Bool) → (d ≡ true → ub ≡ true) → (ub ≡ true → ua ≡ true) → argumentFits ua n (f .a) ≡ true → argumentFits ub n (f .b) ≡ true → AllBelow n (cond d (f .b ∷ []) (cond ub (f .a ∷ f .b ∷ []) (cond ua (f .a ∷ []) [])))
-  below-by true true ua db ba a b = (ltb-true (f .b) n b, tt)
-  below-by true false ua db ba a b = absurd (true≢false (sym (db refl)))
-  below-by false true true db ba a b = (ltb-true (f .a) n a, (ltb-true (f .b) n b, tt))
-  below-by false true false db ba a b = absurd (true≢false (sym (ba refl)))
-  below-by false false true db ba a b = (ltb-true (f .a) n a, tt)
-  below-by false false false db ba a b = tt
-
   below : AllBelow n (undelayed (eqnFrom f))
-  below =
-      let k = toZ w64 (f .k) in
-      rw (undelayed-by-number (f .a) (f .b) k (f .op) (h .0) (h .1), reads-by-number (f .a) (f .b) k (f .op) (h .0) (h .1))
-      (below-by (delaysA (f .op)) (usesB (f .op)) (usesA (f .op)) (λ d. le-leb 8 (f .op) (omega (arith, leb-true 18 (f .op) d))) (λ d. le-leb 4 (f .op) (omega (arith, leb-true 8 (f .op) d))) (first-kept n f e) (second-kept n f e))
+  below = fields-undelayed n (f .op) (f .a) (f .b) (f .k) (f .out) e (toZ w64 (f .k))
 
 noted-step : (n i : ℕ) (f : Fields) → Sound f → keeps n f ≡ true → (pre r : List ℕ) → length pre ≡ 3 * i → 3 ≤ length r → notedStream n i f (pre ++ r) ≡ pre ++ entryOf (f .op) (f .a) (f .b) ++ drop 3 r
 unfolding notedStream
 noted-step n i f h e pre r l k =
     let v = entryOf (f .op) (f .a) (f .b) in
-    let z : 3 * i + length v ≡ length pre + 3 = omega (arith, three (f .op) (f .a) (f .b)) in
-    rw e (sets-eq v (pre ++ r) (3 * i) (rw (length-append pre r, three (f .op) (f .a) (f .b)) (omega arith)) ∙ rw (take-at pre r (3 * i) l, z, drop-append-add pre r 3))
+    let z : 3 * i + length v ≡ length pre + 3 = omega (arith, entry-length (f .op) (f .a) (f .b)) in
+    rw e (sets-eq v (pre ++ r) (3 * i) (rw (length-append pre r, entry-length (f .op) (f .a) (f .b)) (omega arith)) ∙ rw (take-at pre r (3 * i) l, z, drop-append-add pre r 3))
 
 pub noted-graph : (n i : ℕ) (fs : List Fields) → All Sound fs → allKeep n fs ≡ true → (pre r : List ℕ) → length pre ≡ 3 * i → 3 * length fs ≤ length r → notedAll n i fs (pre ++ r) ≡ pre ++ (graphOf (planFrom fs) ++ drop (3 * length fs) r)
 unfolding notedAll allKeep planFrom graphOf
@@ -108,7 +78,7 @@ noted-graph n i (f ∷ fs) h e pre r l k =
     let v = entryOf (f .op) (f .a) (f .b) in
     let z : 3 * suc (length fs) ≡ 3 + 3 * length fs = omega arith in
     rw (noted-step n i f (h .0) kept pre r l (omega arith))
-    (noted-graph n (i + 1) fs (h .1) (right (keeps n f) (allKeep n fs) e) (pre ++ v) (drop 3 r) (rw (length-append pre v, three (f .op) (f .a) (f .b)) (omega arith)) (rw (length-drop 3 r) (omega arith))
+    (noted-graph n (i + 1) fs (h .1) (right (keeps n f) (allKeep n fs) e) (pre ++ v) (drop 3 r) (rw (length-append pre v, entry-length (f .op) (f .a) (f .b)) (omega arith)) (rw (length-drop 3 r) (omega arith))
     ∙ rw (z, append-assoc pre v (graphOf (planFrom fs) ++ drop (3 * length fs) (drop 3 r)), drop-drop (3 * length fs) 3 r, ← same-entry n f (h .0) kept, append-assoc v (graphOf (planFrom fs)) (drop (3 + 3 * length fs) r)))
 
 all-below : (n : ℕ) (fs : List Fields) → All Sound fs → allKeep n fs ≡ true → (i : ℕ) → i < length fs → AllBelow n (argsAt (planFrom fs) i)
@@ -122,11 +92,10 @@ unfolding planFrom
 plan-length fs = length-map fs eqnFrom
 
 -- the code's test on what was noted is the definition's test of the plan
-pub cleared-plan : (s : List ℕ) (n at : ℕ) (fs : List Fields) (end : ℕ) → streams s at n ≡ formed fs end → allKeep n fs ≡ true → n ≤ streamLimit → (d : ℕ) → cleared d n (notedAll n 0 fs (replicate (3 * streamLimit) 0)) .isClear ≡ acyclic d (planFrom fs)
-cleared-plan s n at fs end e k h d =
+pub cleared-plan : (s : List ℕ) (n at : ℕ) (fs : List Fields) (end : ℕ) → streams s at n ≡ formed fs end → allKeep n fs ≡ true → (g : List ℕ) → 3 * n ≤ length g → (d : ℕ) → cleared d n (notedAll n 0 fs g) .isClear ≡ acyclic d (planFrom fs)
+cleared-plan s n at fs end e k g h d =
     let r = read-sound s n at fs end e in
     let m : length (planFrom fs) ≡ n = plan-length fs ∙ r .1 in
-    let g : List ℕ = replicate (3 * streamLimit) 0 in
-    ap (λ (x : List ℕ). cleared d n x .isClear) (noted-graph n 0 fs (r .0) k [] g refl (rw (length-replicate {A = ℕ} (3 * streamLimit) 0) (omega arith)))
+    ap (λ (x : List ℕ). cleared d n x .isClear) (noted-graph n 0 fs (r .0) k [] g refl (omega (arith, r .1)))
     ∙ ap (λ (x : ℕ). cleared d x (graphOf (planFrom fs) ++ drop (3 * length fs) g) .isClear) (sym m)
-    ∙ graph-acyclic (planFrom fs) (drop (3 * length fs) g) (omega arith) (λ i l. subst (λ (x : ℕ). AllBelow x (argsAt (planFrom fs) i)) (sym m) (all-below n fs (r .0) k i (omega arith))) d
+    ∙ graph-acyclic (planFrom fs) (drop (3 * length fs) g) (λ i l. subst (λ (x : ℕ). AllBelow x (argsAt (planFrom fs) i)) (sym m) (all-below n fs (r .0) k i (omega arith))) d

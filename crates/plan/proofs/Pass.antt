@@ -4,10 +4,8 @@ use mathlib.Core.Path.{_≡_, refl, sym, ap}
 use mathlib.Core.Bool.{Bool, true, false, _&&_, and-assoc, and-true, true≢false}
 use mathlib.Core.List.{List, [], _∷_}
 use native.Mathlib.Omega.{arith}
-use Rattle.operators.proofs.Tests.{left, right}
 use lib.Seq.{sets}
-use borrow.Author.Tests.{eq-eqb, ne-eqb, eqb-true, ltb-true}
-use Rattle.operators.specs.Operators.{usesA, usesB}
+use borrow.Author.Tests.{eq-eqb, ne-eqb}
 use Rattle.cycle.specs.Graph.{entryOf}
 use Rattle.text.specs.declared.Fields.{Fields}
 use Rattle.text.specs.declared.Lines.{Lines}
@@ -17,36 +15,8 @@ use Rattle.plan.specs.declared.Checked.{Checked}
 use Rattle.plan.specs.declared.Checked.the-variants as Checked
 use Rattle.plan.specs.declared.Turn.{Turn}
 use Rattle.plan.specs.declared.Turn.the-variants as Turn
-use Rattle.plan.specs.Rules.{argumentFits, argumentsFit, valueFits, outFits, keeps, allKeep, Form, refused, formed, put, others, streams}
+use Rattle.plan.specs.Rules.{keeps, allKeep, Form, refused, formed, put, others, streams}
 use Rattle.plan.specs.Pass.{notedAll, notedStream, notedLines, turn, Pass, halted, through, passOf, checkedOf, Noted}
-
--- ## What rule 5 says of each field
-
-module _ (n : ℕ) (f : Fields) (e : keeps n f ≡ true) where
-  pub out-kept : outFits (f .op) (f .out) ≡ true
-  unfolding keeps
-  out-kept = left (outFits (f .op) (f .out)) (valueFits (f .op) (f .k) && argumentsFit n (f .op) (f .a) (f .b)) e
-
-  rest-kept : (valueFits (f .op) (f .k) && argumentsFit n (f .op) (f .a) (f .b)) ≡ true
-  unfolding keeps
-  rest-kept = right (outFits (f .op) (f .out)) (valueFits (f .op) (f .k) && argumentsFit n (f .op) (f .a) (f .b)) e
-
-  pub value-kept : valueFits (f .op) (f .k) ≡ true
-  value-kept = left (valueFits (f .op) (f .k)) (argumentsFit n (f .op) (f .a) (f .b)) rest-kept
-
-  arguments-kept : argumentsFit n (f .op) (f .a) (f .b) ≡ true
-  arguments-kept = right (valueFits (f .op) (f .k)) (argumentsFit n (f .op) (f .a) (f .b)) rest-kept
-
-  pub first-kept : argumentFits (usesA (f .op)) n (f .a) ≡ true
-  first-kept = left (argumentFits (usesA (f .op)) n (f .a)) (argumentFits (usesB (f .op)) n (f .b)) arguments-kept
-
-  pub second-kept : argumentFits (usesB (f .op)) n (f .b) ≡ true
-  second-kept = right (argumentFits (usesA (f .op)) n (f .a)) (argumentFits (usesB (f .op)) n (f .b)) arguments-kept
-
--- an argument that is used is below n, one that is not is 0
-pub small : (used : Bool) (n a : ℕ) → argumentFits used n a ≡ true → n ≤ 256 → a < 256
-small true n a e h = omega (arith, ltb-true a n e)
-small false n a e h = omega (arith, eqb-true a 0 e)
 
 -- ## One stream
 

@@ -1,22 +1,23 @@
 -- A plan that keeps the rules renders within the limit, its text is taken, and reading the text gives the plan back.
 use Prim.Native.Nat.{ℕ, suc, _+_, _*_, _-_, _^_, _<_, _≤_}
 use mathlib.Core.Path.{_≡_, refl, sym, ap, _∙_}
-use mathlib.Core.Bool.{Bool, true, false, not, _&&_, true≢false}
+use mathlib.Core.Bool.{Bool, true, false, _&&_, true≢false}
 use mathlib.Core.List.{List, [], _∷_, _++_, append-assoc, append-nil, map}
 use native.Mathlib.Omega.{arith}
-use lib.Dec.{eqb, lit<, lit≤}
+use lib.Dec.{T, eqb, lit<, lit≤}
 use lib.IntN.{ℤ, pos, negsuc}
 use lib.Signed.{mag}
 use lib.ListN.{length, drop, length-append, length-drop}
-use borrow.Author.Tests.{le-ltb, lt-ltb, eq-eqb}
+use borrow.Author.Tests.{le-ltb, eq-eqb}
 use mir.Syntax.{w64}
 use mir.Val.{toZ}
 use mir.Facts.{toZ-pos, toZ-neg}
-use Rattle.meaning.specs.Plan.{time, neg, set, plus, add, sub, mul, div, rem, lt, le, eq, calc, keep, merge, Eqn, input, nil, unit, one, two, last, delay, isInput, reads}
+use Rattle.meaning.specs.Plan.{keep, Eqn, input, nil, unit, one, two, last, delay, isInput, reads, argA, argB, AllBelow}
 use Rattle.meaning.specs.Cycle.{acyclic}
-use Rattle.machine.specs.State.{Declared}
-use Rattle.operators.specs.Operators.{nameOf, eqnOf, numberOf, firstOf, secondOf, valueOf}
-use Rattle.operators.specs.Limits.{streamLimit, textLimit}
+use Rattle.machine.specs.State.{Declared, declaredPlan}
+use Rattle.operators.specs.Operators.{nameOf, eqnOf, numberOf, valueOf}
+use Rattle.operators.specs.Limits.{mostStreams, textLimit}
+use Rattle.operators.proofs.Rules.{out-pass, fields-pass}
 use Rattle.operators.proofs.Laws.{eqn-back, number-range}
 use Rattle.text.specs.declared.Fields.{Fields}
 use Rattle.text.specs.declared.Lines.the-variants as Lines
@@ -30,14 +31,12 @@ use Rattle.decimal.proofs.Digits.{digits-few}
 use Rattle.render.proofs.Streams.{bitsOf, outOf, name-short, stream-written}
 use Rattle.render.proofs.Heads.{head-written}
 use Rattle.plan.specs.Rules.{keeps, allKeep, formed, streams, declaredFrom, planFrom, numberAfter, number, declared}
-use Rattle.cycle.specs.Graph.{AllBelow}
-use Rattle.plan.specs.Taken.{StreamKeeps, Each, planOf, KeepsRules}
+use Rattle.plan.specs.Taken.{StreamKeeps, Each, KeepsRules}
 use Rattle.plan.proofs.Pass.{put-streams}
 
 -- ## One stream
 
-first-small : (n : ℕ) (e : Eqn) → AllBelow n (reads e) → n ≤ streamLimit → firstOf e < 10 ^ 3
-unfolding firstOf
+first-small : (n : ℕ) (e : Eqn) → AllBelow n (reads e) → n ≤ mostStreams → argA e < 10 ^ 3
 first-small n input b h = lit< tt
 first-small n nil b h = lit< tt
 first-small n unit b h = lit< tt
@@ -46,8 +45,7 @@ first-small n (two g a c) b h = omega arith
 first-small n (last a c) b h = omega arith
 first-small n (delay a c) b h = omega arith
 
-second-small : (n : ℕ) (e : Eqn) → AllBelow n (reads e) → n ≤ streamLimit → secondOf e < 10 ^ 3
-unfolding secondOf
+second-small : (n : ℕ) (e : Eqn) → AllBelow n (reads e) → n ≤ mostStreams → argB e < 10 ^ 3
 second-small n input b h = lit< tt
 second-small n nil b h = lit< tt
 second-small n unit b h = lit< tt
@@ -58,7 +56,7 @@ second-small n (delay a c) b h = omega arith
 
 -- the fields that a stream is written with
 abbrev fieldsOf : Declared → ℕ → Fields
-fieldsOf d p = record { op = numberOf (d .eqn); a = firstOf (d .eqn); b = secondOf (d .eqn); k = bitsOf (valueOf (d .eqn)); out = outOf (d .out); next = p }
+fieldsOf d p = record { op = numberOf (d .eqn); a = argA (d .eqn); b = argB (d .eqn); k = bitsOf (valueOf (d .eqn)); out = outOf (d .out); next = p }
 
 -- bits and back
 bits-back : (k : ℤ) → mag k < 2 ^ 63 → toZ w64 (bitsOf k) ≡ k
@@ -71,35 +69,21 @@ out-back false = refl
 
 fields-declare : (d : Declared) (p : ℕ) → mag (valueOf (d .eqn)) < 2 ^ 63 → declaredFrom (fieldsOf d p) ≡ d
 fields-declare d p h =
-    let e : eqnOf (numberOf (d .eqn)) (firstOf (d .eqn)) (secondOf (d .eqn)) (toZ w64 (bitsOf (valueOf (d .eqn)))) ≡ d .eqn = rw (bits-back (valueOf (d .eqn)) h) (eqn-back (d .eqn)) in
+    let e : eqnOf (numberOf (d .eqn)) (argA (d .eqn)) (argB (d .eqn)) (toZ w64 (bitsOf (valueOf (d .eqn)))) ≡ d .eqn = rw (bits-back (valueOf (d .eqn)) h) (eqn-back (d .eqn)) in
     λ i. record { eqn = e i; out = out-back (d .out) i }
 
 -- rule 5 holds of them
-bit-not : (b : Bool) → b ≡ false → not (eqb (outOf b) 1) ≡ true
-bit-not true e = absurd (true≢false e)
-bit-not false e = refl
+bit-below : (b : Bool) → outOf b < 2
+bit-below true = lit< tt
+bit-below false = lit< tt
+
+no-bit : (i o : Bool) → (i && o) ≡ false → T i → outOf o ≡ 0
+no-bit true true e t = absurd (true≢false e)
+no-bit true false e t = refl
+no-bit false o e t = absurd t
 
 keeps-written : (n : ℕ) (e : Eqn) (o : Bool) (p : ℕ) → AllBelow n (reads e) → (isInput e && o) ≡ false → keeps n (fieldsOf (record { eqn = e; out = o }) p) ≡ true
-unfolding keeps numberOf firstOf secondOf valueOf
-keeps-written n input o p b h = rw (bit-not o h)
-keeps-written n nil o p b h = refl
-keeps-written n unit o p b h = refl
-keeps-written n (one time a) o p b h = rw (lt-ltb a n (b .0))
-keeps-written n (one (set k) a) o p b h = rw (lt-ltb a n (b .0))
-keeps-written n (one (plus k) a) o p b h = rw (lt-ltb a n (b .0))
-keeps-written n (one neg a) o p b h = rw (lt-ltb a n (b .0))
-keeps-written n (two (calc add) a c) o p b h = rw (lt-ltb a n (b .0), lt-ltb c n (b .1 .0))
-keeps-written n (two (calc sub) a c) o p b h = rw (lt-ltb a n (b .0), lt-ltb c n (b .1 .0))
-keeps-written n (two (calc mul) a c) o p b h = rw (lt-ltb a n (b .0), lt-ltb c n (b .1 .0))
-keeps-written n (two (calc div) a c) o p b h = rw (lt-ltb a n (b .0), lt-ltb c n (b .1 .0))
-keeps-written n (two (calc rem) a c) o p b h = rw (lt-ltb a n (b .0), lt-ltb c n (b .1 .0))
-keeps-written n (two (calc lt) a c) o p b h = rw (lt-ltb a n (b .0), lt-ltb c n (b .1 .0))
-keeps-written n (two (calc le) a c) o p b h = rw (lt-ltb a n (b .0), lt-ltb c n (b .1 .0))
-keeps-written n (two (calc eq) a c) o p b h = rw (lt-ltb a n (b .0), lt-ltb c n (b .1 .0))
-keeps-written n (two keep a c) o p b h = rw (lt-ltb a n (b .0), lt-ltb c n (b .1 .0))
-keeps-written n (two merge a c) o p b h = rw (lt-ltb a n (b .0), lt-ltb c n (b .1 .0))
-keeps-written n (last a c) o p b h = rw (lt-ltb a n (b .0), lt-ltb c n (b .1 .0))
-keeps-written n (delay a c) o p b h = rw (lt-ltb a n (b .0), lt-ltb c n (b .1 .0))
+keeps-written n e o p b h = fields-pass bitsOf refl n e (outOf o) b (out-pass e (outOf o) (bit-below o) (no-bit (isInput e) o h))
 
 -- ## All streams
 
@@ -133,13 +117,13 @@ more-keep : (n : ℕ) (f : Fields) (fs : List Fields) → keeps n f ≡ true →
 unfolding allKeep
 more-keep n f fs e g = rw (e, g)
 
-stream-text : (s : List ℕ) (at : ℕ) (d : Declared) (r : List ℕ) (n : ℕ) → StreamKeeps n d → n ≤ streamLimit → drop at s ≡ declaredText d ++ r → (p : ℕ) × (stream s at ≡ Lines.Stream (fieldsOf d p)) × (drop p s ≡ r) × (p ≤ length s)
+stream-text : (s : List ℕ) (at : ℕ) (d : Declared) (r : List ℕ) (n : ℕ) → StreamKeeps n d → n ≤ mostStreams → drop at s ≡ declaredText d ++ r → (p : ℕ) × (stream s at ≡ Lines.Stream (fieldsOf d p)) × (drop p s ≡ r) × (p ≤ length s)
 unfolding declaredText
 stream-text s at d r n k h e =
-    stream-written s at (numberOf (d .eqn)) (firstOf (d .eqn)) (secondOf (d .eqn)) (valueOf (d .eqn)) (d .out) r
+    stream-written s at (numberOf (d .eqn)) (argA (d .eqn)) (argB (d .eqn)) (valueOf (d .eqn)) (d .out) r
     (number-range (d .eqn) .0) (number-range (d .eqn) .1) (first-small n (d .eqn) (k .arguments) h) (second-small n (d .eqn) (k .arguments) h) (k .value) e
 
-pub streams-written : (s : List ℕ) (n : ℕ) → n ≤ streamLimit → (ds : List Declared) → Each n ds → (at : ℕ) (r : List ℕ) → at ≤ length s → drop at s ≡ allText ds ++ r → Read s at n ds r
+pub streams-written : (s : List ℕ) (n : ℕ) → n ≤ mostStreams → (ds : List Declared) → Each n ds → (at : ℕ) (r : List ℕ) → at ≤ length s → drop at s ≡ allText ds ++ r → Read s at n ds r
 streams-written s n h [] k at r l e = record { fields = []; end = at; found = no-streams s at; behind = e ∙ no-text r; within = l; declare = refl; kept = none-keep n }
 streams-written s n h (d ∷ ds) k at r l e =
     let t = stream-text s at d (allText ds ++ r) n (k .0) h (e ∙ append-middle d ds r) in
@@ -168,61 +152,62 @@ bit-length : (b : Bool) → length (bitText b) ≡ 1
 bit-length true = refl
 bit-length false = refl
 
-declared-length : (n : ℕ) (d : Declared) → StreamKeeps n d → n ≤ streamLimit → length (declaredText d) ≤ 50
+declared-length : (n : ℕ) (d : Declared) → StreamKeeps n d → n ≤ mostStreams → length (declaredText d) ≤ 50
 unfolding declaredText streamText
 declared-length n d k h =
     let e = d .eqn in
     let o = line outKey (bitText (d .out)) in
     let v = line valueKey (valueText (valueOf e)) in
-    let y = line secondKey (decimal (secondOf e)) in
-    let x = line firstKey (decimal (firstOf e)) in
+    let y = line secondKey (decimal (argB e)) in
+    let x = line firstKey (decimal (argA e)) in
     let w = line opKey (nameOf (numberOf e)) in
     let r = number-range e in
     rw (length-append w (x ++ (y ++ (v ++ o))), length-append x (y ++ (v ++ o)), length-append y (v ++ o), length-append v o)
-    (omega (arith, line-length opKey (nameOf (numberOf e)), line-length firstKey (decimal (firstOf e)), line-length secondKey (decimal (secondOf e)), line-length valueKey (valueText (valueOf e)), line-length outKey (bitText (d .out)), name-short (numberOf e) (r .0) (r .1), digits-few 19 (firstOf e) 3 (lit< tt) (first-small n e (k .arguments) h), digits-few 19 (secondOf e) 3 (lit< tt) (second-small n e (k .arguments) h), value-length (valueOf e) (k .value), bit-length (d .out)))
+    (omega (arith, line-length opKey (nameOf (numberOf e)), line-length firstKey (decimal (argA e)), line-length secondKey (decimal (argB e)), line-length valueKey (valueText (valueOf e)), line-length outKey (bitText (d .out)), name-short (numberOf e) (r .0) (r .1), digits-few 19 (argA e) 3 (lit< tt) (first-small n e (k .arguments) h), digits-few 19 (argB e) 3 (lit< tt) (second-small n e (k .arguments) h), value-length (valueOf e) (k .value), bit-length (d .out)))
 
-all-length : (n : ℕ) (ds : List Declared) → Each n ds → n ≤ streamLimit → length (allText ds) ≤ 50 * length ds
+all-length : (n : ℕ) (ds : List Declared) → Each n ds → n ≤ mostStreams → length (allText ds) ≤ 50 * length ds
 unfolding allText
 all-length n [] k h = lit≤ tt
 all-length n (d ∷ ds) k h = rw (length-append (declaredText d) (allText ds)) (omega (arith, declared-length n d (k .0) h, all-length n ds (k .1) h))
 
 -- every plan that keeps the rules renders within the limit
-pub render-short : (ds : List Declared) → KeepsRules ds → length (render ds) ≤ textLimit
+pub render-short : (cap : ℕ) → cap ≤ mostStreams → (ds : List Declared) → KeepsRules cap ds → length (render ds) ≤ textLimit
 unfolding render
-render-short ds k =
+render-short cap c ds k =
     let n = length ds in
     let l = line streamsKey (decimal n) in
     rw (length-append planLine (l ++ allText ds), length-append l (allText ds))
-    (omega (arith, line-length streamsKey (decimal n), digits-few 19 n 3 (lit< tt) (omega (arith, k .few)), all-length n ds (k .each) (k .few), k .few))
+    (omega (arith, line-length streamsKey (decimal n), digits-few 19 n 3 (lit< tt) (omega (arith, k .few)), all-length n ds (k .each) (omega (arith, k .few)), k .few))
 
 -- ## The whole text
 
-pub same-plan : (fs : List Fields) → planFrom fs ≡ planOf (map declaredFrom fs)
+pub same-plan : (fs : List Fields) → planFrom fs ≡ declaredPlan (map declaredFrom fs)
 unfolding planFrom
 same-plan [] = refl
 same-plan (f ∷ fs) = ap (λ (l : List Eqn). (declaredFrom f .eqn) ∷ l) (same-plan fs)
 
-numbered : (s : List ℕ) (n at : ℕ) (fs : List Fields) (end : ℕ) → length s ≤ textLimit → head s ≡ Head.Streams n at → streams s at n ≡ formed fs end → end ≡ length s → allKeep n fs ≡ true → acyclic streamLimit (planFrom fs) ≡ true → number s ≡ 0
+numbered : (cap : ℕ) (s : List ℕ) (n at : ℕ) (fs : List Fields) (end : ℕ) → length s ≤ textLimit → head cap s ≡ Head.Streams n at → streams s at n ≡ formed fs end → end ≡ length s → allKeep n fs ≡ true → acyclic cap (planFrom fs) ≡ true → number cap s ≡ 0
 unfolding number numberAfter
-numbered s n at fs end l h e q k c = rw (le-ltb textLimit (length s) l, h, e, eq-eqb end (length s) q, k, c)
+numbered cap s n at fs end l h e q k c = rw (le-ltb textLimit (length s) l, h, e, eq-eqb end (length s) q, k, c)
 
-read-back : (s : List ℕ) (n at : ℕ) (fs : List Fields) (end : ℕ) → head s ≡ Head.Streams n at → streams s at n ≡ formed fs end → declared s ≡ map declaredFrom fs
+read-back : (cap : ℕ) (s : List ℕ) (n at : ℕ) (fs : List Fields) (end : ℕ) → head cap s ≡ Head.Streams n at → streams s at n ≡ formed fs end → declared cap s ≡ map declaredFrom fs
 unfolding declared
-read-back s n at fs end h e = rw (h, e)
+read-back cap s n at fs end h e = rw (h, e)
 
 rendered : (ds : List Declared) → render ds ≡ planLine ++ (line streamsKey (decimal (length ds)) ++ allText ds)
 unfolding render
 rendered ds = refl
 
 -- the text of a plan that keeps the rules is taken, and reading it gives the plan back
-pub render-taken : (ds : List Declared) → KeepsRules ds → (number (render ds) ≡ 0) × (declared (render ds) ≡ ds)
-render-taken ds k =
+pub render-taken : (cap : ℕ) → cap ≤ mostStreams → (ds : List Declared) → KeepsRules cap ds → (number cap (render ds) ≡ 0) × (declared cap (render ds) ≡ ds)
+render-taken cap c ds k =
     let s = render ds in
     let n = length ds in
-    let h = head-written s n (allText ds) (k .some) (k .few) (rendered ds) in
-    let w = streams-written s n (k .few) ds (k .each) (h .0) [] (h .3) (h .2 ∙ sym (append-nil (allText ds))) in
+    let few : n ≤ mostStreams = omega (arith, k .few) in
+    let h = head-written cap s n (allText ds) (k .some) (k .few) (omega arith) (rendered ds) in
+    let w = streams-written s n few ds (k .each) (h .0) [] (h .3) (h .2 ∙ sym (append-nil (allText ds))) in
     let z : length s - w .end ≡ 0 = sym (length-drop (w .end) s) ∙ ap length (w .behind) in
     let end : w .end ≡ length s = omega (arith, w .within) in (
-      numbered s n (h .0) (w .fields) (w .end) (render-short ds k) (h .1) (w .found) end (w .kept) (ap (acyclic streamLimit) (same-plan (w .fields) ∙ ap planOf (w .declare)) ∙ k .clear),
-      read-back s n (h .0) (w .fields) (w .end) (h .1) (w .found) ∙ w .declare,
+      numbered cap s n (h .0) (w .fields) (w .end) (render-short cap c ds k) (h .1) (w .found) end (w .kept) (ap (acyclic cap) (same-plan (w .fields) ∙ ap declaredPlan (w .declare)) ∙ k .clear),
+      read-back cap s n (h .0) (w .fields) (w .end) (h .1) (w .found) ∙ w .declare,
     )

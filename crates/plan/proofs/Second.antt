@@ -4,8 +4,11 @@ use mathlib.Core.Path.{_≡_, refl, sym, ap, _∙_}
 use mathlib.Core.Bool.{true}
 use mathlib.Core.List.{List, [], _∷_}
 use native.Mathlib.Omega.{arith}
+use lib.Dec.{lit<}
 use lib.ListN.{length}
+use Rattle.operators.specs.Limits.{mostStreams}
 use Rattle.operators.specs.Operators.{usesA, usesB}
+use Rattle.operators.proofs.Rules.{arg-small, first-ok, second-ok}
 use Rattle.operators.proofs.Tests.{left, right}
 use Rattle.text.specs.declared.Fields.{Fields}
 use Rattle.text.specs.declared.Lines.{Lines}
@@ -14,7 +17,7 @@ use Rattle.text.specs.Grammar.{stream}
 use Rattle.render.proofs.Heads.{head-fits}
 use Rattle.plan.specs.Rules.{keeps, allKeep, Form, refused, formed, put, others, streams}
 use Rattle.plan.proofs.Forms.{fieldsIn, endIn, clash}
-use Rattle.plan.proofs.Pass.{turn-streams, small, first-kept, second-kept}
+use Rattle.plan.proofs.Pass.{turn-streams}
 use Rattle.plan.proofs.Noted.{Sound, All, read-sound}
 use Rattle.plan.proofs.Taken.{InRange, streams-read, Parts}
 
@@ -38,7 +41,7 @@ module _ (s : List ℕ) (p m : ℕ) (fs : List Fields) (end : ℕ) (h : 0 < m) (
 
 -- a stream's fields fit the bytes that they are stored in
 pub record Stored (f : Fields) : Type 0 where
-  pub op : (1 ≤ f .op) × (f .op ≤ 19)
+  pub op : Sound f
   pub a : f .a < 256
   pub b : f .b < 256
   pub k : f .k < 2 ^ 64
@@ -51,16 +54,16 @@ all-stored n (f ∷ fs) h t r e =
     let k = left (keeps n f) (allKeep n fs) e in (
       record {
         op = t .0;
-        a = small (usesA (f .op)) n (f .a) (first-kept n f k) h;
-        b = small (usesB (f .op)) n (f .b) (second-kept n f k) h;
+        a = arg-small (usesA (f .op)) n (f .a) (first-ok n (f .op) (f .a) (f .b) (f .k) (f .out) k) 256 (lit< tt) h;
+        b = arg-small (usesB (f .op)) n (f .b) (second-ok n (f .op) (f .a) (f .b) (f .k) (f .out) k) 256 (lit< tt) h;
         k = r .0 .0;
         out = r .0 .1;
       },
       all-stored n fs h (t .1) (r .1) (right (keeps n f) (allKeep n fs) e),
     )
 
-pub taken-stored : (s : List ℕ) (p : Parts s) → All Stored (p .fields) × (length (p .fields) ≡ p .count)
-taken-stored s p =
+pub taken-stored : (cap : ℕ) → cap ≤ mostStreams → (s : List ℕ) (p : Parts cap s) → All Stored (p .fields) × (length (p .fields) ≡ p .count)
+taken-stored cap c s p =
     let r = read-sound s (p .count) (p .start) (p .fields) (length s) (p .lists) in
-    let h = head-fits s (p .count) (p .start) (p .opens) in
+    let h = head-fits cap s (p .count) (p .start) (p .opens) in
     (all-stored (p .count) (p .fields) (omega (arith, h .1)) (r .0) (streams-read s (p .count) (p .start) (p .fields) (length s) (p .lists) .1) (p .kept), r .1)

@@ -2,22 +2,23 @@
 use Prim.Native.Nat.{ℕ, zero, suc, _+_, _-_, _^_, _<_, _≤_}
 use mathlib.Core.Path.{_≡_, refl, sym, ap, _∙_, subst}
 use mathlib.Core.Logic.{_↔_}
-use mathlib.Core.Bool.{Bool, true, false, not, cond, _&&_, true≢false}
+use mathlib.Core.Bool.{Bool, true, false, cond}
 use mathlib.Core.List.{List, [], _∷_, _++_, append-assoc, append-nil, map}
 use native.Mathlib.Omega.{arith}
 use lib.Dec.{eqb, ltb}
-use lib.IntN.{pos}
 use lib.ListN.{length, drop, length-map}
 use lib.Seq.{drop-length}
-use borrow.Author.Tests.{eqb-true, ltb-true, leb-true, le-leb}
+use borrow.Author.Tests.{eqb-true}
 use mir.Syntax.{w64}
 use mir.Val.{toZ}
 use mir.Facts.{sfits-toZ}
+use Rattle.meaning.specs.Plan.{argA, argB}
 use Rattle.meaning.specs.Cycle.{acyclic}
 use Rattle.machine.specs.State.{Declared}
-use Rattle.operators.specs.Operators.{firstOf, secondOf, valueOf, usesA, usesB, usesK}
-use Rattle.operators.specs.Limits.{streamLimit, textLimit}
-use Rattle.operators.proofs.Laws.{number-back, first-back, second-back, value-back, reads-by-number, input-by-number}
+use Rattle.operators.specs.Operators.{valueOf}
+use Rattle.operators.specs.Limits.{mostStreams, textLimit}
+use Rattle.operators.proofs.Laws.{number-back}
+use Rattle.operators.proofs.Rules.{fields-first, fields-second, fields-value, fields-reads, fields-out}
 use Rattle.operators.proofs.Tests.{left, right}
 use Rattle.text.specs.declared.Fields.{Fields}
 use Rattle.text.specs.declared.Lines.{Lines}
@@ -30,54 +31,37 @@ use Rattle.render.specs.Render.{line, streamText, declaredText, allText, render
 use Rattle.render.proofs.Ranges.{stream-refused}
 use Rattle.render.proofs.Back.{stream-read}
 use Rattle.render.proofs.Heads.{head-fits, head-read, head-refused}
-use Rattle.plan.specs.Rules.{argumentFits, keeps, allKeep, Form, refused, formed, put, others, streams, eqnFrom, declaredFrom, planFrom, numberAfter, numberOfHead, number, declared}
-use Rattle.cycle.specs.Graph.{AllBelow}
+use Rattle.plan.specs.Rules.{keeps, allKeep, Form, refused, formed, put, others, streams, eqnFrom, declaredFrom, planFrom, numberAfter, numberOfHead, number, declared}
 use Rattle.plan.specs.Taken.{StreamKeeps, Each, KeepsRules}
 use Rattle.plan.proofs.Forms.{fieldsIn, endIn, refusalIn, clash}
-use Rattle.plan.proofs.Pass.{out-kept, value-kept, first-kept, second-kept}
-use Rattle.plan.proofs.Noted.{Sound, All, read-sound, same-argument}
+use Rattle.plan.proofs.Noted.{Sound, All, read-sound}
 use Rattle.plan.proofs.Rendered.{same-plan, render-taken}
 
 -- ## One stream
-
-same-value : (used : Bool) (k : ℕ) → cond used true (eqb k 0) ≡ true → cond used (toZ w64 k) (pos 0) ≡ toZ w64 k
-same-value true k e = refl
-same-value false k e = sym (ap (toZ w64) (eqb-true k 0 e))
-
-output-by : (x o : Bool) → cond x (not o) true ≡ true → (x && o) ≡ false
-output-by true true q = absurd (true≢false (sym q))
-output-by true false q = refl
-output-by false o q = refl
 
 abbrev pub InRange : Fields → Type 0
 InRange f = (f .k < 2 ^ 64) × (f .out ≤ 1)
 
 module _ (n : ℕ) (f : Fields) (h : Sound f) (e : keeps n f ≡ true) where
   pub value-of : valueOf (eqnFrom f) ≡ toZ w64 (f .k)
-  value-of = value-back (f .a) (f .b) (toZ w64 (f .k)) (f .op) (h .0) (h .1) ∙ same-value (usesK (f .op)) (f .k) (value-kept n f e)
+  value-of = fields-value n (f .op) (f .a) (f .b) (f .k) (f .out) e
 
-  pub first-of : firstOf (eqnFrom f) ≡ f .a
-  first-of = first-back (f .a) (f .b) (toZ w64 (f .k)) (f .op) (h .0) (h .1) ∙ same-argument (usesA (f .op)) n (f .a) (first-kept n f e)
+  pub first-of : argA (eqnFrom f) ≡ f .a
+  first-of = fields-first n (f .op) (f .a) (f .b) (f .k) (f .out) e (toZ w64 (f .k))
 
-  pub second-of : secondOf (eqnFrom f) ≡ f .b
-  second-of = second-back (f .a) (f .b) (toZ w64 (f .k)) (f .op) (h .0) (h .1) ∙ same-argument (usesB (f .op)) n (f .b) (second-kept n f e)
+  pub second-of : argB (eqnFrom f) ≡ f .b
+  second-of = fields-second n (f .op) (f .a) (f .b) (f .k) (f .out) e (toZ w64 (f .k))
 
   -- its lines are those that its declaration is written with
   same-text : streamText (f .op) (f .a) (f .b) (toZ w64 (f .k)) (eqb (f .out) 1) ≡ declaredText (declaredFrom f)
   unfolding declaredText
   same-text = sym (rw (number-back (f .a) (f .b) (toZ w64 (f .k)) (f .op) (h .0) (h .1), first-of, second-of, value-of))
 
-  arguments-by : (ub ua : Bool) → (ub ≡ true → ua ≡ true) → argumentFits ua n (f .a) ≡ true → argumentFits ub n (f .b) ≡ true → AllBelow n (cond ub (f .a ∷ f .b ∷ []) (cond ua (f .a ∷ []) []))
-  arguments-by true true ba a b = (ltb-true (f .a) n a, (ltb-true (f .b) n b, tt))
-  arguments-by true false ba a b = absurd (true≢false (sym (ba refl)))
-  arguments-by false true ba a b = (ltb-true (f .a) n a, tt)
-  arguments-by false false ba a b = tt
-
   stream-keeps : InRange f → StreamKeeps n (declaredFrom f)
   stream-keeps r = record {
-    arguments = rw (reads-by-number (f .a) (f .b) (toZ w64 (f .k)) (f .op) (h .0) (h .1)) (arguments-by (usesB (f .op)) (usesA (f .op)) (λ d. le-leb 4 (f .op) (omega (arith, leb-true 8 (f .op) d))) (first-kept n f e) (second-kept n f e));
+    arguments = fields-reads n (f .op) (f .a) (f .b) (f .k) (f .out) e (toZ w64 (f .k));
     value = rw value-of (sfits-toZ {w = w64} {n = f .k} (record { fits = r .0 }) .sfits);
-    output = rw (input-by-number (f .a) (f .b) (toZ w64 (f .k)) (f .op) (h .0) (h .1)) (output-by (eqb (f .op) 1) (eqb (f .out) 1) (out-kept n f e));
+    output = fields-out n (f .op) (f .a) (f .b) (f .k) (f .out) e (toZ w64 (f .k));
   }
 
 -- ## All streams
@@ -136,71 +120,71 @@ module _ (n : ℕ) where
 -- ## The whole text
 
 -- what a text that is taken is made of
-pub record Parts (s : List ℕ) : Type 0 where
+pub record Parts (cap : ℕ) (s : List ℕ) : Type 0 where
   pub count : ℕ
   pub start : ℕ
   pub fields : List Fields
-  pub opens : head s ≡ Head.Streams count start
+  pub opens : head cap s ≡ Head.Streams count start
   pub lists : streams s start count ≡ formed fields (length s)
   pub kept : allKeep count fields ≡ true
-  pub clear : acyclic streamLimit (planFrom fields) ≡ true
+  pub clear : acyclic cap (planFrom fields) ≡ true
 
-after-parts : (s : List ℕ) (n at : ℕ) → head s ≡ Head.Streams n at → numberAfter s n (streams s at n) ≡ 0 → Parts s
+after-parts : (cap : ℕ) (s : List ℕ) (n at : ℕ) → head cap s ≡ Head.Streams n at → numberAfter cap s n (streams s at n) ≡ 0 → Parts cap s
 unfolding numberAfter
-after-parts s n at h e = by-form (streams s at n) refl e
+after-parts cap s n at h e = by-form (streams s at n) refl e
   where
-    by-tests : (fs : List Fields) (end : ℕ) → streams s at n ≡ formed fs end → (x y z : Bool) → eqb end (length s) ≡ x → allKeep n fs ≡ y → acyclic streamLimit (planFrom fs) ≡ z → _≡_ {A = ℕ} (cond x (cond y (cond z 0 6) 5) 2) 0 → Parts s
+    by-tests : (fs : List Fields) (end : ℕ) → streams s at n ≡ formed fs end → (x y z : Bool) → eqb end (length s) ≡ x → allKeep n fs ≡ y → acyclic cap (planFrom fs) ≡ z → _≡_ {A = ℕ} (cond x (cond y (cond z 0 6) 5) 2) 0 → Parts cap s
     by-tests fs end q true true true a b c e = record { count = n; start = at; fields = fs; opens = h; lists = q ∙ ap (formed fs) (eqb-true end (length s) a); kept = b; clear = c }
     by-tests fs end q true true false a b c e = absurd (omega arith)
     by-tests fs end q true false z a b c e = absurd (omega arith)
     by-tests fs end q false y z a b c e = absurd (omega arith)
 
-    by-form : (x : Form) → streams s at n ≡ x → numberAfter s n x ≡ 0 → Parts s
+    by-form : (x : Form) → streams s at n ≡ x → numberAfter cap s n x ≡ 0 → Parts cap s
     by-form (refused r) q e = absurd (streams-refused s n at (q ∙ ap refused e))
-    by-form (formed fs end) q e = by-tests fs end q (eqb end (length s)) (allKeep n fs) (acyclic streamLimit (planFrom fs)) refl refl refl e
+    by-form (formed fs end) q e = by-tests fs end q (eqb end (length s)) (allKeep n fs) (acyclic cap (planFrom fs)) refl refl refl e
 
-pub taken-parts : (s : List ℕ) → number s ≡ 0 → Parts s
+pub taken-parts : (cap : ℕ) (s : List ℕ) → number cap s ≡ 0 → Parts cap s
 unfolding number
-taken-parts s e = by-length (ltb textLimit (length s)) e
+taken-parts cap s e = by-length (ltb textLimit (length s)) e
   where
-    by-head : (x : Head) → head s ≡ x → numberOfHead s x ≡ 0 → Parts s
-    by-head (Head.Streams n at) q e = after-parts s n at q e
-    by-head (Head.Refused r) q e = absurd (head-refused s (q ∙ ap Head.Refused e))
+    by-head : (x : Head) → head cap s ≡ x → numberOfHead cap s x ≡ 0 → Parts cap s
+    by-head (Head.Streams n at) q e = after-parts cap s n at q e
+    by-head (Head.Refused r) q e = absurd (head-refused cap s (q ∙ ap Head.Refused e))
 
-    by-length : (b : Bool) → cond b 1 (numberOfHead s (head s)) ≡ 0 → Parts s
+    by-length : (b : Bool) → cond b 1 (numberOfHead cap s (head cap s)) ≡ 0 → Parts cap s
     by-length true e = absurd (omega arith)
-    by-length false e = by-head (head s) refl e
+    by-length false e = by-head (head cap s) refl e
 
-pub parts-declared : (s : List ℕ) (p : Parts s) → declared s ≡ map declaredFrom (p .fields)
+pub parts-declared : (cap : ℕ) (s : List ℕ) (p : Parts cap s) → declared cap s ≡ map declaredFrom (p .fields)
 unfolding declared
-parts-declared s p = rw (p .opens, p .lists)
+parts-declared cap s p = rw (p .opens, p .lists)
 
 rendered : (ds : List Declared) (n : ℕ) → length ds ≡ n → render ds ≡ planLine ++ (line streamsKey (decimal n) ++ allText ds)
 unfolding render
 rendered ds n e = rw e
 
 -- A text that is taken is, byte for byte, the text of the plan that reading it gives, and that plan keeps the rules.
-pub taken-rendered : (s : List ℕ) → number s ≡ 0 → (render (declared s) ≡ s) × KeepsRules (declared s)
-taken-rendered s e =
-    let p = taken-parts s e in
+pub taken-rendered : (cap : ℕ) (s : List ℕ) → number cap s ≡ 0 → (render (declared cap s) ≡ s) × KeepsRules cap (declared cap s)
+taken-rendered cap s e =
+    let p = taken-parts cap s e in
     let n = p .count in
     let ds = map declaredFrom (p .fields) in
     let r = read-sound s n (p .start) (p .fields) (length s) (p .lists) in
     let t = streams-read s n (p .start) (p .fields) (length s) (p .lists) in
-    let h = head-fits s n (p .start) (p .opens) in
+    let h = head-fits cap s n (p .start) (p .opens) in
     let m : length ds ≡ n = length-map (p .fields) declaredFrom ∙ r .1 in
-    let x = head-read s n (p .start) (p .opens) in
+    let x = head-read cap s n (p .start) (p .opens) in
     let y : drop (p .start) s ≡ allText ds = t .0 ∙ rw (drop-length s, append-nil (fieldsText (p .fields))) (all-text n (p .fields) (r .0) (p .kept)) in
-    subst (λ (l : List Declared). (render l ≡ s) × KeepsRules l) (sym (parts-declared s p)) (
+    subst (λ (l : List Declared). (render l ≡ s) × KeepsRules cap l) (sym (parts-declared cap s p)) (
       rendered ds n m ∙ ap (λ (l : List ℕ). planLine ++ (line streamsKey (decimal n) ++ l)) (sym y) ∙ sym x,
       record {
         some = omega (arith, h .0, m);
         few = omega (arith, h .1, m);
         each = subst (λ (i : ℕ). Each i ds) (sym m) (each-keeps n (p .fields) (r .0) (t .1) (p .kept));
-        clear = ap (acyclic streamLimit) (sym (same-plan (p .fields))) ∙ p .clear;
+        clear = ap (acyclic cap) (sym (same-plan (p .fields))) ∙ p .clear;
       },
     )
 
 -- A text is taken exactly if it is the text of some plan that keeps the rules.
-pub taken-exactly : (s : List ℕ) → (number s ≡ 0) ↔ ((ds : List Declared) × (render ds ≡ s) × KeepsRules ds)
-taken-exactly s = (λ e. let r = taken-rendered s e in (declared s, r .0, r .1), λ t. subst (λ (x : List ℕ). number x ≡ 0) (t .1) (render-taken (t .0) (t .2) .0))
+pub taken-exactly : (cap : ℕ) → cap ≤ mostStreams → (s : List ℕ) → (number cap s ≡ 0) ↔ ((ds : List Declared) × (render ds ≡ s) × KeepsRules cap ds)
+taken-exactly cap c s = (λ e. let r = taken-rendered cap s e in (declared cap s, r .0, r .1), λ t. subst (λ (x : List ℕ). number cap x ≡ 0) (t .1) (render-taken cap c (t .0) (t .2) .0))

@@ -12,7 +12,6 @@ use Rattle.meaning.specs.Plan.{Eqn, Plan}
 use Rattle.meaning.specs.Cycle.{acyclic}
 use Rattle.machine.specs.State.{Declared}
 use Rattle.operators.specs.Operators.{eqnOf, usesA, usesB, usesK}
-use Rattle.operators.specs.Limits.{streamLimit, textLimit}
 use Rattle.cycle.specs.Graph.{entryOf}
 use Rattle.text.specs.declared.Fields.{Fields}
 use Rattle.text.specs.declared.Lines.{Lines}

@@ -1,19 +1,17 @@
 -- Rules 5 and 6, and the number of a whole plan text.
-use Prim.Native.Nat.{ℕ, zero, suc, _+_, _*_}
-use mathlib.Core.Path.{_≡_}
-use mathlib.Core.Bool.{Bool, true, false, not, cond, _&&_}
+use Prim.Native.Nat.{ℕ, zero, suc}
+use mathlib.Core.Bool.{Bool, true, not, cond, _&&_}
 use mathlib.Core.List.{List, [], _∷_, map}
 use lib.Dec.{eqb, ltb}
 use lib.ListN.{length}
-use lib.Seq.{sets}
 use mir.Syntax.{w64}
 use mir.Val.{toZ}
 use Rattle.meaning.specs.Plan.{Eqn, Plan}
 use Rattle.meaning.specs.Cycle.{acyclic}
 use Rattle.machine.specs.State.{Declared}
-use Rattle.operators.specs.Operators.{eqnOf, usesA, usesB, usesK}
-use Rattle.operators.specs.Limits.{streamLimit, textLimit}
-use Rattle.cycle.specs.Graph.{entryOf}
+use Rattle.operators.specs.Operators.{eqnOf}
+use Rattle.operators.specs.Rules.{fieldsOk}
+use Rattle.operators.specs.Limits.{textLimit}
 use Rattle.text.specs.declared.Fields.{Fields}
 use Rattle.text.specs.declared.Lines.{Lines}
 use Rattle.text.specs.declared.Lines.the-variants as Lines
@@ -27,22 +25,9 @@ use Rattle.plan.specs.declared.Turn.the-variants as Turn
 
 -- ## "Then 5, an unused field not 0, a used argument not below N, or out=1 on in."
 
-abbrev pub argumentFits : Bool → ℕ → ℕ → Bool
-argumentFits used n a = cond used (ltb a n) (eqb a 0)
-
-abbrev pub argumentsFit : ℕ → ℕ → ℕ → ℕ → Bool
-argumentsFit n op a b = argumentFits (usesA op) n a && argumentFits (usesB op) n b
-
-abbrev pub valueFits : ℕ → ℕ → Bool
-valueFits op k = cond (usesK op) true (eqb k 0)
-
--- in is operator 1
-abbrev pub outFits : ℕ → ℕ → Bool
-outFits op out = cond (eqb op 1) (not (eqb out 1)) true
-
 -- a stream of a plan of n streams keeps the rule
-unfoldable pub keeps : ℕ → Fields → Bool
-keeps n f = outFits (f .op) (f .out) && (valueFits (f .op) (f .k) && argumentsFit n (f .op) (f .a) (f .b))
+abbrev pub keeps : ℕ → Fields → Bool
+keeps n f = fieldsOk n (f .op) (f .a) (f .b) (f .k) (f .out)
 
 unfoldable pub allKeep : ℕ → List Fields → Bool
 allKeep n [] = true
@@ -80,18 +65,18 @@ planFrom fs = map eqnFrom fs
 -- ## The number of a text
 
 -- "bytes left over" are 2, then 5, "Then 6, a cycle without a delayed argument."
-unfoldable pub numberAfter : List ℕ → ℕ → Form → ℕ
-numberAfter s n (refused r) = r
-numberAfter s n (formed fs end) =
-    cond (eqb end (length s)) (cond (allKeep n fs) (cond (acyclic streamLimit (planFrom fs)) 0 6) 5) 2
+unfoldable pub numberAfter : ℕ → List ℕ → ℕ → Form → ℕ
+numberAfter cap s n (refused r) = r
+numberAfter cap s n (formed fs end) =
+    cond (eqb end (length s)) (cond (allKeep n fs) (cond (acyclic cap (planFrom fs)) 0 6) 5) 2
 
-abbrev pub numberOfHead : List ℕ → Head → ℕ
-numberOfHead s (Head.Streams n at) = numberAfter s n (streams s at n)
-numberOfHead s (Head.Refused r) = r
+abbrev pub numberOfHead : ℕ → List ℕ → Head → ℕ
+numberOfHead cap s (Head.Streams n at) = numberAfter cap s n (streams s at n)
+numberOfHead cap s (Head.Refused r) = r
 
--- "1 text longer than 2,048 bytes; then the first faulty line decides"
-unfoldable pub number : List ℕ → ℕ
-number s = cond (ltb textLimit (length s)) 1 (numberOfHead s (head s))
+-- "1 text longer than 2,048 bytes; then the first faulty line decides", for a state with room for so many streams
+unfoldable pub number : ℕ → List ℕ → ℕ
+number cap s = cond (ltb textLimit (length s)) 1 (numberOfHead cap s (head cap s))
 
 -- the streams that a text declares; none if its form is wrong
 abbrev pub declaredOf : Form → List Declared
@@ -102,5 +87,5 @@ abbrev pub declaredHead : List ℕ → Head → List Declared
 declaredHead s (Head.Streams n at) = declaredOf (streams s at n)
 declaredHead s (Head.Refused r) = []
 
-unfoldable pub declared : List ℕ → List Declared
-declared s = declaredHead s (head s)
+unfoldable pub declared : ℕ → List ℕ → List Declared
+declared cap s = declaredHead s (head cap s)

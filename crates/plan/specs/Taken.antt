@@ -5,12 +5,10 @@ use mathlib.Core.Bool.{true, false, _&&_}
 use mathlib.Core.List.{List, [], _∷_, map}
 use lib.ListN.{length}
 use lib.Signed.{mag}
-use Rattle.meaning.specs.Plan.{Plan, isInput, reads}
+use Rattle.meaning.specs.Plan.{Plan, isInput, reads, AllBelow}
 use Rattle.meaning.specs.Cycle.{acyclic}
-use Rattle.machine.specs.State.{Declared}
+use Rattle.machine.specs.State.{Declared, declaredPlan}
 use Rattle.operators.specs.Operators.{valueOf}
-use Rattle.operators.specs.Limits.{streamLimit}
-use Rattle.cycle.specs.Graph.{AllBelow}
 
 -- one stream of a plan of n streams
 pub record StreamKeeps (n : ℕ) (d : Declared) : Type 0 where
@@ -25,13 +23,11 @@ abbrev pub Each : ℕ → List Declared → Type 0
 Each n [] = Unit {0}
 Each n (d ∷ ds) = StreamKeeps n d × Each n ds
 
-abbrev pub planOf : List Declared → Plan
-planOf ds = map (λ d. d .eqn) ds
-
-pub record KeepsRules (ds : List Declared) : Type 0 where
-  -- "1 to 32"
+-- the plan of a state with room for so many streams
+pub record KeepsRules (cap : ℕ) (ds : List Declared) : Type 0 where
+  -- "1 to 32", 32 being the capacity
   pub some : 1 ≤ length ds
-  pub few : length ds ≤ streamLimit
+  pub few : length ds ≤ cap
   pub each : Each (length ds) ds
   -- "Every cycle of arguments must contain the first argument of a last or a delay"
-  pub clear : acyclic streamLimit (planOf ds) ≡ true
+  pub clear : acyclic cap (declaredPlan ds) ≡ true

@@ -1,11 +1,11 @@
 // The number of a plan text: its form line by line, then rule 5, then rule 6.
 ghost use mathlib.Core.Path.{_≡_};
 ghost use mathlib.Core.Bool.{true, _&&_};
-ghost use Prim.Native.Nat.{_<_, _≤_};
+ghost use Prim.Native.Nat.{_+_, _*_, _<_, _≤_};
 ghost use lib.ListN.{length};
 ghost use Rattle.text.specs.Grammar.{stream};
-ghost use Rattle.operators.specs.Limits.{streamLimit};
-ghost use Rattle.plan.specs.Rules.{argumentsFit, valueFits, outFits, keeps, streams, numberAfter, number};
+ghost use Rattle.operators.specs.Limits.{mostStreams};
+ghost use Rattle.plan.specs.Rules.{keeps, streams, numberAfter, number};
 ghost use Rattle.plan.specs.Pass.{notedStream, notedLines, turn, Noted, passOf, checkedOf};
 use cycle::GRAPH;
 use operators::Plan;
@@ -31,49 +31,16 @@ fn both(x: bool, y: bool) -> bool
     if x { y } else { false }
 }
 
-fn out_fits(op: u8, out: u64) -> bool
-    ensures { λ r. ⌜ r ≡ outFits op out ⌝ }
-{
-    if op == 1 { out != 1 } else { true }
-}
-
-fn value_fits(op: u8, k: u64) -> bool
-    ensures { λ r. ⌜ r ≡ valueFits op k ⌝ }
-{
-    match op {
-        0..=4 => k == 0,
-        5..=6 => true,
-        _ => k == 0,
-    }
-}
-
-// An argument that is used is below n, one that is not is 0: by the groups of the stored number.
-fn arguments_fit(n: u64, op: u8, a: u64, b: u64) -> bool
-    ensures { λ r. ⌜ r ≡ argumentsFit n op a b ⌝ }
-{
-    match op {
-        0..=3 => both(a == 0, b == 0),
-        4..=7 => both(a < n, b == 0),
-        _ => both(a < n, b < n),
-    }
-}
-
 // Whether a stream of a plan of n streams keeps rule 5.
 fn keeps(n: u64, f: Fields) -> bool
     ensures { λ r. ⌜ r ≡ keeps n f ⌝ }
 {
-    if !out_fits(f.op, f.out) {
-        return false;
-    }
-    if !value_fits(f.op, f.k) {
-        return false;
-    }
-    arguments_fit(n, f.op, f.a, f.b)
+    operators::fields_ok(n, f.op as u64, f.a, f.b, f.k, f.out)
 }
 
 // Tests rule 5 for stream i, and notes its undelayed arguments.
-fn note_stream(graph: &mut [u8; GRAPH], i: usize, n: u64, f: Fields) -> bool
-    requires { ⌜ (i < streamLimit) × (n ≤ 256) ⌝ }
+fn note_stream(graph: &mut [u8], i: usize, n: u64, f: Fields) -> bool
+    requires { ⌜ (3 * i + 2 < length (now graph)) × (n ≤ 256) ⌝ }
     ensures { λ r. ⌜ r ≡ keeps n f ⌝ }
     ensures { λ _. ⌜ now (graph .exit) ≡ notedStream n i f (now (graph .entry)) ⌝ }
 {
@@ -86,8 +53,8 @@ fn note_stream(graph: &mut [u8; GRAPH], i: usize, n: u64, f: Fields) -> bool
 }
 
 // Reads stream i at a position.
-fn read_turn(text: &[u8], at: usize, graph: &mut [u8; GRAPH], i: usize, n: u64) -> Turn
-    requires { ⌜ (i < streamLimit) × (n ≤ 256) ⌝ }
+fn read_turn(text: &[u8], at: usize, graph: &mut [u8], i: usize, n: u64) -> Turn
+    requires { ⌜ (3 * i + 2 < length (now graph)) × (n ≤ 256) ⌝ }
     ensures { λ r. ⌜ r ≡ turn n (stream (now (text .entry)) at) ⌝ }
     ensures { λ _. ⌜ now (graph .exit) ≡ notedLines n i (stream (now (text .entry)) at) (now (graph .entry)) ⌝ }
 {
@@ -101,8 +68,8 @@ fn read_turn(text: &[u8], at: usize, graph: &mut [u8; GRAPH], i: usize, n: u64) 
 }
 
 // Reads all streams' lines. A text whose form is right leaves its graph.
-fn form(text: &[u8], at: usize, n: usize, graph: &mut [u8; GRAPH]) -> Checked
-    requires { ⌜ n ≤ streamLimit ⌝ }
+fn form(text: &[u8], at: usize, n: usize, graph: &mut [u8]) -> Checked
+    requires { ⌜ (3 * n ≤ length (now graph)) × (n ≤ 256) ⌝ }
     ensures { λ r. ⌜ r ≡ checkedOf (length (now (text .entry))) (passOf n true 0 (now (graph .entry)) (streams (now (text .entry)) at n)) ⌝ }
     ensures { λ _. ⌜ Noted (now (graph .exit)) (passOf n true 0 (now (graph .entry)) (streams (now (text .entry)) at n)) ⌝ }
 {
@@ -127,9 +94,9 @@ fn form(text: &[u8], at: usize, n: usize, graph: &mut [u8; GRAPH]) -> Checked
 }
 
 // The number of a text whose first two lines announce n streams, the first of them at a position.
-fn plan_number(text: &[u8], n: usize, at: usize) -> u32
-    requires { ⌜ n ≤ streamLimit ⌝ }
-    ensures { λ r. ⌜ r ≡ numberAfter (now (text .entry)) n (streams (now (text .entry)) at n) ⌝ }
+fn plan_number(text: &[u8], n: usize, at: usize, most: usize) -> u32
+    requires { ⌜ (n ≤ most) × (most ≤ mostStreams) ⌝ }
+    ensures { λ r. ⌜ r ≡ numberAfter most (now (text .entry)) n (streams (now (text .entry)) at n) ⌝ }
 {
     let mut graph = [0u8; GRAPH];
     match form(text, at, n, &mut graph) {
@@ -138,7 +105,7 @@ fn plan_number(text: &[u8], n: usize, at: usize) -> u32
             if !ok {
                 return 5;
             }
-            if !cycle::clear(&mut graph, n as u8, Plan::STREAMS as u8) {
+            if !cycle::clear(&mut graph, n as u8, most as u8) {
                 return 6;
             }
             0
@@ -146,15 +113,16 @@ fn plan_number(text: &[u8], n: usize, at: usize) -> u32
     }
 }
 
-// The number of a plan text: 0 if it is taken.
-pub fn number(text: &[u8]) -> u32
-    ensures { λ r. ⌜ r ≡ number (now (text .entry)) ⌝ }
+// The number of a plan text, for a state with room for so many streams: 0 if it is taken.
+pub fn number(text: &[u8], most: usize) -> u32
+    requires { ⌜ most ≤ mostStreams ⌝ }
+    ensures { λ r. ⌜ r ≡ number most (now (text .entry)) ⌝ }
 {
     if Plan::TEXT < text.len() {
         return 1;
     }
-    match text::read_head(text) {
-        Head::Streams(n, at) => plan_number(text, n, at),
+    match text::read_head(text, most) {
+        Head::Streams(n, at) => plan_number(text, n, at, most),
         Head::Refused(r) => r,
     }
 }

@@ -5,20 +5,20 @@ use mathlib.Core.List.{List, [], _∷_, map}
 use mathlib.Core.Bool.{Bool, true, false, not, cond}
 use native.Mathlib.Omega.{arith}
 use native.Mathlib.Numerals.{add-one}
-use lib.Dec.{ltb, leb, eqb}
+use lib.Dec.{ltb, leb}
 use lib.IntN.{ℤ}
 use lib.ListN.{length, set, length-set, length-map, length-append, List·getD-eq-default}
 use lib.Seq.{getD-set-same, set-set}
 use borrow.Author.Tests.{ltb-true, ltb-false}
 use mir.Syntax.{w64}
 use mir.Val.{ofZ}
-use Rattle.meaning.specs.Plan.{Unary, time, neg, plus, add, sub, mul, div, rem, lt, le, eq, Binary, calc, keep, merge, Eqn, input, nil, unit, one, two, last, delay, isInput, reads}
-use Rattle.meaning.specs.Plan as plan
+use Rattle.meaning.specs.Plan.{Eqn, input, one, isInput, reads, argA, argB}
 use Rattle.meaning.specs.Events.{Event, ev, horizon}
 use Rattle.machine.specs.State.{Kept, Cell, State, absent, cellAt, room, withBound, withKept}
-use Rattle.machine.specs.Step.{argA, argB, advance, absorb, absorbed, write, told, tell, release, releases, raise}
+use Rattle.machine.specs.Step.{advance, absorb, absorbed, write, told, tell, release, releases, raise}
 use Rattle.machine.specs.Calls.{Outcome, unless, noInput, offerReading, offerProgress, arrivals, done}
-use Rattle.operators.specs.Operators.{numberOf, unaryNumber, binaryNumber}
+use Rattle.operators.specs.Operators.{groupOf, isIn}
+use Rattle.operators.proofs.Laws.{in-of}
 use Rattle.layout.specs.Record.{Raw, Raws, num, withNum, rowAt, change, changeAll, opF, countF, boundF}
 use Rattle.cells.specs.View.{ofCell, rawsOf}
 use Rattle.step.specs.Step.{pushed, toldRow, releasedRow, offered}
@@ -26,39 +26,11 @@ use Rattle.calls.specs.Numbers.{readingRow, readingRaw, progressRow, progressRa
 use Rattle.refine.proofs.Queues.{bound-of, push-of}
 use Rattle.refine.proofs.Whole.{row-of, change-of, tell-of, release-row-of}
 
--- ---- inputs by their number
+-- ---- inputs by their group
 
-one-input : (f : Unary) → eqb (unaryNumber f) 1 ≡ false
-one-input time = refl
-one-input neg = refl
-one-input (plan.set k) = refl
-one-input (plus k) = refl
-
-two-input : (g : Binary) → eqb (binaryNumber g) 1 ≡ false
-two-input (calc add) = refl
-two-input (calc sub) = refl
-two-input (calc mul) = refl
-two-input (calc div) = refl
-two-input (calc rem) = refl
-two-input (calc lt) = refl
-two-input (calc le) = refl
-two-input (calc eq) = refl
-two-input keep = refl
-two-input merge = refl
-
-pub input-number : (e : Eqn) → eqb (numberOf e) 1 ≡ isInput e
-unfolding numberOf
-input-number input = refl
-input-number nil = refl
-input-number unit = refl
-input-number (one f a) = one-input f
-input-number (two g a b) = two-input g
-input-number (last a b) = refl
-input-number (delay a b) = refl
-
-pub op-of : (c : Cell) → eqb (num opF (ofCell c)) 1 ≡ isInput (c .eqn)
+pub op-of : (c : Cell) → isIn (groupOf (num opF (ofCell c))) ≡ isInput (c .eqn)
 unfolding ofCell
-op-of c = input-number (c .eqn)
+op-of c = in-of (c .eqn)
 
 bound-in : (c : Cell) → num boundF (ofCell c) ≡ c .bound
 unfolding ofCell

@@ -12,17 +12,18 @@ use lib.Seq.{getD-set-same}
 use borrow.Author.Tests.{lt-ltb, le-ltb, leb-false}
 use mir.Syntax.{w64}
 use mir.Val.{ofZ}
-use Rattle.meaning.specs.Plan.{Unary, time, neg, plus, add, sub, mul, div, rem, lt, le, eq, Binary, calc, keep, merge, Eqn, input, nil, unit, one, two, last, delay, isInput, reads}
+use Rattle.meaning.specs.Plan.{Unary, time, neg, plus, Binary, calc, keep, merge, Eqn, input, nil, unit, one, two, last, delay, isInput, reads, argA, argB, AllBelow}
 use Rattle.meaning.specs.Plan as plan
 use Rattle.meaning.specs.Events.{Event, ev, horizon}
 use Rattle.machine.specs.State.{Kept, Cell, State, absent, cellAt, room, withKept}
 use Rattle.machine.specs.Reach.{Next, event, silent, decide}
-use Rattle.machine.specs.Step.{argA, argB, advance, absorb, absorbed, write, tell, release, releases, raise, newBound, added, ahead, canMove, comesIn, move}
+use Rattle.machine.specs.Step.{advance, absorb, absorbed, write, tell, release, releases, raise, newBound, added, ahead, canMove, comesIn, move}
 use Rattle.machine.proofs.Frame.{absorbed-frame, tell-frame}
-use Rattle.operators.specs.Operators.{numberOf, firstOf, secondOf, unaryNumber, binaryNumber}
+use Rattle.operators.specs.Operators.{numberOf, unaryNumber, binaryNumber}
+use Rattle.operators.proofs.Laws.{calc-place, in-number, in-of}
 use Rattle.layout.specs.Record.{Raw, Raws, num, withNum, rowAt, change, changeAll, opF, aF, bF, countF, boundF}
 use Rattle.cells.specs.View.{ofCell, rawsOf}
-use Rattle.cells.specs.Sound.{AllBelow, IsKept, SoundCell, Sound}
+use Rattle.cells.specs.Sound.{IsKept, SoundCell, Sound}
 use Rattle.cells.proofs.Widths.{cell-back}
 use Rattle.sound.proofs.Steps.{Comes, silence, comes-values, set-sound, advance-sound, write-sound, tell-sound, release-sound}
 use Rattle.sound.proofs.Calls.{ahead-fine}
@@ -35,7 +36,6 @@ use Rattle.step.specs.Step.{pushed, toldRow, releasedRow}
 use Rattle.moves.specs.Move.{argIn, ownIn, firstIn, secondIn, aheadRaw, boundRaw, canRaw, absorbedRaw, releasedArgs, releasedAll, silentRaw, eventRaw, stepRaw, movedRaw}
 use Rattle.refine.proofs.Queues.{bound-of, silent-is, push-of}
 use Rattle.refine.proofs.Whole.{row-of, change-of, tell-of, release-row-of}
-use Rattle.refine.proofs.Calls.{input-number}
 
 -- ---- a sound cell is looked at as it is
 
@@ -52,26 +52,6 @@ look-of : (n : ℕ) (c : Cell) → SoundCell n c → lookOf (ofCell c) ≡ c
 look-of n c ok = look-cell c (cell-back n c ok) (ok .bound) (since-below (c .eqn) (c .bound) (c .kept) (ok .kept))
 
 -- ---- the arguments
-
-first-is : (e : Eqn) → firstOf e ≡ argA e
-unfolding firstOf
-first-is input = refl
-first-is nil = refl
-first-is unit = refl
-first-is (one f a) = refl
-first-is (two g a b) = refl
-first-is (last a b) = refl
-first-is (delay a b) = refl
-
-second-is : (e : Eqn) → secondOf e ≡ argB e
-unfolding secondOf
-second-is input = refl
-second-is nil = refl
-second-is unit = refl
-second-is (one f a) = refl
-second-is (two g a b) = refl
-second-is (last a b) = refl
-second-is (delay a b) = refl
 
 first-below : (n : ℕ) (e : Eqn) → 0 < n → AllBelow n (reads e) → argA e < n
 first-below n input h k = h
@@ -93,11 +73,11 @@ second-below n (delay a b) h k = k .1 .0
 
 a-in : (c : Cell) → num aF (ofCell c) ≡ argA (c .eqn)
 unfolding ofCell
-a-in c = first-is (c .eqn)
+a-in c = refl
 
 b-in : (c : Cell) → num bF (ofCell c) ≡ argB (c .eqn)
 unfolding ofCell
-b-in c = second-is (c .eqn)
+b-in c = refl
 
 op-in : (c : Cell) → num opF (ofCell c) ≡ numberOf (c .eqn)
 unfolding ofCell
@@ -114,7 +94,7 @@ bound-in c = refl
 arg-is : (n a : ℕ) → a < n → argIn n a ≡ a
 arg-is n a h = rw (lt-ltb a n h)
 
-module _ (size : ℕ) (M : State) (ok : Sound M) where
+module _ {cap : ℕ} (size : ℕ) (M : State) (ok : Sound cap M) where
   row : (j : ℕ) → j < length M → rowAt (rawsOf size M) j ≡ ofCell (cellAt M j)
   unfolding rawsOf
   row j h = row-of M j h
@@ -163,7 +143,7 @@ module _ (size : ℕ) (M : State) (ok : Sound M) where
     pub can-of : canRaw (length M) i (rawsOf size M) ≡ canMove i M
     unfolding canRaw canMove
     can-of =
-        let o : eqb (num opF (rowAt (rawsOf size M) i)) 1 ≡ isInput (cellAt M i .eqn) = ap (λ (r : Raw). eqb (num opF r) 1) (row i l) ∙ ap (λ (x : ℕ). eqb x 1) (op-in (cellAt M i)) ∙ input-number (cellAt M i .eqn) in
+        let o : eqb (num opF (rowAt (rawsOf size M) i)) 1 ≡ isInput (cellAt M i .eqn) = ap (λ (r : Raw). eqb (num opF r) 1) (row i l) ∙ ap (λ (x : ℕ). eqb x 1) (op-in (cellAt M i)) ∙ sym (in-number (numberOf (cellAt M i .eqn))) ∙ in-of (cellAt M i .eqn) in
         let y : num boundF (rowAt (rawsOf size M) i) ≡ cellAt M i .bound = ap (num boundF) (row i l) ∙ bound-in (cellAt M i) in
         let b = ap₂ boundRaw ahead-of count ∙ bound-after (ahead i M) (cellAt M i .held) in
         ap₂ (λ (p : Bool) (q : Bool). not p && not q) o (ap₂ eqb b y)
@@ -188,36 +168,29 @@ one-low (plan.set k) = (omega arith, lit< tt)
 one-low (plus k) = (omega arith, lit< tt)
 
 two-low : (g : Binary) → 8 ≤ binaryNumber g
-two-low (calc add) = omega arith
-two-low (calc sub) = omega arith
-two-low (calc mul) = omega arith
-two-low (calc div) = omega arith
-two-low (calc rem) = omega arith
-two-low (calc lt) = omega arith
-two-low (calc le) = omega arith
-two-low (calc eq) = omega arith
+two-low (calc g) = let k = calc-place g in omega arith
 two-low keep = omega arith
 two-low merge = omega arith
 
 abbrev argsBy : ℕ → ℕ → ℕ → Raws → Raws
 argsBy op a b st = cond (ltb op 4) st (cond (ltb op 8) (releasedRow a st) (releasedRow b (releasedRow a st)))
 
-few-at : (M : State) → Sound M → (j : ℕ) → j < length M → length (cellAt M j .held) ≤ room
+few-at : {cap : ℕ} (M : State) → Sound cap M → (j : ℕ) → j < length M → length (cellAt M j .held) ≤ room
 few-at M ok j h = ok .each j h .few
 
-release-is : (size : ℕ) (M : State) → Sound M → (j : ℕ) → j < length M → releasedRow j (rawsOf size M) ≡ rawsOf size (release j M)
+release-is : {cap : ℕ} (size : ℕ) (M : State) → Sound cap M → (j : ℕ) → j < length M → releasedRow j (rawsOf size M) ≡ rawsOf size (release j M)
 release-is size M ok j h = release-row-of size M j h (few-at M ok j h)
 
 release-length : (i : ℕ) (M : State) → length (release i M) ≡ length M
 unfolding release
 release-length i M = length-set M i _
 
-two-released : (size : ℕ) (M : State) → Sound M → (a b : ℕ) → a < length M → b < length M → releasedRow b (releasedRow a (rawsOf size M)) ≡ rawsOf size (releases (a ∷ b ∷ []) M)
+two-released : {cap : ℕ} (size : ℕ) (M : State) → Sound cap M → (a b : ℕ) → a < length M → b < length M → releasedRow b (releasedRow a (rawsOf size M)) ≡ rawsOf size (releases (a ∷ b ∷ []) M)
 unfolding releases
 two-released size M ok a b ha hb =
     ap (releasedRow b) (release-is size M ok a ha) ∙ release-is size (release a M) (release-sound a M ok) b (rw (release-length a M) hb)
 
-args-by : (size : ℕ) (M : State) → Sound M → (e : Eqn) → AllBelow (length M) (reads e) → argsBy (numberOf e) (argA e) (argB e) (rawsOf size M) ≡ rawsOf size (releases (reads e) M)
+args-by : {cap : ℕ} (size : ℕ) (M : State) → Sound cap M → (e : Eqn) → AllBelow (length M) (reads e) → argsBy (numberOf e) (argA e) (argB e) (rawsOf size M) ≡ rawsOf size (releases (reads e) M)
 unfolding numberOf releases
 args-by size M ok input h = refl
 args-by size M ok nil h = refl
@@ -230,7 +203,7 @@ args-by size M ok (two g a b) h =
 args-by size M ok (last a b) h = two-released size M ok a b (h .0) (h .1 .0)
 args-by size M ok (delay a b) h = two-released size M ok a b (h .0) (h .1 .0)
 
-pub all-of : (size : ℕ) (M : State) → Sound M → (i : ℕ) → i < length M → releasedAll (length M) i (rawsOf size M) ≡ rawsOf size (releases (i ∷ reads (cellAt M i .eqn)) M)
+pub all-of : {cap : ℕ} (size : ℕ) (M : State) → Sound cap M → (i : ℕ) → i < length M → releasedAll (length M) i (rawsOf size M) ≡ rawsOf size (releases (i ∷ reads (cellAt M i .eqn)) M)
 unfolding releasedAll releasedArgs releases
 all-of size M ok i l =
     let N = release i M in
@@ -252,13 +225,13 @@ all-of size M ok i l =
 
 -- ---- the two kinds of move
 
-module _ (size : ℕ) (M : State) (ok : Sound M) (i : ℕ) (l : i < length M) where
+module _ {cap : ℕ} (size : ℕ) (M : State) (ok : Sound cap M) (i : ℕ) (l : i < length M) where
   -- the state with the bound at y and the new events, and with its kept data
   module _ (y : ℕ) (new : List Event) (up : cellAt M i .bound < y) (top : y ≤ horizon) (cm : Comes y (cellAt M i) new) where
     N : State
     N = set M i (advance y new (cellAt M i))
 
-    sound-N : Sound (set M i (advance y new (cellAt M i)))
+    sound-N : Sound cap (set M i (advance y new (cellAt M i)))
     sound-N = set-sound M i (advance y new (cellAt M i)) ok l refl (advance-sound (length M) y (cellAt M i) new (ok .each i l) up top cm)
 
     length-N : length (set M i (advance y new (cellAt M i))) ≡ length M
@@ -268,7 +241,7 @@ module _ (size : ℕ) (M : State) (ok : Sound M) (i : ℕ) (l : i < length M) wh
     unfolding write
     written = ap (λ (m : ℕ). absorbedRaw m i (rawsOf size (set M i (advance y new (cellAt M i))))) (sym length-N) ∙ absorbed-of size (set M i (advance y new (cellAt M i))) sound-N i (rw length-N l)
 
-    after : Sound (tell i new (write i y new M))
+    after : Sound cap (tell i new (write i y new M))
     after = tell-sound i new (write i y new M) (comes-values cm) (write-sound i y new M ok l up top cm)
 
     lengths : length (tell i new (write i y new M)) ≡ length M

@@ -1,71 +1,32 @@
 -- What each raw step makes of a cell's record is the record of what the machine makes of the cell.
 use Prim.Native.Nat.{ℕ, _+_, _-_, min}
 use mathlib.Core.Path.{_≡_, refl, sym, ap, _∙_}
-use mathlib.Core.List.{List}
-use mathlib.Core.Bool.{Bool, true, false, cond, _||_}
+use mathlib.Core.List.{List, map}
+use mathlib.Core.Bool.{Bool, true, false, cond}
 use lib.Dec.{ltb, eqb}
 use lib.IntN.{ℤ}
 use mir.Syntax.{w64}
 use mir.Val.{ofZ}
 use borrow.Author.Tests.{eqb-true}
-use Rattle.meaning.specs.Plan.{Unary, time, neg, plus, add, sub, mul, div, rem, lt, le, eq, Binary, calc, keep, merge, Eqn, input, nil, unit, one, two, last, delay}
-use Rattle.meaning.specs.Plan as plan
+use Rattle.meaning.specs.Plan.{Argument, Eqn, input, nil, unit, one, two, last, delay}
 use Rattle.meaning.specs.Events.{Event}
 use Rattle.machine.specs.State.{Kept, Cell}
-use Rattle.machine.specs.Step.{readsIt, valueTold, priorTold, sinceTold, keptTold, told}
-use Rattle.operators.specs.Operators.{numberOf, firstOf, secondOf}
+use Rattle.machine.specs.Step.{anyOf, readsIt, valueTold, priorTold, sinceTold, keptTold, told}
+use Rattle.operators.specs.Operators.{groupOf, numberOf}
+use Rattle.operators.proofs.Laws.{one-group, two-group, arguments-of}
 use Rattle.layout.specs.Record.{Raw}
-use Rattle.cells.specs.View.{KeptNums, keptNums, flag, rawOf, ofCell}
+use Rattle.cells.specs.View.{keptNums, flag, rawOf, ofCell}
 use Rattle.step.specs.Step.{readsRow, toldLast, toldValue, toldPrior, toldSince, toldDelay, toldRow, lowered, waitingRow}
-
-or-cond : (p q : Bool) → cond p true q ≡ (p || q)
-or-cond true q = refl
-or-cond false q = refl
-
-cond-self : (b : Bool) → cond b true false ≡ b
-cond-self true = refl
-cond-self false = refl
 
 pub cond-same : {A : Type 0} (b : Bool) (x : A) → cond b x x ≡ x
 cond-same true x = refl
 cond-same false x = refl
 
--- ---- who reads: by the groups of the stored number
-
-module _ (s : ℕ) (o : Bool) (y : ℕ) (h : List Event) (m : ℕ) (n : KeptNums) where
-  one-reads : (a : ℕ) (f : Unary) → readsRow s (rawOf (one f a) o y h m n) ≡ eqb a s
-  unfolding readsRow numberOf firstOf secondOf
-  one-reads a time = cond-self (eqb a s)
-  one-reads a neg = cond-self (eqb a s)
-  one-reads a (plan.set x) = cond-self (eqb a s)
-  one-reads a (plus x) = cond-self (eqb a s)
-
-  two-reads : (a b : ℕ) (g : Binary) → readsRow s (rawOf (two g a b) o y h m n) ≡ (eqb a s || eqb b s)
-  unfolding readsRow numberOf firstOf secondOf
-  two-reads a b (calc add) = or-cond (eqb a s) (eqb b s)
-  two-reads a b (calc sub) = or-cond (eqb a s) (eqb b s)
-  two-reads a b (calc mul) = or-cond (eqb a s) (eqb b s)
-  two-reads a b (calc div) = or-cond (eqb a s) (eqb b s)
-  two-reads a b (calc rem) = or-cond (eqb a s) (eqb b s)
-  two-reads a b (calc lt) = or-cond (eqb a s) (eqb b s)
-  two-reads a b (calc le) = or-cond (eqb a s) (eqb b s)
-  two-reads a b (calc eq) = or-cond (eqb a s) (eqb b s)
-  two-reads a b keep = or-cond (eqb a s) (eqb b s)
-  two-reads a b merge = or-cond (eqb a s) (eqb b s)
-
-  reads-raw : (e : Eqn) → readsRow s (rawOf e o y h m n) ≡ readsIt s e
-  unfolding readsRow numberOf firstOf secondOf
-  reads-raw input = refl
-  reads-raw nil = refl
-  reads-raw unit = refl
-  reads-raw (one f a) = one-reads a f
-  reads-raw (two g a b) = two-reads a b g
-  reads-raw (last a b) = or-cond (eqb a s) (eqb b s)
-  reads-raw (delay a b) = or-cond (eqb a s) (eqb b s)
+-- ---- who reads
 
 pub reads-of : (s : ℕ) (c : Cell) → readsRow s (ofCell c) ≡ readsIt s (c .eqn)
-unfolding ofCell
-reads-of s c = reads-raw s (c .out) (c .bound) (c .held) (c .next) (keptNums (c .eqn) (c .kept)) (c .eqn)
+unfolding readsRow ofCell
+reads-of s c = ap (λ l. anyOf s (map (λ (x : Argument). x .stream) l)) (arguments-of (c .eqn))
 
 pub lower-of : (s acc : ℕ) (c : Cell) → lowered s (ofCell c) acc ≡ cond (readsIt s (c .eqn)) (min (c .bound) acc) acc
 unfolding lowered ofCell
@@ -81,28 +42,6 @@ waiting-of least c = go (c .out)
 
 -- ---- telling
 
--- what the others keep is nothing
-module _ (s t : ℕ) (v : ℤ) (o : Bool) (y : ℕ) (h : List Event) (m : ℕ) (n : KeptNums) where
-  one-told : (a : ℕ) (f : Unary) → toldRow s t (ofZ w64 v) (rawOf (one f a) o y h m n) ≡ rawOf (one f a) o y h m n
-  unfolding toldRow numberOf
-  one-told a time = cond-same (ltb t y) (rawOf (one time a) o y h m n)
-  one-told a neg = cond-same (ltb t y) (rawOf (one neg a) o y h m n)
-  one-told a (plan.set x) = cond-same (ltb t y) (rawOf (one (plan.set x) a) o y h m n)
-  one-told a (plus x) = cond-same (ltb t y) (rawOf (one (plus x) a) o y h m n)
-
-  two-told : (a b : ℕ) (g : Binary) → toldRow s t (ofZ w64 v) (rawOf (two g a b) o y h m n) ≡ rawOf (two g a b) o y h m n
-  unfolding toldRow numberOf
-  two-told a b (calc add) = cond-same (ltb t y) (rawOf (two (calc add) a b) o y h m n)
-  two-told a b (calc sub) = cond-same (ltb t y) (rawOf (two (calc sub) a b) o y h m n)
-  two-told a b (calc mul) = cond-same (ltb t y) (rawOf (two (calc mul) a b) o y h m n)
-  two-told a b (calc div) = cond-same (ltb t y) (rawOf (two (calc div) a b) o y h m n)
-  two-told a b (calc rem) = cond-same (ltb t y) (rawOf (two (calc rem) a b) o y h m n)
-  two-told a b (calc lt) = cond-same (ltb t y) (rawOf (two (calc lt) a b) o y h m n)
-  two-told a b (calc le) = cond-same (ltb t y) (rawOf (two (calc le) a b) o y h m n)
-  two-told a b (calc eq) = cond-same (ltb t y) (rawOf (two (calc eq) a b) o y h m n)
-  two-told a b keep = cond-same (ltb t y) (rawOf (two keep a b) o y h m n)
-  two-told a b merge = cond-same (ltb t y) (rawOf (two merge a b) o y h m n)
-
 -- l: the bound is above the stamp; p, q: s is a, b; u: the bound is one past the stamp; w: the latest set point lies there
 module _ (s t : ℕ) (v : ℤ) (a b : ℕ) (o : Bool) (y : ℕ) (h : List Event) (m : ℕ) (k : Kept) where
   abbrev last-with : Kept → Raw
@@ -110,7 +49,7 @@ module _ (s t : ℕ) (v : ℤ) (a b : ℕ) (o : Bool) (y : ℕ) (h : List Event)
 
   last-told : (l p : Bool) → ltb t y ≡ l → eqb a s ≡ p
       → toldRow s t (ofZ w64 v) (last-with k) ≡ last-with (cond (ltb t y) (keptTold (last a b) s y t v k) k)
-  unfolding toldRow toldLast numberOf firstOf secondOf
+  unfolding toldRow toldLast groupOf numberOf
   last-told false p e f = rw e
   last-told true true e f = rw (e, f)
   last-told true false e f = rw (e, f)
@@ -120,19 +59,19 @@ module _ (s t a b : ℕ) (o : Bool) (y : ℕ) (h : List Event) (m : ℕ) where
   delay-with x = rawOf (delay a b) o y h m (keptNums (delay a b) x)
 
   value-told : (v : ℤ) (k : Kept) (p w : Bool) → eqb a s ≡ p → eqb (k .since) (t + 1) ≡ w → toldValue s t (ofZ w64 v) (delay-with k) ≡ delay-with (valueTold (eqb a s) t v k)
-  unfolding toldValue numberOf firstOf secondOf
+  unfolding toldValue numberOf
   value-told v k false w e f = rw e
   value-told v k true true e f = rw (e, f)
   value-told v k true false e f = rw (e, f)
 
   prior-told : (v : ℤ) (k : Kept) (p u : Bool) → eqb a s ≡ p → eqb y (t + 1) ≡ u → toldPrior s t (ofZ w64 v) (delay-with k) ≡ delay-with (priorTold (eqb a s) y t v k)
-  unfolding toldPrior numberOf firstOf secondOf
+  unfolding toldPrior numberOf
   prior-told v k false u e f = rw e
   prior-told v k true true e f = rw (e, f)
   prior-told v k true false e f = rw (e, f)
 
   since-told : (k : Kept) (q u : Bool) → eqb b s ≡ q → eqb y (t + 1) ≡ u → toldSince s t (delay-with k) ≡ delay-with (sinceTold (eqb b s) y t k)
-  unfolding toldSince numberOf firstOf secondOf
+  unfolding toldSince numberOf
   since-told k false u e f = rw e
   since-told k true true e f = rw (e, f) (ap (λ (z : ℕ). delay-with (record { prev = k .prev; since = z; value = k .prior; prior = k .prior })) (sym (eqb-true y (t + 1) f)))
   since-told k true false e f = rw (e, f)
@@ -147,18 +86,18 @@ module _ (s t a b : ℕ) (o : Bool) (y : ℕ) (h : List Event) (m : ℕ) where
       ∙ since-told k₂ (eqb b s) (eqb y (t + 1)) refl refl
 
   delay-told : (v : ℤ) (k : Kept) (l : Bool) → ltb t y ≡ l → toldRow s t (ofZ w64 v) (delay-with k) ≡ delay-with (cond (ltb t y) (keptTold (delay a b) s y t v k) k)
-  unfolding toldRow numberOf
+  unfolding toldRow groupOf numberOf
   delay-told v k true e = rw e (delay-three v k)
   delay-told v k false e = rw e
 
 told-raw : (s t : ℕ) (v : ℤ) (e : Eqn) (o : Bool) (y : ℕ) (h : List Event) (m : ℕ) (k : Kept)
     → toldRow s t (ofZ w64 v) (rawOf e o y h m (keptNums e k)) ≡ rawOf e o y h m (keptNums e (cond (ltb t y) (keptTold e s y t v k) k))
-unfolding toldRow numberOf
+unfolding toldRow groupOf numberOf
 told-raw s t v input o y h m k = cond-same (ltb t y) (rawOf input o y h m (keptNums input k))
 told-raw s t v nil o y h m k = cond-same (ltb t y) (rawOf nil o y h m (keptNums nil k))
 told-raw s t v unit o y h m k = cond-same (ltb t y) (rawOf unit o y h m (keptNums unit k))
-told-raw s t v (one f a) o y h m k = one-told s t v o y h m (keptNums (one f a) k) a f
-told-raw s t v (two g a b) o y h m k = two-told s t v o y h m (keptNums (two g a b) k) a b g
+told-raw s t v (one f a) o y h m k = rw (one-group f) (cond-same (ltb t y) (rawOf (one f a) o y h m (keptNums (one f a) k)))
+told-raw s t v (two g a b) o y h m k = rw (two-group g) (cond-same (ltb t y) (rawOf (two g a b) o y h m (keptNums (two g a b) k)))
 told-raw s t v (last a b) o y h m k = last-told s t v a b o y h m k (ltb t y) (eqb a s) refl refl
 told-raw s t v (delay a b) o y h m k =
     delay-told s t a b o y h m v k (ltb t y) refl

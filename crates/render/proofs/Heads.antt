@@ -1,5 +1,5 @@
 -- The first two lines, written and read.
-use Prim.Native.Nat.{ℕ, suc, _+_, _<_, _≤_}
+use Prim.Native.Nat.{ℕ, suc, _+_, _^_, _<_, _≤_}
 use mathlib.Core.Path.{_≡_, refl, sym, ap, _∙_}
 use mathlib.Core.Bool.{Bool, true, false, cond, true≢false}
 use mathlib.Core.List.{List, _++_}
@@ -7,7 +7,7 @@ use native.Mathlib.Omega.{arith}
 use lib.Dec.{leb, lit<, lit≤}
 use lib.ListN.{length, drop}
 use borrow.Author.Tests.{le-leb, leb-true}
-use Rattle.operators.specs.Limits.{streamLimit, countFits}
+use Rattle.operators.specs.Limits.{countFits}
 use Rattle.operators.proofs.Tests.{left, right}
 use Rattle.lines.specs.declared.Word.{Word}
 use Rattle.lines.specs.declared.Word.the-variants.{Past, Absent}
@@ -23,11 +23,11 @@ use Rattle.render.proofs.Written.{on, skip-written, field-written}
 use Rattle.render.proofs.Back.{skip-read, field-read}
 
 -- a count of streams that is as it may be is read
-pub head-written : (s : List ℕ) (n : ℕ) (r : List ℕ) → 1 ≤ n → n ≤ streamLimit → s ≡ planLine ++ (line streamsKey (decimal n) ++ r) → (p : ℕ) × (head s ≡ Head.Streams n p) × (drop p s ≡ r) × (p ≤ length s)
+pub head-written : (cap : ℕ) (s : List ℕ) (n : ℕ) (r : List ℕ) → 1 ≤ n → n ≤ cap → n < 10 ^ 3 → s ≡ planLine ++ (line streamsKey (decimal n) ++ r) → (p : ℕ) × (head cap s ≡ Head.Streams n p) × (drop p s ≡ r) × (p ≤ length s)
 unfolding head
-head-written s n r l h e =
-    let f = field-written s 7 streamsKey n 3 r (lit< tt) (lit≤ tt) (omega arith) (on s 0 planLine (line streamsKey (decimal n) ++ r) e) in
-    (f .0, rw (skip-written s planLine 0 (line streamsKey (decimal n) ++ r) e, f .1, le-leb 1 n l, le-leb n streamLimit h), f .2, f .3)
+head-written cap s n r l h d e =
+    let f = field-written s 7 streamsKey n 3 r (lit< tt) (lit≤ tt) d (on s 0 planLine (line streamsKey (decimal n) ++ r) e) in
+    (f .0, rw (skip-written s planLine 0 (line streamsKey (decimal n) ++ r) e, f .1, le-leb 1 n l, le-leb n cap h), f .2, f .3)
 
 -- ## Case by case
 
@@ -50,38 +50,38 @@ refusalIn (Head.Refused r) = r
 refused : {A : Type 0} {n at r : ℕ} → Head.Refused r ≡ Head.Streams n at → A
 refused e = absurd (true≢false (sym (ap isStreams e)))
 
-pub head-case : {A : Type 0} (s : List ℕ) (n at : ℕ) → head s ≡ Head.Streams n at → ((p : ℕ) → skip s 0 planLine ≡ Past p → field s p streamsKey 3 ≡ Number n at → 1 ≤ n → n ≤ streamLimit → A) → A
+pub head-case : {A : Type 0} (cap : ℕ) (s : List ℕ) (n at : ℕ) → head cap s ≡ Head.Streams n at → ((p : ℕ) → skip s 0 planLine ≡ Past p → field s p streamsKey 3 ≡ Number n at → 1 ≤ n → n ≤ cap → A) → A
 unfolding head
-head-case {A = A} s n at e c = by-word (skip s 0 planLine) refl e
+head-case {A = A} cap s n at e c = by-word (skip s 0 planLine) refl e
   where
-    by-count : (p m t : ℕ) (b : Bool) → countFits m ≡ b → skip s 0 planLine ≡ Past p → field s p streamsKey 3 ≡ Number m t → cond b (Head.Streams m t) (Head.Refused 3) ≡ Head.Streams n at → A
+    by-count : (p m t : ℕ) (b : Bool) → countFits cap m ≡ b → skip s 0 planLine ≡ Past p → field s p streamsKey 3 ≡ Number m t → cond b (Head.Streams m t) (Head.Refused 3) ≡ Head.Streams n at → A
     by-count p m t false q f g e = refused e
     by-count p m t true q f g e =
         let k : m ≡ n = ap countIn e in
         let l : t ≡ at = ap placeIn e in
-        c p f (g ∙ rw (k, l)) (omega (arith, leb-true 1 m (left (leb 1 m) (leb m streamLimit) q))) (omega (arith, leb-true m streamLimit (right (leb 1 m) (leb m streamLimit) q)))
+        c p f (g ∙ rw (k, l)) (omega (arith, leb-true 1 m (left (leb 1 m) (leb m cap) q))) (omega (arith, leb-true m cap (right (leb 1 m) (leb m cap) q)))
 
-    by-found : (p : ℕ) (x : Found) → skip s 0 planLine ≡ Past p → field s p streamsKey 3 ≡ x → counts x ≡ Head.Streams n at → A
-    by-found p (Number m t) f g e = by-count p m t (countFits m) refl f g e
+    by-found : (p : ℕ) (x : Found) → skip s 0 planLine ≡ Past p → field s p streamsKey 3 ≡ x → counts cap x ≡ Head.Streams n at → A
+    by-found p (Number m t) f g e = by-count p m t (countFits cap m) refl f g e
     by-found p Fault f g e = refused e
 
-    by-word : (x : Word) → skip s 0 planLine ≡ x → headAfter s x ≡ Head.Streams n at → A
+    by-word : (x : Word) → skip s 0 planLine ≡ x → headAfter cap s x ≡ Head.Streams n at → A
     by-word (Past p) f e = by-found p (field s p streamsKey 3) f refl e
     by-word Absent f e = refused e
 
 -- a head that is taken has as many streams as a plan may
-pub head-fits : (s : List ℕ) (n at : ℕ) → head s ≡ Head.Streams n at → (1 ≤ n) × (n ≤ streamLimit)
-head-fits s n at e = head-case s n at e (λ p f g l h. (l, h))
+pub head-fits : (cap : ℕ) (s : List ℕ) (n at : ℕ) → head cap s ≡ Head.Streams n at → (1 ≤ n) × (n ≤ cap)
+head-fits cap s n at e = head-case cap s n at e (λ p f g l h. (l, h))
 
-pub head-read : (s : List ℕ) (n at : ℕ) → head s ≡ Head.Streams n at → s ≡ planLine ++ (line streamsKey (decimal n) ++ drop at s)
-head-read s n at e =
-    head-case s n at e
+pub head-read : (cap : ℕ) (s : List ℕ) (n at : ℕ) → head cap s ≡ Head.Streams n at → s ≡ planLine ++ (line streamsKey (decimal n) ++ drop at s)
+head-read cap s n at e =
+    head-case cap s n at e
     (λ p f g l h. skip-read s planLine 0 p f ∙ ap (λ (x : List ℕ). planLine ++ x) (field-read s p streamsKey 3 n at (lit< tt) (lit≤ tt) g))
 
 -- a head is never refused with the number 0
-pub head-refused : (s : List ℕ) → head s ≡ Head.Refused 0 → ⊥
+pub head-refused : (cap : ℕ) (s : List ℕ) → head cap s ≡ Head.Refused 0 → ⊥
 unfolding head
-head-refused s e = by-word (skip s 0 planLine) e
+head-refused cap s e = by-word (skip s 0 planLine) e
   where
     clash : {r : ℕ} → Head.Refused (suc r) ≡ Head.Refused 0 → ⊥
     clash {r} e = let z : suc r ≡ 0 = ap refusalIn e in omega arith
@@ -90,10 +90,10 @@ head-refused s e = by-word (skip s 0 planLine) e
     by-count m t true e = refused (sym e)
     by-count m t false e = clash e
 
-    by-found : (x : Found) → counts x ≡ Head.Refused 0 → ⊥
-    by-found (Number m t) e = by-count m t (countFits m) e
+    by-found : (x : Found) → counts cap x ≡ Head.Refused 0 → ⊥
+    by-found (Number m t) e = by-count m t (countFits cap m) e
     by-found Fault e = clash e
 
-    by-word : (x : Word) → headAfter s x ≡ Head.Refused 0 → ⊥
+    by-word : (x : Word) → headAfter cap s x ≡ Head.Refused 0 → ⊥
     by-word (Past p) e = by-found (field s p streamsKey 3) e
     by-word Absent e = clash e

@@ -4,8 +4,9 @@ use mathlib.Core.Bool.{Bool, true, false}
 use mathlib.Core.List.{List, [], _∷_, _++_}
 use lib.ListN.{length}
 use lib.IntN.{ℤ}
+use Rattle.meaning.specs.Plan.{argA, argB}
 use Rattle.machine.specs.State.{Declared}
-use Rattle.operators.specs.Operators.{nameOf, numberOf, firstOf, secondOf, valueOf}
+use Rattle.operators.specs.Operators.{nameOf, numberOf, valueOf}
 use Rattle.decimal.specs.Decimal.{decimal, valueText}
 use Rattle.lines.specs.Form.{ending, valueKey, outKey}
 use Rattle.text.specs.Grammar.{planLine, streamsKey, opKey, firstKey, secondKey}
@@ -26,7 +27,7 @@ streamText op a b k out =
 
 -- "An `a`, `b` or `k` that the operator doesn't use is 0."
 unfoldable pub declaredText : Declared → List ℕ
-declaredText d = streamText (numberOf (d .eqn)) (firstOf (d .eqn)) (secondOf (d .eqn)) (valueOf (d .eqn)) (d .out)
+declaredText d = streamText (numberOf (d .eqn)) (argA (d .eqn)) (argB (d .eqn)) (valueOf (d .eqn)) (d .out)
 
 unfoldable pub allText : List Declared → List ℕ
 allText [] = []

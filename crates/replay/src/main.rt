@@ -12,6 +12,7 @@ ghost use Rattle.replaying.specs.Rank.{isRest, rank};
 ghost use Rattle.replay.specs.Within.{within};
 ghost use Rattle.replay.specs.Played.{Goes, Settles, Follows, Offered, Played};
 use libc::STDOUT_FILENO;
+use operators::Plan;
 use replaying::Place;
 use trace::Line;
 use trace::Record;
@@ -49,39 +50,39 @@ fn offer(state: &mut [u8], read: Record)
     io::write_all(STDOUT_FILENO, &out[..end]);
 }
 
-// Goes on from a place for as many events as a buffer holds, and prints them.
-fn print_some(state: &mut [u8], place: Place) -> Place
-    ensures goes { λ r. ⌜ Goes place (now (state .entry)) r (now (state .exit)) ⌝ }
-    ensures nearer { λ r. ⌜ (isRest place ≡ false → rank r (now (state .exit)) < rank place (now (state .entry))) ⌝ }
+// Goes on from a place, through n streams, for as many events as a buffer holds, and prints them.
+fn print_some(state: &mut [u8], n: u32, place: Place) -> Place
+    ensures goes { λ r. ⌜ Goes n place (now (state .entry)) r (now (state .exit)) ⌝ }
+    ensures nearer { λ r. ⌜ (isRest place ≡ false → rank n r (now (state .exit)) < rank n place (now (state .entry))) ⌝ }
 {
     let mut out = io::buffer();
-    let stand = replaying::fill(state, place, &mut out);
+    let stand = replaying::fill(state, n, place, &mut out);
     let end = stand.end;
     io::write_all(STDOUT_FILENO, &out[..end]);
     stand.place
 }
 
-// Runs to rest and prints what is collected, until nothing moves or waits.
-fn settle(state: &mut [u8])
-    ensures { λ _. ⌜ Settles (now (state .entry)) (now (state .exit)) ⌝ }
+// Runs to rest and prints what is collected of n streams, until nothing moves or waits.
+fn settle(state: &mut [u8], n: u32)
+    ensures { λ _. ⌜ Settles n (now (state .entry)) (now (state .exit)) ⌝ }
 {
     let mut place = Place::Run { busy: false };
     while !replaying::is_rest(place) {
-        place = print_some(state, place);
+        place = print_some(state, n, place);
     }
 }
 
 // Replays the line at a position. A bad line ends the replay.
-fn replay_line(state: &mut [u8], text: &[u8], at: usize) -> After
+fn replay_line(state: &mut [u8], n: u32, text: &[u8], at: usize) -> After
     ensures inside { λ r. ⌜ within r (length (now (text .entry))) ⌝ }
-    ensures follows { λ r. ⌜ Follows (now (text .entry)) at (now (state .entry)) r (now (state .exit)) ⌝ }
+    ensures follows { λ r. ⌜ Follows n (now (text .entry)) at (now (state .entry)) r (now (state .exit)) ⌝ }
 {
     let Line::Read(found, next) = trace::read(text, at) else {
         print_refused(BAD_LINE);
         return After::End;
     };
     offer(state, found);
-    settle(state);
+    settle(state, n);
     After::Line(next)
 }
 
@@ -105,8 +106,8 @@ fn ready(fd: i32, buffer: &mut [u8], from: usize, end: usize) -> Window
 
 // Replays the trace line by line. A proved loop has to end, and nothing says that a file does: it counts its lines down, from
 // a number that no trace uses up.
-fn replay_trace(fd: i32, state: &mut [u8])
-    ensures { λ _. ⌜ ((rs : List Record) × Offered (now (state .entry)) rs (now (state .exit))) ⌝ }
+fn replay_trace(fd: i32, state: &mut [u8], n: u32)
+    ensures { λ _. ⌜ ((rs : List Record) × Offered n (now (state .entry)) rs (now (state .exit))) ⌝ }
 {
     let mut buffer = io::buffer();
     let mut from: usize = 0;
@@ -119,7 +120,7 @@ fn replay_trace(fd: i32, state: &mut [u8])
         if at == end {
             return;
         }
-        let After::Line(next) = replay_line(state, &buffer[..end], at) else {
+        let After::Line(next) = replay_line(state, n, &buffer[..end], at) else {
             return;
         };
         from = next;
@@ -153,7 +154,7 @@ fn open(name: &[u8]) -> i32 {
 // Loads the plan, of whose text one byte more is read than a plan has; the number of its refusal. A file that can't be opened
 // counts as empty.
 fn load(state: &mut [u8]) -> u32 {
-    let mut text = [0u8; 2049];
+    let mut text = [0u8; Plan::TEXT + 1];
     let fd = open(b"plan.txt");
     if fd < 0 {
         return engine::tessla_load(state, b"");
@@ -164,24 +165,24 @@ fn load(state: &mut [u8]) -> u32 {
 }
 
 // Settles, and replays the trace. A file that can't be opened counts as empty.
-fn play(state: &mut [u8])
-    ensures { λ _. ⌜ Played (now (state .entry)) (now (state .exit)) ⌝ }
+fn play(state: &mut [u8], n: u32)
+    ensures { λ _. ⌜ Played n (now (state .entry)) (now (state .exit)) ⌝ }
 {
-    settle(state);
+    settle(state, n);
     let fd = open(b"trace.txt");
     if fd < 0 {
         return;
     }
-    replay_trace(fd, state);
+    replay_trace(fd, state, n);
     libc::close(fd);
 }
 
 fn main() {
-    let mut state = [0u8; 12288];
+    let mut state = [0u8; Plan::STATE];
     let number = load(&mut state);
     if number != 0 {
         print_refused(number);
         return;
     }
-    play(&mut state);
+    play(&mut state, Plan::STREAMS as u32);
 }

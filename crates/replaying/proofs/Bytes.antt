@@ -7,6 +7,7 @@ use mathlib.Core.List.{List, [], _∷_, _++_}
 use native.Mathlib.Omega.{arith}
 use lib.Dec.{ltb, lit<}
 use lib.ListN.{length, replicate}
+use Rattle.operators.specs.Limits.{capacity}
 use Rattle.le.specs.Bytes.{Bytes, enc}
 use Rattle.le.specs.Layout.{encFields, encRows}
 use Rattle.le.proofs.Laws.{enc-bytes}
@@ -16,7 +17,7 @@ use Rattle.machine.specs.Calls.{Call, running, collecting, lowest, run, call}
 use Rattle.machine.proofs.Outcomes.{run-more, run-ends}
 use Rattle.cells.specs.View.{rawsOf, bytesOf}
 use Rattle.cells.specs.Sound.{Sound}
-use Rattle.valid.specs.Valid.{stateLength, valid}
+use Rattle.valid.specs.Valid.{valid}
 use Rattle.state.specs.In.{stateIn}
 use Rattle.state.proofs.Whole.{valid-bytes, valid-sound}
 use Rattle.resting.proofs.Lack.{collect-none}
@@ -70,7 +71,7 @@ pub reply-not : (s : List ℕ) → valid s ≡ false → (c : Call) → reply c 
 unfolding reply
 reply-not s e c = rw e
 
-reply-valid : (s : List ℕ) → valid s ≡ true → (c : Call) → reply c s ≡ replyOf (call c (stateIn s))
+reply-valid : (s : List ℕ) → valid s ≡ true → (c : Call) → reply c s ≡ replyOf (length s) (call c (stateIn s))
 unfolding reply
 reply-valid s e c = rw e
 
@@ -78,7 +79,7 @@ pub reply-fine : (c : Call) (s : List ℕ) → Fine (reply c s .buffer)
 reply-fine c s = go (valid s) refl
   where
     go : (v : Bool) → valid s ≡ v → Fine (reply c s .buffer)
-    go true e = rw (reply-valid s e c) (inl (state-bytes stateLength (call c (stateIn s) .state)))
+    go true e = rw (reply-valid s e c) (inl (state-bytes (length s) (call c (stateIn s) .state)))
     go false e = rw (reply-not s e c) (inr e)
 
 -- ## A call that changes nothing
@@ -97,7 +98,7 @@ module _ (s : List ℕ) where
   same f c h = go (valid s) refl f
     where
       go : (v : Bool) → valid s ≡ v → Fine s → reply c s .buffer ≡ s
-      go true e (inl b) = ap (λ (r : Reply). r .buffer) (reply-valid s e c) ∙ ap (bytesOf stateLength) (h e b) ∙ sym (valid-bytes s b e)
+      go true e (inl b) = ap (λ (r : Reply). r .buffer) (reply-valid s e c) ∙ ap (bytesOf (length s)) (h e b) ∙ sym (valid-bytes s b e)
       go true e (inr q) = ap (λ (r : Reply). r .buffer) (reply-not s q c)
       go false e g = ap (λ (r : Reply). r .buffer) (reply-not s e c)
 
@@ -107,5 +108,5 @@ module _ (s : List ℕ) where
   pub collect-same : Fine s → (i : ℕ) → (reply (collecting i) s .number ≡ 0 → ⊥) → reply (collecting i) s .buffer ≡ s
   collect-same f i n = same f (collecting i) (λ v b. still (valid-sound s b v) (rw (reply-valid s v (collecting i)) at n))
     where
-      still : Sound (stateIn s) → (call (collecting i) (stateIn s) .number ≡ 0 → ⊥) → call (collecting i) (stateIn s) .state ≡ stateIn s
+      still : Sound (capacity (length s)) (stateIn s) → (call (collecting i) (stateIn s) .number ≡ 0 → ⊥) → call (collecting i) (stateIn s) .state ≡ stateIn s
       still ok k = unfold call in collect-none i (stateIn s) ok k

@@ -17,33 +17,33 @@ use Rattle.replaying.specs.declared.Stand.{Stand}
 use Rattle.replaying.specs.Replay.{allMoves, turn, afterOutput, collected, step, Prints, here, on, Turned}
 use Rattle.replaying.proofs.Steps.{ran-state}
 
-pub one-more : {p : Place} {s w : List ℕ} {q : Place} {t : List ℕ} → Prints p s w q t → Prints p s (w ++ step q t .printed) (step q t .place) (step q t .state)
-one-more {p} {s} here = subst (λ l. Prints p s l (step p s .place) (step p s .state)) (append-nil (step p s .printed)) (on here)
-one-more {q = q} {t = t} (on {p} {s} {w} x) =
-    subst (λ l. Prints p s l (step q t .place) (step q t .state)) (sym (append-assoc (step p s .printed) w (step q t .printed))) (on (one-more x))
+pub one-more : {n : ℕ} {p : Place} {s w : List ℕ} {q : Place} {t : List ℕ} → Prints n p s w q t → Prints n p s (w ++ step n q t .printed) (step n q t .place) (step n q t .state)
+one-more {n} {p} {s} here = subst (λ l. Prints n p s l (step n p s .place) (step n p s .state)) (append-nil (step n p s .printed)) (on here)
+one-more {n} {q = q} {t = t} (on {p} {s} {w} x) =
+    subst (λ l. Prints n p s l (step n q t .place) (step n q t .state)) (sym (append-assoc (step n p s .printed) w (step n q t .printed))) (on (one-more x))
 
 -- at most one event is printed
-collected-most : (i : ℕ) (busy : Bool) (r : Reply) → length (collected i busy r .printed) ≤ eventRoom
+collected-most : (n i : ℕ) (busy : Bool) (r : Reply) → length (collected n i busy r .printed) ≤ eventRoom
 unfolding collected
-collected-most i busy r = go (eqb (r .number) 0)
+collected-most n i busy r = go (eqb (r .number) 0)
   where
-    go : (b : Bool) → length (cond b (turn (Collect i true) (eventText i (r .stamp) (r .value)) (r .buffer)) (turn (afterOutput i busy) [] (r .buffer)) .printed) ≤ eventRoom
+    go : (b : Bool) → length (cond b (turn (Collect i true) (eventText i (r .stamp) (r .value)) (r .buffer)) (turn (afterOutput n i busy) [] (r .buffer)) .printed) ≤ eventRoom
     go true = event-most i (r .stamp) (r .value)
     go false = omega arith
 
-printed-most : (p : Place) (s : List ℕ) → length (step p s .printed) ≤ eventRoom
+printed-most : (n : ℕ) (p : Place) (s : List ℕ) → length (step n p s .printed) ≤ eventRoom
 unfolding step
-printed-most (Run busy) s = rw (ran-state busy (reply (running allMoves) s) .1) (omega arith)
-printed-most (Collect i busy) s = collected-most i busy (reply (collecting i) s)
-printed-most Rest s = omega arith
+printed-most n (Run busy) s = rw (ran-state busy (reply (running allMoves) s) .1) (omega arith)
+printed-most n (Collect i busy) s = collected-most n i busy (reply (collecting i) s)
+printed-most n Rest s = omega arith
 
 -- a turn of the loop: what the buffer starts with is what was printed
-module _ (q : Place) (t : List ℕ) {o : List ℕ} {end : ℕ} {r : Stand} {o′ t′ : List ℕ} (x : Turned (step q t) o end r o′ t′) (room : end + eventRoom ≤ length o) where
-  fits : end + length (step q t .printed) ≤ length o
-  fits = omega (arith, printed-most q t)
+module _ (n : ℕ) (q : Place) (t : List ℕ) {o : List ℕ} {end : ℕ} {r : Stand} {o′ t′ : List ℕ} (x : Turned (step n q t) o end r o′ t′) (room : end + eventRoom ≤ length o) where
+  fits : end + length (step n q t .printed) ≤ length o
+  fits = omega (arith, printed-most n q t)
 
   pub turn-fits : (r .end ≤ length o′) × (length o′ ≡ length o)
   turn-fits = let l = put-length (x .put) in let e = x .put .past in (omega (arith, fits), l)
 
-  pub turn-prints : {p : Place} {s : List ℕ} → Prints p s (take end o) q t → Prints p s (take (r .end) o′) (r .place) t′
+  pub turn-prints : {p : Place} {s : List ℕ} → Prints n p s (take end o) q t → Prints n p s (take (r .end) o′) (r .place) t′
   turn-prints y = rw (x .place, x .state, put-take (x .put) fits) (one-more y)

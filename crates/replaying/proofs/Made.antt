@@ -1,5 +1,5 @@
 -- The calls that a replay makes on a buffer: what is seen of them, what is printed of them, and where they leave it.
-use Prim.Native.Nat.{ℕ, _+_, _<_, _≤_}
+use Prim.Native.Nat.{ℕ, _+_, _^_, _<_, _≤_}
 use mathlib.Core.Path.{_≡_, refl, sym, ap, ap₂, _∙_}
 use mathlib.Core.Bool.{Bool, true, false, true≢false, cond}
 use mathlib.Core.List.{List, [], _∷_, _++_, map, append-nil, append-assoc}
@@ -8,7 +8,6 @@ use native.Mathlib.Decide.{decLt, ℕ-discrete}
 use lib.Dec.{eqb}
 use Rattle.machine.specs.Calls.{Call, running, collecting}
 use Rattle.runs.specs.History.{Seen, Typed, AllTyped}
-use Rattle.operators.specs.Limits.{streamLimit}
 use Rattle.engine.specs.Reply.{Reply, reply}
 use Rattle.engine.specs.History.{seenIn}
 use Rattle.trace.specs.declared.Record.{Record}
@@ -89,63 +88,64 @@ pub record Still (k : ℕ) (s : List ℕ) : Type 0 where
   pub waits : (i : ℕ) → i < k → reply (collecting i) s .number ≡ 0 → ⊥
 
 -- what is known of the state at a place
-abbrev Known : Place → List ℕ → Type 0
-Known (Run busy) s = Unit {0}
-Known (Collect i busy) s = (i < streamLimit) × (busy ≡ false → Still i s)
-Known Rest s = Still streamLimit s
+abbrev Known : ℕ → Place → List ℕ → Type 0
+Known n (Run busy) s = Unit {0}
+Known n (Collect i busy) s = (i < 2 ^ 32) × (busy ≡ false → Still i s)
+Known n Rest s = Still n s
 
-collect-line : (i : ℕ) (busy : Bool) (r : Reply) → collected i busy r .printed ≡ lineIn (collecting i) (seenIn (collecting i) r)
+collect-line : (n i : ℕ) (busy : Bool) (r : Reply) → collected n i busy r .printed ≡ lineIn (collecting i) (seenIn (collecting i) r)
 unfolding collected
-collect-line i busy r = go (eqb (r .number) 0)
+collect-line n i busy r = go (eqb (r .number) 0)
   where
-    go : (b : Bool) → cond b (turn (Collect i true) (eventText i (r .stamp) (r .value)) (r .buffer)) (turn (afterOutput i busy) [] (r .buffer)) .printed ≡ cond b (eventText i (r .stamp) (r .value)) []
+    go : (b : Bool) → cond b (turn (Collect i true) (eventText i (r .stamp) (r .value)) (r .buffer)) (turn (afterOutput n i busy) [] (r .buffer)) .printed ≡ cond b (eventText i (r .stamp) (r .value)) []
     go true = refl
     go false = refl
 
-step-made : (p : Place) (s : List ℕ) → Known p s → Made s [] (step p s .printed) (step p s .state)
+step-made : (n : ℕ) (p : Place) (s : List ℕ) → Known n p s → Made s [] (step n p s .printed) (step n p s .state)
 unfolding step
-step-made (Run busy) s h = let r = ran-state busy (reply (running allMoves) s) in rw (r .0, r .1) (made-one s (running allMoves) (omega arith))
-step-made (Collect i busy) s h =
-    rw (collect-line i busy (reply (collecting i) s), collected-state i busy (reply (collecting i) s)) (made-one s (collecting i) (let l = h .0 in omega arith))
-step-made Rest s h = made-none s
+step-made n (Run busy) s h = let r = ran-state busy (reply (running allMoves) s) in rw (r .0, r .1) (made-one s (running allMoves) (omega arith))
+step-made n (Collect i busy) s h =
+    rw (collect-line n i busy (reply (collecting i) s), collected-state n i busy (reply (collecting i) s)) (made-one s (collecting i) (let l = h .0 in omega arith))
+step-made n Rest s h = made-none s
 
-module _ (s : List ℕ) (f : Fine s) where
-  run-known : (busy : Bool) → Known (ran busy (reply (running allMoves) s) .place) (ran busy (reply (running allMoves) s) .state)
+-- streams have numbers of 32 bits
+module _ (n : ℕ) (few : n ≤ 2 ^ 32) (s : List ℕ) (f : Fine s) where
+  run-known : (busy : Bool) → Known n (ran busy (reply (running allMoves) s) .place) (ran busy (reply (running allMoves) s) .state)
   run-known busy = go (ℕ-discrete (reply (running allMoves) s .moves) 0)
     where
-      go : Dec (reply (running allMoves) s .moves ≡ 0) → Known (ran busy (reply (running allMoves) s) .place) (ran busy (reply (running allMoves) s) .state)
+      go : Dec (reply (running allMoves) s .moves ≡ 0) → Known n (ran busy (reply (running allMoves) s) .place) (ran busy (reply (running allMoves) s) .state)
       go (yes e) =
           rw (ran-rest busy (reply (running allMoves) s) e, run-same s f allMoves e)
           (omega arith, λ q. record { moves = e; waits = λ i l. absurd (omega arith) })
-      go (no n) = rw (ran-moved busy (reply (running allMoves) s) n) tt
+      go (no d) = rw (ran-moved busy (reply (running allMoves) s) d) tt
 
   -- one stream more has nothing to hand out
-  after-known : (i : ℕ) (busy : Bool) → (reply (collecting i) s .number ≡ 0 → ⊥) → Known (Collect i busy) s → Known (afterOutput i busy) s
-  after-known i busy n h = go (decLt (i + 1) streamLimit)
+  after-known : (i : ℕ) (busy : Bool) → (reply (collecting i) s .number ≡ 0 → ⊥) → Known n (Collect i busy) s → Known n (afterOutput n i busy) s
+  after-known i busy none h = go (decLt (i + 1) n)
     where
       more : (k : ℕ) → k ≤ i + 1 → Still i s → Still k s
       more k l x = record { moves = x .moves; waits = λ j m. one j (omega arith) (ℕ-discrete j i) }
         where
           one : (j : ℕ) → j < i + 1 → Dec (j ≡ i) → reply (collecting j) s .number ≡ 0 → ⊥
-          one j m (yes e) = rw e n
+          one j m (yes e) = rw e none
           one j m (no d) = x .waits j (omega arith)
 
-      round : (b : Bool) → streamLimit ≤ i + 1 → (b ≡ false → Still i s) → Known (roundAfter b) s
+      round : (b : Bool) → n ≤ i + 1 → (b ≡ false → Still i s) → Known n (roundAfter b) s
       round true l x = tt
-      round false l x = more streamLimit l (x refl)
+      round false l x = more n l (x refl)
 
-      go : Dec (i + 1 < streamLimit) → Known (afterOutput i busy) s
-      go (yes l) = rw (sym (after-next i busy l)) (l, λ q. more (i + 1) (omega arith) (h .1 q))
-      go (no l) = let m : streamLimit ≤ i + 1 = omega arith in rw (sym (after-last i busy m)) (round busy m (h .1))
+      go : Dec (i + 1 < n) → Known n (afterOutput n i busy) s
+      go (yes l) = rw (sym (after-next n i busy l)) (omega arith, λ q. more (i + 1) (omega arith) (h .1 q))
+      go (no l) = let m : n ≤ i + 1 = omega arith in rw (sym (after-last n i busy m)) (round busy m (h .1))
 
-  collect-known : (i : ℕ) (busy : Bool) → Known (Collect i busy) s → Known (collected i busy (reply (collecting i) s) .place) (collected i busy (reply (collecting i) s) .state)
+  collect-known : (i : ℕ) (busy : Bool) → Known n (Collect i busy) s → Known n (collected n i busy (reply (collecting i) s) .place) (collected n i busy (reply (collecting i) s) .state)
   collect-known i busy h = go (ℕ-discrete (reply (collecting i) s .number) 0)
     where
-      go : Dec (reply (collecting i) s .number ≡ 0) → Known (collected i busy (reply (collecting i) s) .place) (collected i busy (reply (collecting i) s) .state)
-      go (yes e) = rw (collected-event i busy (reply (collecting i) s) e) (h .0, λ q. absurd (true≢false q))
-      go (no n) = rw (collected-none i busy (reply (collecting i) s) n, collect-same s f i n) (after-known i busy n h)
+      go : Dec (reply (collecting i) s .number ≡ 0) → Known n (collected n i busy (reply (collecting i) s) .place) (collected n i busy (reply (collecting i) s) .state)
+      go (yes e) = rw (collected-event n i busy (reply (collecting i) s) e) (h .0, λ q. absurd (true≢false q))
+      go (no d) = rw (collected-none n i busy (reply (collecting i) s) d, collect-same s f i d) (after-known i busy d h)
 
-  step-known : (p : Place) → Known p s → Known (step p s .place) (step p s .state)
+  step-known : (p : Place) → Known n p s → Known n (step n p s .place) (step n p s .state)
   unfolding step
   step-known (Run busy) h = run-known busy
   step-known (Collect i busy) h = collect-known i busy h
@@ -153,17 +153,19 @@ module _ (s : List ℕ) (f : Fine s) where
 
 -- ## From one line to the next
 
-prints-made : {p : Place} {s w : List ℕ} {q : Place} {t : List ℕ} → Prints p s w q t → Fine s → Known p s → Made s [] w t × Known q t
-prints-made {p} {s} here f h = (made-none s, h)
-prints-made (on {p} {s} x) f h = let r = prints-made x (step-fine p s (λ e. f)) (step-known s f p h) in (made-then (step-made p s h) (r .0), r .1)
+prints-made : {n : ℕ} {p : Place} {s w : List ℕ} {q : Place} {t : List ℕ} → n ≤ 2 ^ 32 → Prints n p s w q t → Fine s → Known n p s → Made s [] w t × Known n q t
+prints-made {p = p} {s = s} few here f h = (made-none s, h)
+prints-made {n} few (on {p} {s} x) f h =
+    let r = prints-made few x (step-fine n p s (λ e. f)) (step-known n few s f p h) in
+    (made-then (step-made n p s h) (r .0), r .1)
 
 -- what is printed of an offer is the number of its refusal
 offer-made : (r : Record) (s : List ℕ) → Typed (callOf r) → Made s (callOf r ∷ []) (refusal (reply (callOf r) s .number)) (reply (callOf r) s .buffer)
 offer-made (Reading i t v) s h = made-one s (callOf (Reading i t v)) h
 offer-made (Progress i y) s h = made-one s (callOf (Progress i y)) h
 
-pub replays-made : {s : List ℕ} {rs : List Record} {w t : List ℕ} → Replays s rs w t → Fine s → AllTyped (map callOf rs) → Made s (map callOf rs) w t × Still streamLimit t
-replays-made (ends x) f h = prints-made x f tt
-replays-made (goes {t = t} {r = r} x y) f h =
-    let m = replays-made y (reply-fine (callOf r) t) (h .1) in
-    (made-then (made-then (prints-made x f tt .0) (offer-made r t (h .0))) (m .0), m .1)
+pub replays-made : {n : ℕ} {s : List ℕ} {rs : List Record} {w t : List ℕ} → n ≤ 2 ^ 32 → Replays n s rs w t → Fine s → AllTyped (map callOf rs) → Made s (map callOf rs) w t × Still n t
+replays-made few (ends x) f h = prints-made few x f tt
+replays-made few (goes {t = t} {r = r} x y) f h =
+    let m = replays-made few y (reply-fine (callOf r) t) (h .1) in
+    (made-then (made-then (prints-made few x f tt .0) (offer-made r t (h .0))) (m .0), m .1)

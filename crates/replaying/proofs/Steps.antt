@@ -7,7 +7,6 @@ use native.Mathlib.Omega.{arith}
 use lib.Dec.{eqb}
 use lib.ListN.{length}
 use borrow.Author.Tests.{eq-eqb, ne-eqb, lt-ltb, le-ltb}
-use Rattle.operators.specs.Limits.{streamLimit}
 use Rattle.engine.specs.Reply.{Reply}
 use Rattle.printer.specs.Print.{eventText, refusedText, refusedRoom}
 use Rattle.printer.proofs.Lines.{refused-most}
@@ -25,30 +24,30 @@ refusal-some (suc n) h = refl
 
 -- ## What follows a stream
 
-pub after-next : (i : ℕ) (busy : Bool) → i + 1 < streamLimit → Collect (i + 1) busy ≡ afterOutput i busy
+pub after-next : (n i : ℕ) (busy : Bool) → i + 1 < n → Collect (i + 1) busy ≡ afterOutput n i busy
 unfolding afterOutput
-after-next i busy h = rw (lt-ltb (i + 1) streamLimit h)
+after-next n i busy h = rw (lt-ltb (i + 1) n h)
 
-pub after-last : (i : ℕ) (busy : Bool) → streamLimit ≤ i + 1 → roundAfter busy ≡ afterOutput i busy
+pub after-last : (n i : ℕ) (busy : Bool) → n ≤ i + 1 → roundAfter busy ≡ afterOutput n i busy
 unfolding afterOutput
-after-last i busy h = rw (le-ltb (i + 1) streamLimit h)
+after-last n i busy h = rw (le-ltb (i + 1) n h)
 
 -- ## A collection
 
-pub collected-event : (i : ℕ) (busy : Bool) (r : Reply) → r .number ≡ 0 → collected i busy r ≡ turn (Collect i true) (eventText i (r .stamp) (r .value)) (r .buffer)
+pub collected-event : (n i : ℕ) (busy : Bool) (r : Reply) → r .number ≡ 0 → collected n i busy r ≡ turn (Collect i true) (eventText i (r .stamp) (r .value)) (r .buffer)
 unfolding collected
-collected-event i busy r e = rw (eq-eqb (r .number) 0 e)
+collected-event n i busy r e = rw (eq-eqb (r .number) 0 e)
 
-pub collected-none : (i : ℕ) (busy : Bool) (r : Reply) → (r .number ≡ 0 → ⊥) → collected i busy r ≡ turn (afterOutput i busy) [] (r .buffer)
+pub collected-none : (n i : ℕ) (busy : Bool) (r : Reply) → (r .number ≡ 0 → ⊥) → collected n i busy r ≡ turn (afterOutput n i busy) [] (r .buffer)
 unfolding collected
-collected-none i busy r e = rw (ne-eqb (r .number) 0 e)
+collected-none n i busy r e = rw (ne-eqb (r .number) 0 e)
 
 -- whether something was handed out or not, the state is the collect's
-pub collected-state : (i : ℕ) (busy : Bool) (r : Reply) → collected i busy r .state ≡ r .buffer
+pub collected-state : (n i : ℕ) (busy : Bool) (r : Reply) → collected n i busy r .state ≡ r .buffer
 unfolding collected
-collected-state i busy r = go (eqb (r .number) 0)
+collected-state n i busy r = go (eqb (r .number) 0)
   where
-    go : (b : Bool) → cond b (turn (Collect i true) (eventText i (r .stamp) (r .value)) (r .buffer)) (turn (afterOutput i busy) [] (r .buffer)) .state ≡ r .buffer
+    go : (b : Bool) → cond b (turn (Collect i true) (eventText i (r .stamp) (r .value)) (r .buffer)) (turn (afterOutput n i busy) [] (r .buffer)) .state ≡ r .buffer
     go true = refl
     go false = refl
 

@@ -1,5 +1,5 @@
 -- What a replay has printed is true of the plan that was loaded: the lines are the answers of calls that end at rest.
-use Prim.Native.Nat.{ℕ, zero, suc, _<_, _≤_}
+use Prim.Native.Nat.{ℕ, zero, suc, _^_, _<_, _≤_}
 use mathlib.Core.Path.{_≡_, refl, sym, ap, ap₂, _∙_, subst}
 use mathlib.Core.Bool.{Bool, true, false}
 use mathlib.Core.Option.{Option, none, some}
@@ -21,13 +21,13 @@ use Rattle.runs.proofs.World.{Shape}
 use Rattle.runs.proofs.Numbers.{stuck-12}
 use Rattle.runs.proofs.Claimed.{shape}
 use Rattle.le.specs.Bytes.{Bytes}
-use Rattle.operators.specs.Limits.{streamLimit}
-use Rattle.valid.specs.Valid.{stateLength}
+use Rattle.operators.specs.Limits.{capacity}
+use Rattle.operators.proofs.Sizes.{capacity-few}
 use Rattle.plan.specs.Rules.{declared}
 use Rattle.engine.specs.Reply.{reply}
 use Rattle.engine.specs.Load.{loadReply}
 use Rattle.engine.specs.History.{load, make, answer, left, seenIn, Since, noted, since, AllTypedActs, Holds}
-use Rattle.engine.proofs.Whole.{rules-keep, whole-bytes}
+use Rattle.engine.proofs.Whole.{rules-keep, load-length, whole-bytes}
 use Rattle.trace.specs.declared.Record.{Record}
 use Rattle.replaying.specs.Replay.{callOf, allMoves}
 use Rattle.replaying.specs.Session.{Replays, printedOf, Told}
@@ -62,20 +62,24 @@ module _ (text s : List ℕ) (done : loadReply text s .number ≡ 0) where
   abbrev filled : List ℕ
   filled = loadReply text s .buffer
 
-  load-noted : noted (load text) (loadReply text s) none ≡ some (sinceLoad (declared text) [] [])
+  -- the streams that it declares
+  abbrev plan : List Declared
+  plan = declared (capacity (length (loadReply text s .buffer))) text
+
+  load-noted : noted (load text) (loadReply text s) none ≡ some (sinceLoad plan [] [])
   unfolding noted
   load-noted = rw (eq-eqb (loadReply text s .number) 0 done)
 
-  load-since : (cs : List Call) → since (load text ∷ map make cs) s none ≡ some (sinceLoad (declared text) cs (seenFrom filled cs))
+  load-since : (cs : List Call) → since (load text ∷ map make cs) s none ≡ some (sinceLoad plan cs (seenFrom filled cs))
   unfolding since answer
-  load-since cs = ap (since (map make cs) filled) load-noted ∙ calls-since filled (declared text) [] [] cs
+  load-since cs = ap (since (map make cs) filled) load-noted ∙ calls-since filled plan [] [] cs
 
   load-left : (cs : List Call) → left (load text ∷ map make cs) s ≡ bufferAfter filled cs
   unfolding left answer
   load-left cs = calls-left filled cs
 
   -- what holds of the buffer after any calls
-  after-load : (cs : List Call) → AllTyped cs → Holds (sinceLoad (declared text) cs (seenFrom filled cs)) (bufferAfter filled cs)
+  after-load : (cs : List Call) → AllTyped cs → Holds (sinceLoad plan cs (seenFrom filled cs)) (bufferAfter filled cs)
   after-load cs h = rw (load-since cs, load-left cs) at (whole-bytes (load text ∷ map make cs) (tt, calls-typed cs h) s)
 
 -- ## Rest
@@ -99,15 +103,15 @@ collect-nothing i M o n = rw (collect-is i M o) (go (oldest (cellAt M i .next) (
     go none k = refl
     go (some e) k = absurd (k refl)
 
-still-rest : {x : Since} {t : List ℕ} → Holds x t → AllTyped (x .calls) → Still streamLimit t → AtRest (x .plan) (x .calls)
-still-rest {x} h typed still =
+still-rest : (n : ℕ) {x : Since} {t : List ℕ} → length (x .plan) ≤ n → Holds x t → AllTyped (x .calls) → Still n t → AtRest (x .plan) (x .calls)
+still-rest n {x} few h typed still =
     record {
       moved = λ i e.
-          let l = e .0 in let n = sh .size in
+          let l = e .0 in let m = sh .size in
           stuck-12 i K (omega arith) (rw (sh .eqns i) (e .1)) (lowest-none K stuck i (omega arith));
       collected = λ i e.
           let o : T (cellAt K i .out) = rw (sh .outs i) e in
-          let l = output-there K i o in let n = sh .size in let few = h .rules .few in
+          let l = output-there K i o in let m = sh .size in
           collect-nothing i K o (rw (h .answers (collecting i)) at (still .waits i (omega arith)));
     }
   where
@@ -122,12 +126,13 @@ still-rest {x} h typed still =
 
 -- ## The whole
 
-pub replay-told : (text s : List ℕ) → loadReply text s .number ≡ 0 → (rs : List Record) → AllTyped (map callOf rs) → (w t : List ℕ) → Replays (loadReply text s .buffer) rs w t → Told (declared text) rs w
+-- a replay that goes through all streams of the plan that was loaded
+told-of : (n : ℕ) → n ≤ 2 ^ 32 → (text s : List ℕ) (done : loadReply text s .number ≡ 0) → length (plan text s done) ≤ n → (rs : List Record) → AllTyped (map callOf rs) → (w t : List ℕ) → Replays n (loadReply text s .buffer) rs w t → Told (plan text s done) rs w
 unfolding seenFrom bufferAfter
-replay-told text s done rs typed w t x =
-    let fresh : Holds (sinceLoad (declared text) [] []) (filled text s done) = after-load text s done [] tt in
-    let fine : Bytes (filled text s done) = rw (fresh .buffer) (state-bytes stateLength (after [] (loaded (declared text)))) in
-    let made = replays-made x (inl fine) typed in
+told-of n most text s done few rs typed w t x =
+    let fresh : Holds (sinceLoad (plan text s done) [] []) (filled text s done) = after-load text s done [] tt in
+    let fine : Bytes (filled text s done) = rw (fresh .buffer) (state-bytes (length (filled text s done)) (after [] (loaded (plan text s done)))) in
+    let made = replays-made most x (inl fine) typed in
     let m = made .0 in
     let h = after-load text s done (m .calls) (m .typed) in
     record {
@@ -136,5 +141,13 @@ replay-told text s done rs typed w t x =
       offers = m .offered;
       lines = m .lines ∙ ap printedOf (h .seen);
       claim = h .claim;
-      rest = still-rest h (m .typed) (subst (Still streamLimit) (m .buffer) (made .1));
+      rest = still-rest n few h (m .typed) (subst (Still n) (m .buffer) (made .1));
     }
+
+-- so one that goes through as many streams as the buffer has room for
+pub replay-told : (text s : List ℕ) → loadReply text s .number ≡ 0 → (rs : List Record) → AllTyped (map callOf rs) → (w t : List ℕ) → Replays (capacity (length s)) (loadReply text s .buffer) rs w t → Told (declared (capacity (length s)) text) rs w
+replay-told text s done rs typed w t x =
+    let l : capacity (length (filled text s done)) ≡ capacity (length s) = ap capacity (load-length text s) in
+    let fresh : Holds (sinceLoad (plan text s done) [] []) (filled text s done) = unfold seenFrom bufferAfter in after-load text s done [] tt in
+    subst (λ (n : ℕ). Told (declared n text) rs w) l
+    (told-of (capacity (length s)) (omega (arith, capacity-few (length s))) text s done (omega (arith, fresh .rules .few, l)) rs typed w t x)

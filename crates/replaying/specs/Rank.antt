@@ -11,16 +11,22 @@ isRest (Run busy) = false
 isRest (Collect stream busy) = false
 isRest Rest = true
 
+-- a round goes through n streams
+
 -- one more round is due
-abbrev pub more : Bool → ℕ
-more true = 34
-more false = 0
+abbrev pub more : ℕ → Bool → ℕ
+more n true = n + 3
+more n false = 0
 
 -- the calls that are left if nothing moves or waits
-abbrev pub callsLeft : Place → ℕ
-callsLeft (Run busy) = 33 + more busy
-callsLeft (Collect stream busy) = 1 + (31 - stream) + more busy
-callsLeft Rest = 0
+abbrev pub callsLeft : ℕ → Place → ℕ
+callsLeft n (Run busy) = n + 2 + more n busy
+callsLeft n (Collect stream busy) = 1 + (n - stream) + more n busy
+callsLeft n Rest = 0
 
-abbrev pub rank : Place → List ℕ → ℕ
-rank place s = left s * 68 + callsLeft place
+-- more than are left at any place
+abbrev pub callsAll : ℕ → ℕ
+callsAll n = 2 * (n + 3)
+
+abbrev pub rank : ℕ → Place → List ℕ → ℕ
+rank n place s = left s * callsAll n + callsLeft n place

@@ -1,11 +1,10 @@
 -- What the replay program prints and which state it leaves, call by call.
-use Prim.Native.Nat.{ℕ, zero, suc, _+_}
+use Prim.Native.Nat.{ℕ, zero, suc, _+_, _-_, _^_}
 use mathlib.Core.Path.{_≡_}
 use mathlib.Core.Bool.{Bool, true, false, cond}
 use mathlib.Core.List.{List, [], _∷_, _++_}
 use lib.Dec.{eqb, ltb}
 use Rattle.machine.specs.Calls.{Call, reading, progress, running, collecting}
-use Rattle.operators.specs.Limits.{streamLimit}
 use Rattle.engine.specs.Reply.{Reply, reply}
 use Rattle.trace.specs.declared.Record.{Record}
 use Rattle.trace.specs.declared.Record.the-variants.{Reading, Progress}
@@ -40,7 +39,7 @@ turn place printed state = record { place = place; printed = printed; state = st
 
 -- the most moves that one run is asked for
 abbrev pub allMoves : ℕ
-allMoves = 4294967295
+allMoves = 2 ^ 32 - 1
 
 -- "runs to rest": until a run makes no move
 abbrev pub ran : Bool → Reply → Turn
@@ -51,26 +50,26 @@ abbrev pub roundAfter : Bool → Place
 roundAfter true = Run false
 roundAfter false = Rest
 
--- "lowest stream first"
-unfoldable pub afterOutput : ℕ → Bool → Place
-afterOutput stream busy = cond (ltb (stream + 1) streamLimit) (Collect (stream + 1) busy) (roundAfter busy)
+-- "lowest stream first", of n
+unfoldable pub afterOutput : ℕ → ℕ → Bool → Place
+afterOutput n stream busy = cond (ltb (stream + 1) n) (Collect (stream + 1) busy) (roundAfter busy)
 
 -- "oldest first, printing each event": until nothing waits
-unfoldable pub collected : ℕ → Bool → Reply → Turn
-collected stream busy r =
+unfoldable pub collected : ℕ → ℕ → Bool → Reply → Turn
+collected n stream busy r =
     cond (eqb (r .number) 0)
     (turn (Collect stream true) (eventText stream (r .stamp) (r .value)) (r .buffer))
-    (turn (afterOutput stream busy) [] (r .buffer))
+    (turn (afterOutput n stream busy) [] (r .buffer))
 
-unfoldable pub step : Place → List ℕ → Turn
-step (Run busy) s = ran busy (reply (running allMoves) s)
-step (Collect stream busy) s = collected stream busy (reply (collecting stream) s)
-step Rest s = turn Rest [] s
+unfoldable pub step : ℕ → Place → List ℕ → Turn
+step n (Run busy) s = ran busy (reply (running allMoves) s)
+step n (Collect stream busy) s = collected n stream busy (reply (collecting stream) s)
+step n Rest s = turn Rest [] s
 
 -- from a place and a state, the bytes that are printed on the way to another
-pub data Prints : Place → List ℕ → List ℕ → Place → List ℕ → Type 0 where
-  here : {p : Place} {s : List ℕ} → Prints p s [] p s
-  on : {p : Place} {s w : List ℕ} {q : Place} {t : List ℕ} → Prints (step p s .place) (step p s .state) w q t → Prints p s (step p s .printed ++ w) q t
+pub data Prints (n : ℕ) : Place → List ℕ → List ℕ → Place → List ℕ → Type 0 where
+  here : {p : Place} {s : List ℕ} → Prints n p s [] p s
+  on : {p : Place} {s w : List ℕ} {q : Place} {t : List ℕ} → Prints n (step n p s .place) (step n p s .state) w q t → Prints n p s (step n p s .printed ++ w) q t
 
 -- "Before the first line and after each one"
 abbrev pub start : Place

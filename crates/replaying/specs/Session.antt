@@ -15,11 +15,11 @@ use Rattle.replaying.specs.declared.Place.the-variants.{Rest}
 use Rattle.replaying.specs.Replay.{callOf, refusal, Prints, start}
 
 -- "Before the first line and after each one it runs to rest, collects all outputs [..]": from a state and the records of a
--- trace, the bytes that are printed and the state at the end
-pub data Replays : List ℕ → List Record → List ℕ → List ℕ → Type 0 where
-  ends : {s w t : List ℕ} → Prints start s w Rest t → Replays s [] w t
-  goes : {s w t : List ℕ} {r : Record} {rs : List Record} {v u : List ℕ} → Prints start s w Rest t → Replays (reply (callOf r) t .buffer) rs v u
-      → Replays s (r ∷ rs) (w ++ refusal (reply (callOf r) t .number) ++ v) u
+-- trace, the bytes that are printed and the state at the end; n streams are gone through
+pub data Replays (n : ℕ) : List ℕ → List Record → List ℕ → List ℕ → Type 0 where
+  ends : {s w t : List ℕ} → Prints n start s w Rest t → Replays n s [] w t
+  goes : {s w t : List ℕ} {r : Record} {rs : List Record} {v u : List ℕ} → Prints n start s w Rest t → Replays n (reply (callOf r) t .buffer) rs v u
+      → Replays n s (r ∷ rs) (w ++ refusal (reply (callOf r) t .number) ++ v) u
 
 -- the line that is printed of a call: an event that it handed out, or the number of an offer's refusal
 abbrev pub lineIn : Call → Seen → List ℕ

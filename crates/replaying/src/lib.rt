@@ -9,7 +9,6 @@ ghost use Rattle.replaying.specs.Replay.{Turned, Prints, callOf, refusal
 ghost use Rattle.replaying.specs.Rank.{isRest, rank};
 ghost use Rattle.engine.specs.Reply.{reply};
 ghost use Rattle.machine.specs.Calls.{running, collecting};
-use operators::Plan;
 use trace::Record;
 
 // Where a replay stands. `busy` says that something moved or was handed out in this round.
@@ -58,12 +57,11 @@ pub fn offer(state: &mut [u8], read: Record, out: &mut [u8], at: usize) -> usize
     printer::put_refused(out, at, number)
 }
 
-// What follows once a stream has nothing more to hand out: the next stream, another round, or rest.
-fn after_output(stream: u32, busy: bool) -> Place
-    ensures { λ r. ⌜ r ≡ afterOutput stream busy ⌝ }
+// What follows once a stream, of n, has nothing more to hand out: the next stream, another round, or rest.
+fn after_output(n: u32, stream: u32, busy: bool) -> Place
+    ensures { λ r. ⌜ r ≡ afterOutput n stream busy ⌝ }
 {
-    let limit = Plan::limit();
-    if (stream as usize) + 1 < limit.streams {
+    if (stream as u64) + 1 < n as u64 {
         return Place::Collect {
             stream: stream + 1,
             busy,
@@ -76,9 +74,9 @@ fn after_output(stream: u32, busy: bool) -> Place
 }
 
 // Collects one event of a stream and puts its line, or goes on to what follows the stream.
-fn collect(state: &mut [u8], stream: u32, busy: bool, out: &mut [u8], at: usize) -> Stand
+fn collect(state: &mut [u8], n: u32, stream: u32, busy: bool, out: &mut [u8], at: usize) -> Stand
     requires { ⌜ at + eventRoom ≤ length (now out) ⌝ }
-    ensures { λ r. ⌜ Turned (collected stream busy (reply (collecting stream) (now (state .entry)))) (now (out .entry)) at r (now (out .exit)) (now (state .exit)) ⌝ }
+    ensures { λ r. ⌜ Turned (collected n stream busy (reply (collecting stream) (now (state .entry)))) (now (out .entry)) at r (now (out .exit)) (now (state .exit)) ⌝ }
 {
     let mut stamp: u32 = 0;
     let mut value: i64 = 0;
@@ -91,7 +89,7 @@ fn collect(state: &mut [u8], stream: u32, busy: bool, out: &mut [u8], at: usize)
         };
     }
     Stand {
-        place: after_output(stream, busy),
+        place: after_output(n, stream, busy),
         end: at,
     }
 }
@@ -110,16 +108,16 @@ fn run(state: &mut [u8], busy: bool) -> Place
 }
 
 // Makes the one call that is due at a place.
-fn turn(state: &mut [u8], place: Place, out: &mut [u8], at: usize) -> Stand
+fn turn(state: &mut [u8], n: u32, place: Place, out: &mut [u8], at: usize) -> Stand
     requires { ⌜ at + eventRoom ≤ length (now out) ⌝ }
-    ensures { λ r. ⌜ Turned (step place (now (state .entry))) (now (out .entry)) at r (now (out .exit)) (now (state .exit)) ⌝ }
+    ensures { λ r. ⌜ Turned (step n place (now (state .entry))) (now (out .entry)) at r (now (out .exit)) (now (state .exit)) ⌝ }
 {
     match place {
         Place::Run { busy } => Stand {
             place: run(state, busy),
             end: at,
         },
-        Place::Collect { stream, busy } => collect(state, stream, busy, out, at),
+        Place::Collect { stream, busy } => collect(state, n, stream, busy, out, at),
         Place::Rest => Stand {
             place: Place::Rest,
             end: at,
@@ -138,13 +136,13 @@ pub fn is_rest(place: Place) -> bool
     }
 }
 
-// Goes on from a place until the buffer has no room for one more event or nothing moves or waits. The buffer then starts with
-// what is to be printed.
-pub fn fill(state: &mut [u8], place: Place, out: &mut [u8]) -> Stand
+// Goes on from a place, through n streams, until the buffer has no room for one more event or nothing moves or waits. The buffer
+// then starts with what is to be printed.
+pub fn fill(state: &mut [u8], n: u32, place: Place, out: &mut [u8]) -> Stand
     requires { ⌜ eventRoom ≤ length (now out) ⌝ }
     ensures fits { λ r. ⌜ r .end ≤ length (now (out .exit)) ⌝ }
-    ensures prints { λ r. ⌜ Prints place (now (state .entry)) (take (r .end) (now (out .exit))) (r .place) (now (state .exit)) ⌝ }
-    ensures nearer { λ r. ⌜ (isRest place ≡ false → rank (r .place) (now (state .exit)) < rank place (now (state .entry))) ⌝ }
+    ensures prints { λ r. ⌜ Prints n place (now (state .entry)) (take (r .end) (now (out .exit))) (r .place) (now (state .exit)) ⌝ }
+    ensures nearer { λ r. ⌜ (isRest place ≡ false → rank n (r .place) (now (state .exit)) < rank n place (now (state .entry))) ⌝ }
 {
     let mut p = place;
     let mut end: usize = 0;
@@ -152,7 +150,7 @@ pub fn fill(state: &mut [u8], place: Place, out: &mut [u8]) -> Stand
         if is_rest(p) {
             return Stand { place: p, end };
         }
-        let next = turn(state, p, out, end);
+        let next = turn(state, n, p, out, end);
         p = next.place;
         end = next.end;
     }

@@ -5,12 +5,14 @@ use mathlib.Core.Bool.{Bool, true, false}
 use mathlib.Core.List.{List}
 use native.Mathlib.Omega.{arith}
 use lib.Dec.{lit<}
+use lib.ListN.{length}
+use Rattle.operators.specs.Limits.{capacity}
 use Rattle.le.specs.Bytes.{Bytes}
 use Rattle.machine.specs.State.{State}
 use Rattle.machine.specs.Calls.{Call, running, collecting, call, run, collect}
 use Rattle.cells.specs.View.{bytesOf}
 use Rattle.cells.specs.Sound.{Sound, IsValue}
-use Rattle.valid.specs.Valid.{stateLength, valid}
+use Rattle.valid.specs.Valid.{valid}
 use Rattle.state.specs.In.{stateIn}
 use Rattle.state.proofs.Whole.{valid-sound, bytes-state, bytes-count, bytes-valid}
 use Rattle.sound.proofs.Calls.{call-sound}
@@ -19,16 +21,16 @@ use Rattle.resting.specs.Left.{lack, left}
 use Rattle.resting.proofs.Lack.{run-lack, collect-lack, collect-none, collect-value}
 
 -- a sound state's bytes give the state
-sound-left : (M : State) → Sound M → left (bytesOf stateLength M) ≡ lack M
+sound-left : (size : ℕ) (M : State) → Sound (capacity size) M → left (bytesOf size M) ≡ lack M
 unfolding left
-sound-left M ok = rw (bytes-valid M ok, bytes-count M ok, bytes-state M ok)
+sound-left size M ok = rw (bytes-valid size M ok, bytes-count size M ok, bytes-state size M ok)
 
 module _ (s : List ℕ) where
   valid-left : valid s ≡ true → left s ≡ lack (stateIn s)
   unfolding left
   valid-left e = rw e
 
-  reply-valid : (c : Call) → valid s ≡ true → reply c s ≡ replyOf (call c (stateIn s))
+  reply-valid : (c : Call) → valid s ≡ true → reply c s ≡ replyOf (length s) (call c (stateIn s))
   unfolding reply
   reply-valid c e = rw e
 
@@ -53,7 +55,7 @@ module _ (s : List ℕ) (b : Bytes s) where
       go true e =
           let ok = valid-sound s b e in
           let fine = call-sound (running n) (stateIn s) tt ok in
-          rw (reply-valid s (running n) e, sound-left (call (running n) (stateIn s) .state) fine, valid-left s e, call-run s n) (run-lack n (stateIn s) ok)
+          rw (reply-valid s (running n) e, sound-left (length s) (call (running n) (stateIn s) .state) fine, valid-left s e, call-run s n) (run-lack n (stateIn s) ok)
       go false e = rw (reply-not s (running n) e) (omega arith)
 
   -- after an event was handed out
@@ -64,7 +66,7 @@ module _ (s : List ℕ) (b : Bytes s) where
       go true e =
           let ok = valid-sound s b e in
           let fine = call-sound (collecting i) (stateIn s) tt ok in
-          rw (reply-valid s (collecting i) e, sound-left (call (collecting i) (stateIn s) .state) fine, valid-left s e, call-collect s i) (collect-lack i (stateIn s) ok)
+          rw (reply-valid s (collecting i) e, sound-left (length s) (call (collecting i) (stateIn s) .state) fine, valid-left s e, call-collect s i) (collect-lack i (stateIn s) ok)
       go false e = rw (reply-not s (collecting i) e) (λ z. absurd (omega arith))
 
   -- after none was
@@ -74,7 +76,7 @@ module _ (s : List ℕ) (b : Bytes s) where
       go : (v : Bool) → valid s ≡ v → (reply (collecting i) s .number ≡ 0 → ⊥) → left (reply (collecting i) s .buffer) ≡ left s
       go true e =
           let ok = valid-sound s b e in
-          rw (reply-valid s (collecting i) e, valid-left s e, call-collect s i) (λ n. ap (λ M. left (bytesOf stateLength M)) (collect-none i (stateIn s) ok n) ∙ sound-left (stateIn s) ok)
+          rw (reply-valid s (collecting i) e, valid-left s e, call-collect s i) (λ n. ap (λ M. left (bytesOf (length s) M)) (collect-none i (stateIn s) ok n) ∙ sound-left (length s) (stateIn s) ok)
       go false e = rw (reply-not s (collecting i) e) (λ z. refl)
 
   pub collect-is-value : (i : ℕ) → IsValue (reply (collecting i) s .value)

@@ -2,9 +2,9 @@
 use Prim.Native.Nat.{ℕ, zero, suc, _+_, _-_}
 use mathlib.Core.Bool.{cond}
 use mathlib.Core.List.{List}
+use lib.ListN.{length}
 use Rattle.meaning.specs.Events.{horizon}
 use Rattle.machine.specs.State.{State, cellAt}
-use Rattle.operators.specs.Limits.{streamLimit}
 use Rattle.valid.specs.Valid.{valid}
 use Rattle.state.specs.In.{stateIn}
 
@@ -16,7 +16,7 @@ abbrev pub share : State → ℕ → ℕ
 share M i = (horizon - cellAt M i .bound) + (horizon - cellAt M i .next)
 
 abbrev pub lack : State → ℕ
-lack M = sum (share M) streamLimit
+lack M = sum (share M) (length M)
 
 -- of a state in bytes; nothing moves or waits in bytes that are no state
 unfoldable pub left : List ℕ → ℕ

@@ -20,10 +20,10 @@ use Rattle.le.specs.Bytes.{Bytes}
 use Rattle.layout.specs.Record.{Raws, encode, decode}
 use Rattle.cells.specs.View.{rawsOf, bytesOf}
 use Rattle.cells.specs.Sound.{Sound}
+use Rattle.operators.specs.Limits.{capacity}
 use Rattle.sound.proofs.Calls.{move-sound}
-use Rattle.valid.specs.Valid.{stateLength}
 use Rattle.state.specs.In.{stateIn, IsState}
-use Rattle.state.proofs.Whole.{valid-facts, bytes-length}
+use Rattle.state.proofs.Whole.{bytes-length}
 use Rattle.state.proofs.In.{bytes-are, bytes-in, sound, streams, raws, stays}
 use Rattle.moves.specs.Move.{canRaw, movedRaw}
 use Rattle.refine.proofs.Moves.{can-of, moved-of}
@@ -31,7 +31,7 @@ use Rattle.refine.proofs.Moves.{can-of, moved-of}
 module _ (s : List ℕ) (b : Bytes s) (n : ℕ) (h : IsState s n) where
   -- whether stream i can move, by the code
   pub can-is : (i : ℕ) → i < n → canRaw n i (decode n s) ≡ canMove i (stateIn s)
-  can-is i l = ap₂ (λ (m : ℕ) (st : Raws). canRaw m i st) (streams s b n h) (raws s b n h) ∙ can-of stateLength (stateIn s) (sound s b n h) i (rw (sym (streams s b n h)) l)
+  can-is i l = ap₂ (λ (m : ℕ) (st : Raws). canRaw m i st) (streams s b n h) (raws s b n h) ∙ can-of (length s) (stateIn s) (sound s b n h) i (rw (sym (streams s b n h)) l)
 
   -- the bytes after a move
   module _ (i : ℕ) (l : i < n) (can : canMove i (stateIn s) ≡ true) where
@@ -41,7 +41,7 @@ module _ (s : List ℕ) (b : Bytes s) (n : ℕ) (h : IsState s n) where
     there : i < length (stateIn s)
     there = rw (sym (streams s b n h)) l
 
-    pub next-sound : Sound (move i (stateIn s))
+    pub next-sound : Sound (capacity (length s)) (move i (stateIn s))
     next-sound = move-sound (stateIn s) (sound s b n h) i there moves
 
     pub next-length : n ≡ length (move i (stateIn s))
@@ -50,11 +50,11 @@ module _ (s : List ℕ) (b : Bytes s) (n : ℕ) (h : IsState s n) where
         move-length : (j : ℕ) (N : State) → j < length N → length (move j N) ≡ length N
         move-length j N k = unfold move in raise-size j (newBound (ahead j N) (cellAt N j .held)) (comesIn j N) N k
 
-    pub moved-bytes : encode n (movedRaw n i (decode n s)) ≡ bytesOf stateLength (move i (stateIn s))
+    pub moved-bytes : encode n (movedRaw n i (decode n s)) ≡ bytesOf (length s) (move i (stateIn s))
     unfolding bytesOf
     moved-bytes =
-        ap (encode n) (ap₂ (λ (m : ℕ) (st : Raws). movedRaw m i st) (streams s b n h) (raws s b n h) ∙ moved-of stateLength (stateIn s) (sound s b n h) i there moves)
-        ∙ ap (λ (m : ℕ). encode m (rawsOf stateLength (move i (stateIn s)))) next-length
+        ap (encode n) (ap₂ (λ (m : ℕ) (st : Raws). movedRaw m i st) (streams s b n h) (raws s b n h) ∙ moved-of (length s) (stateIn s) (sound s b n h) i there moves)
+        ∙ ap (λ (m : ℕ). encode m (rawsOf (length s) (move i (stateIn s)))) next-length
 
   -- ---- the lowest
 
@@ -92,19 +92,19 @@ module _ (s : List ℕ) (b : Bytes s) (n : ℕ) (h : IsState s n) where
       pub turn-lowest : true ≡ ltb (lowest (stateIn s)) n
       turn-lowest = sym (rw (lowest-is i l before can) (lt-ltb i n l))
 
-      moved-is : s′ ≡ bytesOf stateLength (move i (stateIn s))
+      moved-is : s′ ≡ bytesOf (length s) (move i (stateIn s))
       moved-is = left-is ∙ ap (λ (p : Bool). cond p (encode n (movedRaw n i (decode n s))) s) can ∙ moved-bytes i l can
 
-      pub turn-moved : s′ ≡ cond (ltb (lowest (stateIn s)) n) (bytesOf stateLength (move (lowest (stateIn s)) (stateIn s))) s
+      pub turn-moved : s′ ≡ cond (ltb (lowest (stateIn s)) n) (bytesOf (length s) (move (lowest (stateIn s)) (stateIn s))) s
       turn-moved =
-          moved-is ∙ ap (λ (j : ℕ). bytesOf stateLength (move j (stateIn s))) (sym (lowest-is i l before can))
-          ∙ ap (λ (p : Bool). cond p (bytesOf stateLength (move (lowest (stateIn s)) (stateIn s))) s) turn-lowest
+          moved-is ∙ ap (λ (j : ℕ). bytesOf (length s) (move j (stateIn s))) (sym (lowest-is i l before can))
+          ∙ ap (λ (p : Bool). cond p (bytesOf (length s) (move (lowest (stateIn s)) (stateIn s))) s) turn-lowest
 
       pub turn-length : length s′ ≡ length s
-      turn-length = ap length moved-is ∙ bytes-length (move i (stateIn s)) (next-sound i l can) ∙ sym (valid-facts s (h .isValid) .size)
+      turn-length = ap length moved-is ∙ bytes-length (length s) (move i (stateIn s)) (next-sound i l can)
 
   pub none-left : ((j : ℕ) → j < n → canMove j (stateIn s) ≡ false) → (x : List ℕ) → x ≡ s
-      → x ≡ cond (ltb (lowest (stateIn s)) n) (bytesOf stateLength (move (lowest (stateIn s)) (stateIn s))) s
+      → x ≡ cond (ltb (lowest (stateIn s)) n) (bytesOf (length s) (move (lowest (stateIn s)) (stateIn s))) s
   none-left before x q = q ∙ sym (rw (lowest-none before))
 
   -- ---- the run that is left
@@ -129,15 +129,15 @@ run-zero (suc k) M e = absurd (omega arith)
 abbrev pub Left : (most made : ℕ) → (s₀ s : List ℕ) → Type 0
 Left most made s₀ s = (run most (stateIn s₀) .moves ≡ made + run (most - made) (stateIn s) .moves) × (run most (stateIn s₀) .state ≡ run (most - made) (stateIn s) .state)
 
-module _ (most made n : ℕ) (s₀ s s′ : List ℕ) (b : Bytes s) (h : IsState s n) (inv : Left most made s₀ s) (es : s′ ≡ cond (ltb (lowest (stateIn s)) n) (bytesOf stateLength (move (lowest (stateIn s)) (stateIn s))) s) where
+module _ (most made n : ℕ) (s₀ s s′ : List ℕ) (b : Bytes s) (h : IsState s n) (inv : Left most made s₀ s) (es : s′ ≡ cond (ltb (lowest (stateIn s)) n) (bytesOf (length s) (move (lowest (stateIn s)) (stateIn s))) s) where
   -- no equation can move
-  pub run-ended : ltb (lowest (stateIn s)) n ≡ false → (made ≡ run most (stateIn s₀) .moves) × (s′ ≡ bytesOf stateLength (run most (stateIn s₀) .state))
-  run-ended q =
+  pub run-ended : ltb (lowest (stateIn s)) n ≡ false → length s ≡ length s₀ → (made ≡ run most (stateIn s₀) .moves) × (s′ ≡ bytesOf (length s₀) (run most (stateIn s₀) .state))
+  run-ended q z =
       let o = run-stop s b n h (most - made) q in
       let m : run (most - made) (stateIn s) .moves ≡ 0 = ap (λ (x : Outcome). x .moves) o in
       let k = inv .0 in (
         omega arith,
-        es ∙ rw q (stays s b n h) ∙ ap (bytesOf stateLength) (sym (inv .1 ∙ ap (λ (x : Outcome). x .state) o)),
+        es ∙ rw q (stays s b n h) ∙ ap₂ bytesOf z (sym (inv .1 ∙ ap (λ (x : Outcome). x .state) o)),
       )
 
   -- one has moved
@@ -155,31 +155,31 @@ module _ (most made n : ℕ) (s₀ s s′ : List ℕ) (b : Bytes s) (h : IsState
         is-true true t = refl
         is-true false t = absurd t
 
-    bytes : s′ ≡ bytesOf stateLength (move (lowest (stateIn s)) (stateIn s))
+    bytes : s′ ≡ bytesOf (length s) (move (lowest (stateIn s)) (stateIn s))
     bytes = es ∙ rw q
 
     pub next-is-state : IsState s′ n
-    next-is-state = bytes-are (move (lowest (stateIn s)) (stateIn s)) s′ n (next-sound s b n h (lowest (stateIn s)) below can-lowest) (next-length s b n h (lowest (stateIn s)) below can-lowest) bytes
+    next-is-state = bytes-are (length s) (move (lowest (stateIn s)) (stateIn s)) s′ n (next-sound s b n h (lowest (stateIn s)) below can-lowest) (next-length s b n h (lowest (stateIn s)) below can-lowest) bytes
 
     pub next-left : Left most (made + 1) s₀ s′
     next-left =
         let e : most - made ≡ suc (most - (made + 1)) = omega arith in
         let o = run-step s b n h (most - made) (most - (made + 1)) e q in
-        let t : stateIn s′ ≡ move (lowest (stateIn s)) (stateIn s) = bytes-in (move (lowest (stateIn s)) (stateIn s)) s′ (next-sound s b n h (lowest (stateIn s)) below can-lowest) bytes in
+        let t : stateIn s′ ≡ move (lowest (stateIn s)) (stateIn s) = bytes-in (length s) (move (lowest (stateIn s)) (stateIn s)) s′ (next-sound s b n h (lowest (stateIn s)) below can-lowest) bytes in
         let m : run (most - made) (stateIn s) .moves ≡ suc (run (most - (made + 1)) (move (lowest (stateIn s)) (stateIn s)) .moves) = ap (λ (x : Outcome). x .moves) o in
         let k = inv .0 in
         (rw t (omega arith), rw t (inv .1 ∙ ap (λ (x : Outcome). x .state) o))
 
     pub next-length-is : length s′ ≡ length s
-    next-length-is = ap length bytes ∙ bytes-length (move (lowest (stateIn s)) (stateIn s)) (next-sound s b n h (lowest (stateIn s)) below can-lowest) ∙ sym (valid-facts s (h .isValid) .size)
+    next-length-is = ap length bytes ∙ bytes-length (length s) (move (lowest (stateIn s)) (stateIn s)) (next-sound s b n h (lowest (stateIn s)) below can-lowest)
 
 -- the moves asked for are made
-pub run-done : (most made n : ℕ) (s₀ s : List ℕ) → Bytes s → IsState s n → Left most made s₀ s → most ≤ made → made ≤ most → (made ≡ run most (stateIn s₀) .moves) × (s ≡ bytesOf stateLength (run most (stateIn s₀) .state))
-run-done most made n s₀ s b h inv l g =
+pub run-done : (most made n : ℕ) (s₀ s : List ℕ) → Bytes s → IsState s n → Left most made s₀ s → most ≤ made → made ≤ most → length s ≡ length s₀ → (made ≡ run most (stateIn s₀) .moves) × (s ≡ bytesOf (length s₀) (run most (stateIn s₀) .state))
+run-done most made n s₀ s b h inv l g z =
     let o = run-zero (most - made) (stateIn s) (omega arith) in
     let m : run (most - made) (stateIn s) .moves ≡ 0 = ap (λ (x : Outcome). x .moves) o in
     let k = inv .0 in
-    (omega arith, stays s b n h ∙ ap (bytesOf stateLength) (sym (inv .1 ∙ ap (λ (x : Outcome). x .state) o)))
+    (omega arith, stays s b n h ∙ ap₂ bytesOf z (sym (inv .1 ∙ ap (λ (x : Outcome). x .state) o)))
 
 pub left-start : (most : ℕ) (s : List ℕ) → Left most 0 s s
 left-start most s =

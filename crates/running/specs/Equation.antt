@@ -1,8 +1,9 @@
 -- Whether a stream is there and is an equation, on raw records.
 use Prim.Native.Nat.{ℕ}
-use mathlib.Core.Bool.{Bool, true, false, not, cond}
-use lib.Dec.{ltb, eqb}
+use mathlib.Core.Bool.{Bool, false, not, cond}
+use lib.Dec.{ltb}
+use Rattle.operators.specs.Operators.{groupOf, isIn}
 use Rattle.layout.specs.Record.{Raws, num, rowAt, opF}
 
 unfoldable pub equationRaw : ℕ → Raws → ℕ → Bool
-equationRaw n st i = cond (ltb i n) (not (eqb (num opF (rowAt st i)) 1)) false
+equationRaw n st i = cond (ltb i n) (not (isIn (groupOf (num opF (rowAt st i))))) false

@@ -9,7 +9,6 @@ ghost use Rattle.machine.specs.Calls as machine;
 ghost use Rattle.machine.specs.Calls.{lowest};
 ghost use Rattle.layout.specs.Record.{decode};
 ghost use Rattle.cells.specs.View.{bytesOf};
-ghost use Rattle.valid.specs.Valid.{stateLength};
 ghost use Rattle.state.specs.In.{stateIn, IsState};
 ghost use Rattle.running.specs.Equation.{equationRaw};
 
@@ -17,7 +16,7 @@ ghost use Rattle.running.specs.Equation.{equationRaw};
 fn move_lowest(state: &mut [u8], n: usize) -> bool
     requires { ⌜ IsState (now state) n ⌝ }
     ensures can { λ r. ⌜ r ≡ ltb (lowest (stateIn (now (state .entry)))) n ⌝ }
-    ensures moved { λ _. ⌜ now (state .exit) ≡ cond (ltb (lowest (stateIn (now (state .entry)))) n) (bytesOf stateLength (move (lowest (stateIn (now (state .entry)))) (stateIn (now (state .entry))))) (now (state .entry)) ⌝ }
+    ensures moved { λ _. ⌜ now (state .exit) ≡ cond (ltb (lowest (stateIn (now (state .entry)))) n) (bytesOf (length (now (state .entry))) (move (lowest (stateIn (now (state .entry)))) (stateIn (now (state .entry))))) (now (state .entry)) ⌝ }
 {
     let mut i = 0;
     while i < n {
@@ -33,7 +32,7 @@ fn move_lowest(state: &mut [u8], n: usize) -> bool
 pub fn run(state: &mut [u8], n: usize, most: u32) -> u32
     requires { ⌜ IsState (now state) n ⌝ }
     ensures moves { λ r. ⌜ r ≡ machine.run most (stateIn (now (state .entry))) .moves ⌝ }
-    ensures state { λ _. ⌜ now (state .exit) ≡ bytesOf stateLength (machine.run most (stateIn (now (state .entry))) .state) ⌝ }
+    ensures state { λ _. ⌜ now (state .exit) ≡ bytesOf (length (now (state .entry))) (machine.run most (stateIn (now (state .entry))) .state) ⌝ }
 {
     let mut made: u32 = 0;
     while made < most {
@@ -57,5 +56,5 @@ pub fn is_equation(state: &[u8], n: usize, stream: u32) -> bool
     let at = i * 256;
     let end = at + 256;
     let op = layout::byte_at(&state[at..end], 0);
-    op != 1
+    !operators::is_in(operators::group_of(op))
 }

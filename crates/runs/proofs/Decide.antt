@@ -9,16 +9,16 @@ use native.Mathlib.Omega.{arith}
 use lib.Dec.{T, leb, ltb, ltb→lt, nltb→le}
 use lib.ListN.{length}
 use lib.IntN.{ℤ}
-use Rattle.meaning.specs.Plan.{Eqn, input, nil, unit, one, two, last, delay, reads}
+use Rattle.meaning.specs.Plan.{Eqn, input, nil, unit, one, two, last, delay, reads, Each, argA, argB}
 use Rattle.meaning.specs.Events.{Event, ev, Stream, Streams, has, orElse, horizon}
 use Rattle.meaning.specs.Table.{latest, last-at, is, fires, delay-at, at}
 use Rattle.meaning.proofs.Tests.{Is, yes!, no!, look}
-use Rattle.meaning.proofs.Each.{Each, each-map}
+use Rattle.meaning.proofs.Each.{each-map}
 use Rattle.meaning.proofs.Causal.{latest-cong}
 use Rattle.meaning.proofs.Induction.{strong}
 use Rattle.machine.specs.State.{Cell, State, cellAt, room}
 use Rattle.machine.specs.Reach.{view, pastLatest, limit, point, stops, reach, valueAt, due, gives, first, Next, event, silent, nextOf, decide}
-use Rattle.machine.specs.Step.{argA, argB, leastWaiting, newBound, added}
+use Rattle.machine.specs.Step.{leastWaiting, newBound, added}
 use Rattle.machine.specs.Step as step
 use Rattle.machine.proofs.Search.{least-ge, least-le, least-before, least-hit}
 use Rattle.machine.proofs.Window.{Seen, has-none, latest-seam, past-cong, past-flat, past-seam}

@@ -10,15 +10,14 @@ use native.Mathlib.Numerals.{add-one}
 use native.Mathlib.Decide.{decLt}
 use lib.Dec.{eqb, eqb→eq, eqb-refl}
 use lib.IntN.{ℤ}
-use Rattle.meaning.specs.Plan.{Eqn, input, nil, unit, one, two, last, delay, reads}
+use Rattle.meaning.specs.Plan.{Eqn, input, nil, unit, one, two, last, delay, reads, Each, argA, argB}
 use Rattle.meaning.specs.Events.{Stream, Streams, orElse}
 use Rattle.meaning.specs.Table.{latest}
 use Rattle.meaning.proofs.Tests.{Is, yes!, no!, look, true-is}
-use Rattle.meaning.proofs.Each.{Each}
 use Rattle.meaning.proofs.Causal.{latest-cong}
 use Rattle.machine.specs.State.{Kept, Cell, noKept}
 use Rattle.machine.specs.Reach.{view, pastLatest, valueAt}
-use Rattle.machine.specs.Step.{argA, argB, absorb, later, keptTold}
+use Rattle.machine.specs.Step.{absorb, later, keptTold}
 use Rattle.machine.proofs.Cells.{ne-eqb, eqb-ne}
 use Rattle.machine.proofs.Window.{Seen, seen-or, or-none, latest-suc, latest-flat, latest-seam, past-le, past-cong, past-here, past-below, past-seam}
 

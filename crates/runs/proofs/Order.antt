@@ -15,20 +15,18 @@ use lib.Dec.{T, leb, ltb, leb→le, nleb→lt, ltb→lt, nltb→le, lt→ltb, T-
 use lib.ListN.{length}
 use lib.Seq.{ext-getD}
 use lib.IntN.{ℤ}
-use Rattle.meaning.specs.Plan.{Eqn, input, nil, unit, one, two, last, delay, reads}
+use Rattle.meaning.specs.Plan.{Eqn, input, nil, unit, one, two, last, delay, reads, Each, argA, argB}
 use Rattle.meaning.specs.Events.{Event, Streams, events, has, horizon}
 use Rattle.meaning.specs.Table.{Solves}
 use Rattle.meaning.proofs.Tests.{Is, yes!, no!, look, T-and, T-and-l, T-and-r}
-use Rattle.meaning.proofs.Each.{Each}
-use Rattle.machine.specs.State.{Declared, Kept, Cell, State, absent, cellAt, room}
+use Rattle.machine.specs.State.{Declared, Kept, Cell, State, absent, cellAt, room, declaredPlan}
 use Rattle.machine.specs.Reach.{view, limit, point, stops, Next}
-use Rattle.machine.specs.Step.{argA, argB, leastWaiting, ahead, newBound, canMove, comesIn, move}
+use Rattle.machine.specs.Step.{leastWaiting, ahead, newBound, canMove, comesIn, move}
 use Rattle.machine.proofs.Window.{seen-has}
 use Rattle.machine.proofs.Rising.{events-flat, drop-fewer}
 use Rattle.machine.proofs.Release.{Frame, frame-waiting, waiting-grows}
 use Rattle.machine.proofs.Frame.{raise-next, raise-bound}
 use Rattle.machine.proofs.Moves.{reachOf, reach-gt, goal, can-equation, can-of, no-input, goal-ge}
-use Rattle.runs.specs.Claim.{planOf}
 use Rattle.runs.proofs.Kept.{keptOf, kept-cong}
 use Rattle.runs.proofs.Tracks.{cut, cut-yes, known, Tracks}
 use Rattle.runs.proofs.Decide.{Finds, nothing, something, finds-le, floor, floor-read, shows-now, arg-at, point-is, in-reach}
@@ -65,7 +63,7 @@ pub record Behind (X Z : State) : Type 0 where
 abbrev pub Stuck : State → Type 0
 Stuck Z = (s : ℕ) → s < length Z → T (not (canMove s Z))
 
-module _ (ds : List Declared) (rd S : Streams) (sol : Solves (planOf ds) rd S horizon) where
+module _ (ds : List Declared) (rd S : Streams) (sol : Solves (declaredPlan ds) rd S horizon) where
   module _ (X Z : State) (of-x : Shape ds X) (of-z : Shape ds Z) (x : Tracks S X) (z : Tracks S Z) (behind : Behind X Z) (stuck : Stuck Z)
       (s : ℕ) (there : s < length X) (can : T (canMove s X)) where
     abbrev top : ℕ
@@ -228,7 +226,7 @@ moves-behind {M} (then-more s l c m) =
       marks = λ i. sym (move-marks s M l i) ∙ r .marks i;
     }
 
-module _ (ds : List Declared) (rd S : Streams) (sol : Solves (planOf ds) rd S horizon) where
+module _ (ds : List Declared) (rd S : Streams) (sol : Solves (declaredPlan ds) rd S horizon) where
   pub moves-shape : {M N : State} → Moves M N → Shape ds M → Tracks S M → Shape ds N
   moves-shape none-more h t = h
   moves-shape {M} (then-more s l c m) h t = moves-shape m (move-shape ds rd S sol M h t s l c) (move-tracks ds rd S sol M h t s l c)

@@ -13,13 +13,13 @@ use lib.Dec.{T, ltb, eqb, eqb→eq, ltb→lt, nltb→le, T-not}
 use lib.ListN.{set, length-set}
 use lib.Seq.{getD-set-same, getD-set-other}
 use lib.IntN.{ℤ}
-use Rattle.meaning.specs.Plan.{Eqn, input, nil, unit, one, two, last, delay, reads}
+use Rattle.meaning.specs.Plan.{Eqn, input, nil, unit, one, two, last, delay, reads, argA, argB}
 use Rattle.meaning.specs.Events.{Event, ev, Streams, events, horizon}
 use Rattle.meaning.proofs.Tests.{Is, yes!, no!, look, not-or-l, not-or-r}
 use Rattle.meaning.proofs.Each.{each-map}
 use Rattle.machine.specs.State.{Cell, State, absent, cellAt, withHeld, withKept}
 use Rattle.machine.specs.Reach.{view}
-use Rattle.machine.specs.Step.{argA, argB, advance, absorb, absorbed, write, told, tell, readsIt, keptTold, dropBelow, leastWaiting, releases, raise}
+use Rattle.machine.specs.Step.{advance, absorb, absorbed, write, told, tell, readsIt, keptTold, dropBelow, leastWaiting, releases, raise}
 use Rattle.machine.proofs.Cells.{set-cases, told-at, eqb-ne}
 use Rattle.machine.proofs.Window.{Seen}
 use Rattle.machine.proofs.Rising.{drop-more}

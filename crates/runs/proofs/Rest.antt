@@ -13,15 +13,14 @@ use native.Mathlib.Omega.{arith}
 use native.Mathlib.Decide.{decLt}
 use lib.Dec.{T, ltb, ltb→lt, T-not, not-T}
 use lib.ListN.{length}
-use Rattle.meaning.specs.Plan.{Eqn, input, nil, unit, one, two, last, delay, Plan, eqnAt, isInput, reads, undelayed}
+use Rattle.meaning.specs.Plan.{Eqn, input, nil, unit, one, two, last, delay, Plan, eqnAt, isInput, reads, undelayed, Each, argA, argB}
 use Rattle.meaning.specs.Events.{Event, Streams, found, events, has, horizon}
 use Rattle.meaning.proofs.Tests.{Is, yes!, no!, look, T-and-r, eqb-self}
-use Rattle.meaning.proofs.Each.{Each}
 use Rattle.meaning.proofs.Clear.{clear, clear-args}
 use Rattle.meaning.proofs.Within.{undelayed-read}
 use Rattle.machine.specs.State.{Cell, State, cellAt}
 use Rattle.machine.specs.Reach.{view, limit, point, stops}
-use Rattle.machine.specs.Step.{argA, argB, readsIt, leastWaiting, canMove}
+use Rattle.machine.specs.Step.{readsIt, leastWaiting, canMove}
 use Rattle.machine.proofs.Window.{past-le}
 use Rattle.machine.proofs.Rising.{Rising, events-rising, rising-dropped}
 use Rattle.machine.proofs.Release.{waiting-who}

@@ -3,17 +3,16 @@ use mathlib.Core.Path.{ap}
 use mathlib.Core.List.{List}
 use Prim.Native.Nat.{ℕ, _≤_, _<_}
 use native.Mathlib.Omega.{arith}
-use Rattle.meaning.specs.Plan.{Eqn, input, nil, unit, one, two, last, delay}
+use Rattle.meaning.specs.Plan.{Eqn, input, nil, unit, one, two, last, delay, argA, argB}
 use Rattle.meaning.specs.Events.{Streams, horizon}
 use Rattle.meaning.specs.Meaning.{meaning}
 use Rattle.meaning.proofs.Solution.{solution-exists}
-use Rattle.machine.specs.State.{Declared, State, cellAt}
-use Rattle.machine.specs.Step.{argA, argB}
+use Rattle.machine.specs.State.{Declared, State, cellAt, declaredPlan}
 use Rattle.machine.specs.Calls.{Call}
 use Rattle.machine.proofs.Moves.{reachOf}
 use Rattle.machine.proofs.Greatest.{Allows, reach-allowed, reach-greatest}
 use Rattle.runs.specs.History.{AllTyped}
-use Rattle.runs.specs.Claim.{planOf, readings, final, Keeps}
+use Rattle.runs.specs.Claim.{readings, final, Keeps}
 use Rattle.runs.proofs.Kept.{keptOf, point-le}
 use Rattle.runs.proofs.Tracks.{known, Tracks}
 use Rattle.runs.proofs.Claimed.{tracks}
@@ -45,6 +44,6 @@ module _ (ds : List Declared) (keeps : Keeps ds) (cs : List Call) (typed : AllTy
   pub run-reach-greatest : (k : ℕ) → Fixed s M k → k ≤ reachOf s M
   run-reach-greatest k h =
       let o = cellAt M s in
-      let S = meaning (planOf ds) (readings ds cs) in
-      let t = tracks ds keeps cs typed S (solution-exists (planOf ds) (readings ds cs) (keeps .acyclic) horizon) in
+      let S = meaning (declaredPlan ds) (readings ds cs) in
+      let t = tracks ds keeps cs typed S (solution-exists (declaredPlan ds) (readings ds cs) (keeps .acyclic) horizon) in
       reach-greatest (o .eqn) o (cellAt M (argA (o .eqn))) (cellAt M (argB (o .eqn))) (since-below S M t s) k h

@@ -11,13 +11,13 @@ use Rattle.meaning.specs.Events.{ev, Streams, found, horizon}
 use Rattle.meaning.specs.Meaning.{meaning}
 use Rattle.meaning.proofs.Tests.{not-twice}
 use Rattle.meaning.proofs.Solution.{solution-exists}
-use Rattle.machine.specs.State.{Declared, State, cellAt, room}
+use Rattle.machine.specs.State.{Declared, State, cellAt, room, declaredPlan}
 use Rattle.machine.specs.Step.{advance, canMove, comesIn, move, raise}
 use Rattle.machine.specs.Calls.{Call, Outcome, noInput, offerReading}
 use Rattle.machine.proofs.Moves.{goal}
 use Rattle.machine.proofs.Outcomes.{unless-cases}
 use Rattle.runs.specs.History.{AllTyped}
-use Rattle.runs.specs.Claim.{planOf, readings, final, Keeps}
+use Rattle.runs.specs.Claim.{readings, final, Keeps}
 use Rattle.runs.proofs.World.{World, Agrees, Good}
 use Rattle.runs.proofs.Offers as offers
 use Rattle.runs.proofs.Move.{rise}
@@ -32,8 +32,8 @@ module _ (ds : List Declared) (keeps : Keeps ds) where
   unfolding move
   moved-tidily X g s l can i =
       let rd : Streams = λ j. found (X .accepted j) in
-      let S = meaning (planOf ds) rd in
-      let sol = solution-exists (planOf ds) rd (keeps .acyclic) horizon in
+      let S = meaning (declaredPlan ds) rd in
+      let sol = solution-exists (declaredPlan ds) rd (keeps .acyclic) horizon in
       let r = g .right rd S sol (record { below = λ j h t k. refl }) in
       step-tidies S (X .state) (r .tracks) s (goal s (X .state)) (comesIn s (X .state)) (rise ds rd S sol (X .state) (g .shape) (r .tracks) s l can) i
 
@@ -42,8 +42,8 @@ module _ (ds : List Declared) (keeps : Keeps ds) where
   read-tidily X g s t v isIn l h i =
       let Y = offers.Y ds X g s isIn t v l h in
       let rd : Streams = λ j. found (Y .accepted j) in
-      let S = meaning (planOf ds) rd in
-      let sol = solution-exists (planOf ds) rd (keeps .acyclic) horizon in
+      let S = meaning (declaredPlan ds) rd in
+      let sol = solution-exists (declaredPlan ds) rd (keeps .acyclic) horizon in
       let a : Agrees ds rd Y = record { below = λ j h t k. refl } in
       let r = g .right rd S sol (offers.before ds X g s isIn t v l h rd a) in
       step-tidies S (X .state) (r .tracks) s (suc t) (ev t v ∷ []) (offers.rise ds X g s isIn t v l h rd S sol a) i
@@ -55,8 +55,8 @@ module _ (ds : List Declared) (keeps : Keeps ds) where
     -- tidying changes nothing in a state of a run
     pub run-is-tidy : (i : ℕ) → tidied M i ≡ cellAt M i
     run-is-tidy =
-        let S = meaning (planOf ds) (readings ds cs) in
-        tracks-tidy S M (tracks ds keeps cs typed S (solution-exists (planOf ds) (readings ds cs) (keeps .acyclic) horizon))
+        let S = meaning (declaredPlan ds) (readings ds cs) in
+        tracks-tidy S M (tracks ds keeps cs typed S (solution-exists (declaredPlan ds) (readings ds cs) (keeps .acyclic) horizon))
 
     -- a move that can be made
     pub move-tidies : (s : ℕ) → s < length M → T (canMove s M) → (i : ℕ) → cellAt (move s M) i ≡ tidied (set M s (stale (advance (goal s M) (comesIn s M) (cellAt M s)))) i

@@ -8,13 +8,12 @@ use lib.ListN.{length, length-map}
 use Rattle.meaning.specs.Plan.{Eqn, input, nil, unit, one, two, last, delay, eqnAt}
 use Rattle.meaning.specs.Events.{Streams}
 use Rattle.meaning.specs.Table.{latest}
-use Rattle.machine.specs.State.{Declared, State, fresh, noKept, cellAt, loaded}
+use Rattle.machine.specs.State.{Declared, State, fresh, noKept, cellAt, loaded, declaredPlan}
 use Rattle.machine.specs.Reach.{pastLatest}
 use Rattle.machine.specs.Step.{leastWaiting}
 use Rattle.machine.specs.Calls.{Call, reading, progress, moving, running, collecting, call}
 use Rattle.machine.proofs.Rising.{drop-nil}
 use Rattle.runs.specs.History.{Typed, AllTyped}
-use Rattle.runs.specs.Claim.{planOf}
 use Rattle.runs.proofs.Kept.{keptOf}
 use Rattle.runs.proofs.Tracks.{known, Ahead, Tracks}
 use Rattle.runs.proofs.World.{World, start, then, worlds, Good}
@@ -23,7 +22,7 @@ use Rattle.runs.proofs.Moving.{move-one-good, run-good}
 use Rattle.runs.proofs.Collecting.{collect-good}
 
 -- every cell of the loaded state is fresh
-pub loaded-cell : (ds : List Declared) (s : ℕ) → (d : Declared) × (cellAt (loaded ds) s ≡ fresh d) × (eqnAt (planOf ds) s ≡ d .eqn)
+pub loaded-cell : (ds : List Declared) (s : ℕ) → (d : Declared) × (cellAt (loaded ds) s ≡ fresh d) × (eqnAt (declaredPlan ds) s ≡ d .eqn)
 unfolding loaded
 loaded-cell [] s = (record { eqn = nil; out = false }, refl, refl)
 loaded-cell (d ∷ ds) zero = (d, refl, refl)

@@ -8,15 +8,14 @@ use Prim.Native.Nat.{ℕ, zero, suc, pred, _≤_, _<_, min, max}
 use native.Mathlib.Omega.{arith}
 use native.Mathlib.Decide.{decLt}
 use lib.Dec.{eqb, eqb→eq}
-use Rattle.meaning.specs.Plan.{Eqn, input, nil, unit, one, two, last, delay, reads}
+use Rattle.meaning.specs.Plan.{Eqn, input, nil, unit, one, two, last, delay, reads, Each, argA, argB}
 use Rattle.meaning.specs.Events.{Streams, events, orElse}
 use Rattle.meaning.specs.Table.{latest}
 use Rattle.meaning.proofs.Tests.{Is, yes!, no!, look, eqb-self}
-use Rattle.meaning.proofs.Each.{Each}
 use Rattle.meaning.proofs.Causal.{latest-cong}
 use Rattle.machine.specs.State.{Kept, Cell, State, cellAt, withHeld, withKept}
 use Rattle.machine.specs.Reach.{view, pastLatest}
-use Rattle.machine.specs.Step.{argA, argB, later, dropBelow, leastWaiting}
+use Rattle.machine.specs.Step.{later, dropBelow, leastWaiting}
 use Rattle.machine.proofs.Cells.{ne-eqb, eqb-ne}
 use Rattle.machine.proofs.Window.{Seen, seen-or, or-none, latest-flat, latest-seam, past-cong, past-flat, past-below, past-seam}
 use Rattle.machine.proofs.Rising.{drop-again}

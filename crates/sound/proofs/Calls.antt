@@ -10,12 +10,12 @@ use lib.Dec.{T, ltb, leb, nltb→le, nleb→lt}
 use lib.IntN.{ℤ}
 use lib.ListN.{length, set}
 use borrow.Author.Tests.{ltb-true}
-use Rattle.meaning.specs.Plan.{Eqn, input, nil, unit, one, two, last, delay, isInput}
+use Rattle.meaning.specs.Plan.{Eqn, input, nil, unit, one, two, last, delay, isInput, argA, argB}
 use Rattle.meaning.specs.Events.{Event, ev, horizon}
 use Rattle.meaning.proofs.Tests.{Is, yes!, no!, look}
 use Rattle.machine.specs.State.{Cell, State, cellAt, room, withNext}
 use Rattle.machine.specs.Reach.{stops, limit, reach, first, gives, Next, event, nextOf, decide}
-use Rattle.machine.specs.Step.{argA, argB, newBound, added, ahead, canMove, comesIn, move}
+use Rattle.machine.specs.Step.{newBound, added, ahead, canMove, comesIn, move}
 use Rattle.machine.specs.Calls.{Call, reading, progress, moving, running, collecting, noInput, noEquation, offerReading, offerProgress, moveOne, lowest, run, oldest, handOut, collect, call}
 use Rattle.machine.proofs.Search.{least-le}
 use Rattle.machine.proofs.Cells.{beyond}
@@ -28,7 +28,7 @@ use Rattle.sound.proofs.Steps.{cell-holds, Comes, silence, one-event, r
 
 -- ---- a move
 
-bound-top : (M : State) → Sound M → (i : ℕ) → cellAt M i .bound ≤ horizon
+bound-top : {cap : ℕ} (M : State) → Sound cap M → (i : ℕ) → cellAt M i .bound ≤ horizon
 bound-top M ok i = go (decLt i (length M))
   where
     go : Dec (i < length M) → cellAt M i .bound ≤ horizon
@@ -52,7 +52,7 @@ reach-top e o a b h k l =
     omega arith
 
 -- what a move finds can come in
-module _ (M : State) (ok : Sound M) (s : ℕ) (l : s < length M) where
+module _ {cap : ℕ} (M : State) (ok : Sound cap M) (s : ℕ) (l : s < length M) where
   abbrev o : Cell
   o = cellAt M s
 
@@ -103,7 +103,7 @@ module _ (M : State) (ok : Sound M) (s : ℕ) (l : s < length M) where
   unfolding ahead
   ahead-fine = decide-fine
 
-  pub move-sound : T (canMove s M) → Sound (move s M)
+  pub move-sound : T (canMove s M) → Sound cap (move s M)
   unfolding move comesIn ahead
   move-sound can = raise-sound s (newBound (decide e o a b) (o .held)) (added (decide e o a b) (o .held)) M ok l up (decide-fine .0) (decide-fine .1)
     where
@@ -112,12 +112,12 @@ module _ (M : State) (ok : Sound M) (s : ℕ) (l : s < length M) where
 
 -- ---- the calls
 
-pub reading-sound : (i t : ℕ) (v : ℤ) (M : State) → Sound M → t < horizon → IsValue v → Sound (offerReading i t v M .state)
+pub reading-sound : {cap : ℕ} (i t : ℕ) (v : ℤ) (M : State) → Sound cap M → t < horizon → IsValue v → Sound cap (offerReading i t v M .state)
 unfolding offerReading
-reading-sound i t v M ok h k =
-    unless-cases (λ o. Sound (o .state)) (noInput i M) 7 M _ (λ x. ok) (λ x.
-    unless-cases (λ o. Sound (o .state)) (ltb t (cellAt M i .bound)) 8 M _ (λ y. ok) (λ y.
-    unless-cases (λ o. Sound (o .state)) (leb room (length (cellAt M i .held))) 9 M _ (λ z. ok) (λ z.
+reading-sound {cap} i t v M ok h k =
+    unless-cases (λ o. Sound cap (o .state)) (noInput i M) 7 M _ (λ x. ok) (λ x.
+    unless-cases (λ o. Sound cap (o .state)) (ltb t (cellAt M i .bound)) 8 M _ (λ y. ok) (λ y.
+    unless-cases (λ o. Sound cap (o .state)) (leb room (length (cellAt M i .held))) 9 M _ (λ z. ok) (λ z.
     let p = nltb→le t (cellAt M i .bound) y in
     raise-sound i (suc t) (ev t v ∷ []) M ok (input-there M i (twice (isInput (cellAt M i .eqn)) x)) (omega arith) (omega arith)
     (one-event t v p refl k (nleb→lt room (length (cellAt M i .held)) z)))))
@@ -135,31 +135,31 @@ is-input (two g a b) h = absurd h
 is-input (last a b) h = absurd h
 is-input (delay a b) h = absurd h
 
-pub progress-sound : (i y : ℕ) (M : State) → Sound M → Sound (offerProgress i y M .state)
+pub progress-sound : {cap : ℕ} (i y : ℕ) (M : State) → Sound cap M → Sound cap (offerProgress i y M .state)
 unfolding offerProgress
-progress-sound i y M ok =
-    unless-cases (λ o. Sound (o .state)) (noInput i M) 7 M _ (λ x. ok) (λ x.
-    unless-cases (λ o. Sound (o .state)) (ltb horizon y) 10 M _ (λ z. ok) (λ z.
-    unless-cases (λ o. Sound (o .state)) (ltb y (cellAt M i .bound)) 8 M _ (λ w. ok) (λ w.
+progress-sound {cap} i y M ok =
+    unless-cases (λ o. Sound cap (o .state)) (noInput i M) 7 M _ (λ x. ok) (λ x.
+    unless-cases (λ o. Sound cap (o .state)) (ltb horizon y) 10 M _ (λ z. ok) (λ z.
+    unless-cases (λ o. Sound cap (o .state)) (ltb y (cellAt M i .bound)) 8 M _ (λ w. ok) (λ w.
     let e = is-input (cellAt M i .eqn) x in
     bound-sound i y M ok (input-there M i (rw e tt)) e (nltb→le y (cellAt M i .bound) w) (nltb→le horizon y z))))
 
-pub move-one-sound : (s : ℕ) (M : State) → Sound M → Sound (moveOne s M .state)
+pub move-one-sound : {cap : ℕ} (s : ℕ) (M : State) → Sound cap M → Sound cap (moveOne s M .state)
 unfolding moveOne
-move-one-sound s M ok =
-    unless-cases (λ o. Sound (o .state)) (noEquation s M) 11 M _ (λ x. ok) (λ x.
-    unless-cases (λ o. Sound (o .state)) (not (canMove s M)) 12 M _ (λ y. ok) (λ y.
+move-one-sound {cap} s M ok =
+    unless-cases (λ o. Sound cap (o .state)) (noEquation s M) 11 M _ (λ x. ok) (λ x.
+    unless-cases (λ o. Sound cap (o .state)) (not (canMove s M)) 12 M _ (λ y. ok) (λ y.
     move-sound M ok s (equation-there s M x) (twice (canMove s M) y)))
   where
     twice : (p : Bool) → T (not (not p)) → T p
     twice true t = tt
     twice false t = t
 
-pub run-sound : (n : ℕ) (M : State) → Sound M → Sound (run n M .state)
+pub run-sound : {cap : ℕ} (n : ℕ) (M : State) → Sound cap M → Sound cap (run n M .state)
 run-sound zero M ok = unfold run in ok
-run-sound (suc n) M ok = go (ltb (lowest M) (length M)) refl (λ h. run-sound n (move (lowest M) M) h)
+run-sound {cap} (suc n) M ok = go (ltb (lowest M) (length M)) refl (λ h. run-sound n (move (lowest M) M) h)
   where
-    go : (b : Bool) → ltb (lowest M) (length M) ≡ b → (Sound (move (lowest M) M) → Sound (run n (move (lowest M) M) .state)) → Sound (run (suc n) M .state)
+    go : (b : Bool) → ltb (lowest M) (length M) ≡ b → (Sound cap (move (lowest M) M) → Sound cap (run n (move (lowest M) M) .state)) → Sound cap (run (suc n) M .state)
     go true e rec = rw (run-more n M e) (let l = ltb-true (lowest M) (length M) e in rec (move-sound M ok (lowest M) l (lowest-can M l)))
     go false e rec = rw (run-ends n M e) ok
 
@@ -175,10 +175,10 @@ stamp-below w lo top (y ∷ es) x r q = go (leb w (y .stamp)) q (λ h. stamp-bel
     go true h rec = let i : y ≡ x = cc in rw (sym i) (top-of (suc (y .stamp)) es (r .2))
     go false h rec = rec h
 
-pub collect-sound : (i : ℕ) (M : State) → Sound M → Sound (collect i M .state)
+pub collect-sound : {cap : ℕ} (i : ℕ) (M : State) → Sound cap M → Sound cap (collect i M .state)
 unfolding collect
-collect-sound i M ok =
-    unless-cases (λ o. Sound (o .state)) (not (cellAt M i .out)) 13 M _ (λ x. ok) (λ x.
+collect-sound {cap} i M ok =
+    unless-cases (λ o. Sound cap (o .state)) (not (cellAt M i .out)) 13 M _ (λ x. ok) (λ x.
     let t = twice (cellAt M i .out) x in
     go (oldest (cellAt M i .next) (cellAt M i .held)) refl (output-there M i t) (is-true (cellAt M i .out) t))
   where
@@ -190,7 +190,7 @@ collect-sound i M ok =
     is-true true t = refl
     is-true false t = absurd t
 
-    go : (x : Option Event) → oldest (cellAt M i .next) (cellAt M i .held) ≡ x → i < length M → cellAt M i .out ≡ true → Sound (handOut x i M .state)
+    go : (x : Option Event) → oldest (cellAt M i .next) (cellAt M i .held) ≡ x → i < length M → cellAt M i .out ≡ true → Sound cap (handOut x i M .state)
     go none q l t = ok
     go (some e) q l t =
         release-sound i (set M i (withNext (suc (e .stamp)) (cellAt M i)))
@@ -205,7 +205,7 @@ Offered (running n) = Unit {0}
 Offered (collecting s) = Unit {0}
 
 -- no state left by the calls is unsound
-pub call-sound : (c : Call) (M : State) → Offered c → Sound M → Sound (call c M .state)
+pub call-sound : {cap : ℕ} (c : Call) (M : State) → Offered c → Sound cap M → Sound cap (call c M .state)
 unfolding call
 call-sound (reading s t v) M h ok = reading-sound s t v M ok (h .0) (h .1)
 call-sound (progress s y) M h ok = progress-sound s y M ok

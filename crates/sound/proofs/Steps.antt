@@ -11,18 +11,17 @@ use lib.IntN.{ℤ}
 use lib.ListN.{length, getD, length-set, length-map, length-append, set}
 use lib.Seq.{ext-getD}
 use borrow.Author.Tests.{ltb-true, eqb-true, eq-eqb}
-use Rattle.meaning.specs.Plan.{Eqn, input, nil, unit, one, two, last, delay, reads}
+use Rattle.meaning.specs.Plan.{Eqn, input, nil, unit, one, two, last, delay, reads, argA, argB}
 use Rattle.meaning.specs.Events.{Event, ev, horizon}
 use Rattle.meaning.specs.Table.{latest}
 use Rattle.meaning.specs.Cycle.{acyclic}
 use Rattle.machine.specs.State.{Kept, Cell, State, absent, cellAt, room, planOf, withBound, withHeld, withNext, withKept}
 use Rattle.machine.specs.Reach.{view, valueAt}
-use Rattle.machine.specs.Step.{argA, argB, advance, later, absorb, absorbed, write, valueTold, priorTold, sinceTold, keptTold, told, tell, leastWaiting, dropBelow, release, releases, raise}
+use Rattle.machine.specs.Step.{advance, later, absorb, absorbed, write, valueTold, priorTold, sinceTold, keptTold, told, tell, leastWaiting, dropBelow, release, releases, raise}
 use Rattle.machine.proofs.Cells.{set-cases, told-at}
 use Rattle.machine.proofs.Window.{past-le}
 use Rattle.machine.proofs.Rising.{drop-shorter}
 use Rattle.machine.proofs.Release.{among, release-at, release-size, releases-at, releases-size}
-use Rattle.operators.specs.Limits.{streamLimit}
 use Rattle.cells.specs.Sound.{IsValue, Rising, IsNext, DelayKept, IsKept, SoundCell, Sound}
 use Rattle.sound.proofs.Values.{or-value, cond-value, latest-value, Holds, holds}
 
@@ -38,16 +37,16 @@ plan-same M N l h =
     at (c ∷ K) zero = refl
     at (c ∷ K) (suc i) = at K i
 
-pub sound-again : (M N : State) → Sound M → length N ≡ length M → ((i : ℕ) → cellAt N i .eqn ≡ cellAt M i .eqn) → ((i : ℕ) → i < length M → SoundCell (length M) (cellAt N i)) → Sound N
-sound-again M N ok l q h = record {
+pub sound-again : {cap : ℕ} (M N : State) → Sound cap M → length N ≡ length M → ((i : ℕ) → cellAt N i .eqn ≡ cellAt M i .eqn) → ((i : ℕ) → i < length M → SoundCell (length M) (cellAt N i)) → Sound cap N
+sound-again {cap} M N ok l q h = record {
   some = rw l (ok .some);
   few = rw l (ok .few);
   each = λ i k. rw l (h i (rw l at k));
-  acyclic = ap (acyclic streamLimit) (plan-same M N l q) ∙ ok .acyclic;
+  acyclic = ap (acyclic cap) (plan-same M N l q) ∙ ok .acyclic;
 }
 
 -- one cell written
-pub set-sound : (M : State) (s : ℕ) (c : Cell) → Sound M → s < length M → c .eqn ≡ cellAt M s .eqn → SoundCell (length M) c → Sound (set M s c)
+pub set-sound : {cap : ℕ} (M : State) (s : ℕ) (c : Cell) → Sound cap M → s < length M → c .eqn ≡ cellAt M s .eqn → SoundCell (length M) c → Sound cap (set M s c)
 set-sound M s c ok l q h =
     sound-again M (set M s c) ok (length-set M s c)
     (set-cases (λ i d. d .eqn ≡ cellAt M i .eqn) M s c l (λ i n. refl) q)
@@ -85,12 +84,12 @@ dropped-sound : (n w : ℕ) (c : Cell) (b : Bool) → SoundCell n c → SoundCel
 dropped-sound n w c true ok = let d = drop-shorter w (c .held) in let f = ok .few in held-sound n c (dropBelow w (c .held)) ok (omega arith) (rising-drop w 0 (c .bound) (c .held) (ok .held))
 dropped-sound n w c false ok = held-sound n c (c .held) ok (ok .few) (ok .held)
 
-pub release-sound : (s : ℕ) (M : State) → Sound M → Sound (release s M)
+pub release-sound : {cap : ℕ} (s : ℕ) (M : State) → Sound cap M → Sound cap (release s M)
 release-sound s M ok =
     sound-again M (release s M) ok (release-size s M) (λ i. ap (λ c. c .eqn) (release-at s M i))
     (λ i k. rw (release-at s M i) (dropped-sound (length M) (leastWaiting i M) (cellAt M i) (eqb i s) (ok .each i k)))
 
-pub releases-sound : (ss : List ℕ) (M : State) → Sound M → Sound (releases ss M)
+pub releases-sound : {cap : ℕ} (ss : List ℕ) (M : State) → Sound cap M → Sound cap (releases ss M)
 releases-sound ss M ok =
     sound-again M (releases ss M) ok (releases-size ss M) (λ i. ap (λ c. c .eqn) (releases-at ss M i))
     (λ i k. rw (releases-at ss M i) (dropped-sound (length M) (leastWaiting i M) (cellAt M i) (among i ss) (ok .each i k)))
@@ -159,7 +158,7 @@ abbrev pub Values : List Event → Type 0
 Values [] = Unit {0}
 Values (e ∷ es) = IsValue (e .value) × Values es
 
-pub tell-sound : (s : ℕ) (new : List Event) (M : State) → Values new → Sound M → Sound (tell s new M)
+pub tell-sound : {cap : ℕ} (s : ℕ) (new : List Event) (M : State) → Values new → Sound cap M → Sound cap (tell s new M)
 unfolding tell
 tell-sound s [] M h ok = ok
 tell-sound s (e ∷ es) M h ok =
@@ -237,14 +236,14 @@ absorb-kept (delay _ _) o a b z ok ha =
 absent-holds : Holds absent
 absent-holds t = tt
 
-pub cell-holds : (M : State) → Sound M → (i : ℕ) → Holds (cellAt M i)
+pub cell-holds : {cap : ℕ} (M : State) → Sound cap M → (i : ℕ) → Holds (cellAt M i)
 cell-holds M ok i = go (decLt i (length M))
   where
     go : Dec (i < length M) → Holds (cellAt M i)
     go (yes h) = holds (length M) (cellAt M i) (ok .each i h)
     go (no h) = rw (Rattle.machine.proofs.Cells.beyond M i (omega arith)) absent-holds
 
-pub write-sound : (s y : ℕ) (new : List Event) (M : State) → Sound M → s < length M → cellAt M s .bound < y → y ≤ horizon → Comes y (cellAt M s) new → Sound (write s y new M)
+pub write-sound : {cap : ℕ} (s y : ℕ) (new : List Event) (M : State) → Sound cap M → s < length M → cellAt M s .bound < y → y ≤ horizon → Comes y (cellAt M s) new → Sound cap (write s y new M)
 unfolding write absorbed
 write-sound s y new M ok l h top cm =
     let c = advance y new (cellAt M s) in
@@ -259,14 +258,14 @@ write-sound s y new M ok l h top cm =
     (absorb-kept (o .eqn) o (cellAt N (argA (o .eqn))) (cellAt N (argB (o .eqn))) z (okN .each s lN .kept) (cell-holds N okN (argA (o .eqn)))))
 
 -- the whole step
-pub raise-sound : (s y : ℕ) (new : List Event) (M : State) → Sound M → s < length M → cellAt M s .bound < y → y ≤ horizon → Comes y (cellAt M s) new → Sound (raise s y new M)
+pub raise-sound : {cap : ℕ} (s y : ℕ) (new : List Event) (M : State) → Sound cap M → s < length M → cellAt M s .bound < y → y ≤ horizon → Comes y (cellAt M s) new → Sound cap (raise s y new M)
 unfolding raise
 raise-sound s y new M ok l h top cm =
     releases-sound (s ∷ reads (cellAt M s .eqn)) (tell s new (write s y new M))
     (tell-sound s new (write s y new M) (comes-values cm) (write-sound s y new M ok l h top cm))
 
 -- progress writes the bound of an input
-pub bound-sound : (s y : ℕ) (M : State) → Sound M → s < length M → cellAt M s .eqn ≡ input → cellAt M s .bound ≤ y → y ≤ horizon → Sound (set M s (withBound y (cellAt M s)))
+pub bound-sound : {cap : ℕ} (s y : ℕ) (M : State) → Sound cap M → s < length M → cellAt M s .eqn ≡ input → cellAt M s .bound ≤ y → y ≤ horizon → Sound cap (set M s (withBound y (cellAt M s)))
 bound-sound s y M ok l e h top =
     let c = cellAt M s in
     let k = ok .each s l in
@@ -274,7 +273,7 @@ bound-sound s y M ok l e h top =
     (record { arguments = k .arguments; value = k .value; out = k .out; bound = top; few = k .few; held = rising-top 0 (c .bound) y (c .held) h (k .held); next = next-up (c .out) (c .next) (c .bound) y h (k .next); kept = rw e (rw e at (k .kept)) })
 
 -- a mark of collection
-pub next-sound : (s n : ℕ) (M : State) → Sound M → s < length M → cellAt M s .out ≡ true → n ≤ cellAt M s .bound → Sound (set M s (withNext n (cellAt M s)))
+pub next-sound : {cap : ℕ} (s n : ℕ) (M : State) → Sound cap M → s < length M → cellAt M s .out ≡ true → n ≤ cellAt M s .bound → Sound cap (set M s (withNext n (cellAt M s)))
 next-sound s n M ok l e h =
     let c = cellAt M s in
     let k = ok .each s l in

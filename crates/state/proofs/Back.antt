@@ -1,32 +1,31 @@
 -- A record that passes number 15's tests is the record of the cell that it gives, and the cell is sound.
 use Prim.Native.Nat.{ℕ, zero, suc, _+_, _*_, _-_, _^_, _<_, _≤_}
-use mathlib.Core.Path.{_≡_, refl, sym, subst}
-use mathlib.Core.List.{List, [], _∷_}
+use mathlib.Core.Path.{_≡_, refl, sym}
+use mathlib.Core.List.{List}
 use mathlib.Core.Bool.{Bool, true, false, not, cond, _&&_}
 use mathlib.Core.Option.{none}
 use native.Mathlib.Omega.{arith}
 use lib.Dec.{eqb, ltb, leb, lit<, lit≤}
-use lib.IntN.{ℤ, pos}
+use lib.IntN.{pos}
 use lib.ListN.{getD, drop}
-use borrow.Author.Tests.{eqb-true, ltb-true, leb-true, ne-eqb, eq-eqb, le-leb}
+use borrow.Author.Tests.{eqb-true, ltb-true, leb-true, ne-eqb, eq-eqb}
 use mir.Syntax.{w64}
 use mir.Val.{ofZ, toZ}
 use mir.Facts.{ofZ-toZ}
-use Rattle.meaning.specs.Plan.{isInput, reads}
 use Rattle.meaning.specs.Events.{horizon}
-use Rattle.machine.specs.State.{Kept, room, noKept}
-use Rattle.operators.specs.Operators.{operatorCount, usesA, usesB, eqnOf}
-use Rattle.operators.proofs.Numbers.{agree}
-use Rattle.operators.proofs.Laws.{reads-by-number}
+use Rattle.machine.specs.State.{room, noKept}
+use Rattle.operators.specs.Operators.{groupOf, isIn, isLast, isDelay}
+use Rattle.operators.specs.Rules.{valueOk, outOk}
+use Rattle.operators.specs.declared.Group.{Group}
 use Rattle.le.specs.Bytes.{allZero}
-use Rattle.layout.specs.Record.{Raw, num, decRaw, opF, aF, bF, outF, countF, flagF, priorFlagF, smallF, kF, boundF, nextF, keptF, valueF, priorF, lastF}
+use Rattle.layout.specs.Record.{Raw, num, decRaw, opF, outF, countF, flagF, priorFlagF, smallF, boundF, nextF, keptF, valueF, priorF, lastF}
 use Rattle.layout.proofs.Laws.{RawOk, num-small}
-use Rattle.cells.specs.View.{flag, flagOf, bitsOf, KeptNums, noNums, keptNums}
+use Rattle.cells.specs.View.{flag, flagOf, bitsOf, noNums, lastNums, delayNums}
 use Rattle.cells.specs.Back.{optional, keptOf}
-use Rattle.cells.specs.Sound.{IsValue, IsOptional, AllBelow, LastKept, DelayKept}
-use Rattle.valid.specs.Valid.{argOk, kOk, outOk, planOk, nextOk, sizesOk, risen, flagOk, noneIf, noneOk, lastOk, delayOk, keptOk, rowOk}
+use Rattle.cells.specs.Sound.{IsValue, IsOptional, LastKept, DelayKept}
+use Rattle.valid.specs.Valid.{planOk, nextOk, sizesOk, risen, flagOk, noneIf, noneOk, lastOk, delayOk, keptOk, rowOk}
 use Rattle.valid.proofs.Tests.{left, right}
-use Rattle.valid.proofs.Link.{PlanFacts, plan-facts, eqnIn}
+use Rattle.valid.proofs.Link.{PlanFacts, plan-facts}
 use Rattle.state.proofs.Tail.{bits-value}
 
 -- ---- what the tests say
@@ -75,7 +74,7 @@ row-facts n p e =
 
 -- ---- the plan part
 
-pub k-is : (used : Bool) (u : ℕ) → u < 2 ^ 64 → kOk used u ≡ true → ofZ w64 (cond used (toZ w64 u) (pos 0)) ≡ u
+pub k-is : (used : Bool) (u : ℕ) → u < 2 ^ 64 → valueOk used u ≡ true → ofZ w64 (cond used (toZ w64 u) (pos 0)) ≡ u
 k-is true u h e = ofZ-toZ {w = w64} {n = u} (record { fits = h })
 k-is false u h e = sym (eqb-true u 0 e)
 
@@ -83,8 +82,8 @@ pub k-value : (used : Bool) (u : ℕ) → u < 2 ^ 64 → IsValue (cond used (toZ
 k-value true u h = bits-value u h
 k-value false u h = lit< tt
 
-pub out-is : (op out : ℕ) → outOk op out ≡ true → flag (not (eqb out 0)) ≡ out
-out-is op out e = small out (go (eqb op 1) e)
+pub out-is : (g : Group) (out : ℕ) → outOk g out ≡ true → flag (not (eqb out 0)) ≡ out
+out-is g out e = small out (go (isIn g) e)
   where
     small : (o : ℕ) → o < 2 → flag (not (eqb o 0)) ≡ o
     small zero h = refl
@@ -95,44 +94,12 @@ out-is op out e = small out (go (eqb op 1) e)
     go true e = let z = eqb-true out 0 e in omega arith
     go false e = ltb-true out 2 e
 
-used-arg : (used : Bool) (a n : ℕ) → argOk used a n ≡ true → used ≡ true → a < n
-used-arg used a n e u = ltb-true a n (rw u at e)
-
-pub reads-below : (n : ℕ) (r : Raw) → PlanFacts n r → AllBelow n (reads (eqnIn r))
-reads-below n r f =
-    subst (AllBelow n) (sym (reads-by-number (num aF r) (num bF r) (toZ w64 (num kF r)) (num opF r) (f .least) (f .most))) (go (usesB (num opF r)) refl (usesA (num opF r)) refl)
-  where
-    op : ℕ
-    op = num opF r
-
-    go : (u : Bool) → usesB op ≡ u → (v : Bool) → usesA op ≡ v → AllBelow n (cond u (num aF r ∷ num bF r ∷ []) (cond v (num aF r ∷ []) []))
-    go true eu v ev = (used-arg (usesA op) (num aF r) n (f .a-ok) (le-leb 4 op (omega (arith, leb-true 8 op eu))), (used-arg (usesB op) (num bF r) n (f .b-ok) eu, tt))
-    go false eu true ev = (used-arg (usesA op) (num aF r) n (f .a-ok) ev, tt)
-    go false eu false ev = tt
-
--- an input has number 1
-pub input-number : (a b : ℕ) (k : ℤ) (op : ℕ) → 1 ≤ op → op ≤ operatorCount → isInput (eqnOf op a b k) ≡ eqb op 1
-unfolding eqnOf
-input-number a b k op l h = agree (λ n. isInput (eqnOf n a b k)) (λ n. eqb n 1) 1 operatorCount refl op l (omega arith)
-
-pub no-input : (op out : ℕ) → outOk op out ≡ true → eqb op 1 ≡ true → not (eqb out 0) ≡ false
-no-input op out e q =
+pub no-input : (g : Group) (out : ℕ) → outOk g out ≡ true → isIn g ≡ true → not (eqb out 0) ≡ false
+no-input g out e q =
     let z : eqb out 0 ≡ true = rw q at e in
     rw z
 
 -- ---- what is kept
-
-abbrev pub lastNums : Kept → KeptNums
-lastNums k = record { flag = flagOf (k .prev); priorFlag = 0; kept = bitsOf (k .prev); value = 0; prior = 0 }
-
-abbrev pub delayNums : Kept → KeptNums
-delayNums k = record { flag = flagOf (k .value); priorFlag = flagOf (k .prior); kept = k .since; value = bitsOf (k .value); prior = bitsOf (k .prior) }
-
-pub nums-by-number : (a b : ℕ) (v : ℤ) (k : Kept) (op : ℕ) → 1 ≤ op → op ≤ operatorCount
-    → keptNums (eqnOf op a b v) k ≡ cond (eqb op 18) (lastNums k) (cond (eqb op 19) (delayNums k) noNums)
-unfolding eqnOf
-nums-by-number a b v k op l h =
-    agree (λ n. keptNums (eqnOf n a b v) k) (λ n. cond (eqb n 18) (lastNums k) (cond (eqb n 19) (delayNums k) noNums)) 1 operatorCount refl op l (omega arith)
 
 -- a flag and what it stands for
 pub record FlagFacts (has x : ℕ) : Type 0 where
@@ -175,7 +142,7 @@ module _ (r : Raw) (ok : RawOk r) where
       go (suc (suc (suc (suc (suc (suc (suc (suc (suc (suc (suc (suc (suc (suc zero)))))))))))))) l h q = q
       go (suc (suc (suc (suc (suc (suc (suc (suc (suc (suc (suc (suc (suc (suc (suc j))))))))))))))) l h q = absurd (omega arith)
 
-  pub last-kept : lastOk r ≡ true → num opF r ≡ 18 → LastKept (num boundF r) (keptOf r) × (lastNums (keptOf r) ≡ record { flag = num flagF r; priorFlag = num priorFlagF r; kept = num keptF r; value = num valueF r; prior = num priorF r })
+  pub last-kept : lastOk r ≡ true → isLast (groupOf (num opF r)) ≡ true → LastKept (num boundF r) (keptOf r) × (lastNums (keptOf r) ≡ record { flag = num flagF r; priorFlag = num priorFlagF r; kept = num keptF r; value = num valueF r; prior = num priorF r })
   unfolding lastOk keptOf
   last-kept e op =
       let a : Bool = flagOk (num flagF r) (num keptF r) in
@@ -188,14 +155,14 @@ module _ (r : Raw) (ok : RawOk r) where
       let e₃ = right c (d && f) e₂ in
       let g = flag-facts (num flagF r) (num keptF r) (word keptF (lit≤ tt) (lit< tt)) (left a (b && (c && (d && f))) e) in
       let z = absent (num boundF r) (num flagF r) (num keptF r) (left b (c && (d && f)) e₁) in
-      rw (eq-eqb (num opF r) 18 op) (
+      rw op (
         record { prev = g .isOptional; fresh = z; since = refl; value = refl; prior = refl },
         λ i. record { flag = g .flag i; priorFlag = sym (eqb-true (num priorFlagF r) 0 (left c (d && f) e₂)) i; kept = g .bits i; value = sym (eqb-true (num valueF r) 0 (left d f e₃)) i; prior = sym (eqb-true (num priorF r) 0 (right d f e₃)) i },
       )
 
-  pub delay-kept : delayOk r ≡ true → num opF r ≡ 19 → DelayKept (num boundF r) (keptOf r) × (delayNums (keptOf r) ≡ record { flag = num flagF r; priorFlag = num priorFlagF r; kept = num keptF r; value = num valueF r; prior = num priorF r })
+  pub delay-kept : delayOk r ≡ true → isLast (groupOf (num opF r)) ≡ false → isDelay (groupOf (num opF r)) ≡ true → DelayKept (num boundF r) (keptOf r) × (delayNums (keptOf r) ≡ record { flag = num flagF r; priorFlag = num priorFlagF r; kept = num keptF r; value = num valueF r; prior = num priorF r })
   unfolding delayOk keptOf
-  delay-kept e op =
+  delay-kept e l op =
       let a : Bool = flagOk (num flagF r) (num valueF r) in
       let b : Bool = flagOk (num priorFlagF r) (num priorF r) in
       let c : Bool = noneIf (num keptF r) (num flagF r) in
@@ -206,8 +173,7 @@ module _ (r : Raw) (ok : RawOk r) where
       let e₃ = right c (d && f) e₂ in
       let g = flag-facts (num flagF r) (num valueF r) (word valueF (lit≤ tt) (lit< tt)) (left a (b && (c && (d && f))) e) in
       let h = flag-facts (num priorFlagF r) (num priorF r) (word priorF (lit≤ tt) (lit< tt)) (left b (c && (d && f)) e₁) in
-      let n18 : num opF r ≡ 18 → ⊥ = λ q. absurd (omega arith) in
-      rw (ne-eqb (num opF r) 18 n18, eq-eqb (num opF r) 19 op) (
+      rw (l, op) (
         record {
           prev = refl;
           since = leb-true (num keptF r) (num boundF r) (right d f e₃);
@@ -219,9 +185,9 @@ module _ (r : Raw) (ok : RawOk r) where
         λ i. record { flag = g .flag i; priorFlag = h .flag i; kept = num keptF r; value = g .bits i; prior = h .bits i },
       )
 
-  pub none-kept : noneOk r ≡ true → (num opF r ≡ 18 → ⊥) → (num opF r ≡ 19 → ⊥) → (keptOf r ≡ noKept) × (noNums ≡ record { flag = num flagF r; priorFlag = num priorFlagF r; kept = num keptF r; value = num valueF r; prior = num priorF r })
+  pub none-kept : noneOk r ≡ true → isLast (groupOf (num opF r)) ≡ false → isDelay (groupOf (num opF r)) ≡ false → (keptOf r ≡ noKept) × (noNums ≡ record { flag = num flagF r; priorFlag = num priorFlagF r; kept = num keptF r; value = num valueF r; prior = num priorF r })
   unfolding noneOk keptOf
-  none-kept e n18 n19 =
+  none-kept e l m =
       let a : Bool = eqb (num flagF r) 0 in
       let b : Bool = eqb (num priorFlagF r) 0 in
       let c : Bool = eqb (num keptF r) 0 in
@@ -230,6 +196,6 @@ module _ (r : Raw) (ok : RawOk r) where
       let e₁ = right a (b && (c && (d && f))) e in
       let e₂ = right b (c && (d && f)) e₁ in
       let e₃ = right c (d && f) e₂ in (
-        rw (ne-eqb (num opF r) 18 n18, ne-eqb (num opF r) 19 n19),
+        rw (l, m),
         λ i. record { flag = sym (eqb-true (num flagF r) 0 (left a (b && (c && (d && f))) e)) i; priorFlag = sym (eqb-true (num priorFlagF r) 0 (left b (c && (d && f)) e₁)) i; kept = sym (eqb-true (num keptF r) 0 (left c (d && f) e₂)) i; value = sym (eqb-true (num valueF r) 0 (left d f e₃)) i; prior = sym (eqb-true (num priorF r) 0 (right d f e₃)) i },
       )

@@ -1,136 +1,56 @@
 -- The record of a sound cell passes the tests of number 15.
-use Prim.Native.Nat.{ℕ, zero, suc, _+_, _*_, _-_, _≤_}
+use Prim.Native.Nat.{ℕ, zero, suc, _+_, _*_, _-_, _<_, _≤_}
 use mathlib.Core.Path.{_≡_, refl, sym, ap, _∙_}
 use mathlib.Core.List.{List, [], _∷_, _++_, map}
 use mathlib.Core.Bool.{Bool, true, false}
 use mathlib.Core.Option.{Option, none, some}
 use native.Mathlib.Omega.{arith}
-use lib.Dec.{eqb, ltb, T}
+use lib.Dec.{lit<}
 use lib.IntN.{ℤ}
 use lib.ListN.{length, drop, replicate, length-map}
 use lib.Seq.{drop-append-add}
-use borrow.Author.Tests.{lt-ltb, le-leb, eq-eqb, ne-eqb}
+use borrow.Author.Tests.{le-leb, eq-eqb, ne-eqb}
 use mir.Syntax.{w64}
 use mir.Val.{ofZ}
-use Rattle.meaning.specs.Plan.{Unary, time, neg, plus, add, sub, mul, div, rem, lt, le, eq, Binary, calc, keep, merge, Eqn, input, nil, unit, one, two, last, delay, isInput, reads}
-use Rattle.meaning.specs.Plan as plan
+use Rattle.meaning.specs.Plan.{Eqn, input, nil, unit, one, two, last, delay}
 use Rattle.meaning.specs.Events.{Event, horizon}
 use Rattle.machine.specs.State.{Kept, Cell, room}
-use Rattle.operators.specs.Operators.{isOperator, usesA, usesB, usesK, numberOf, firstOf, secondOf, valueOf, unaryNumber, binaryNumber}
+use Rattle.operators.specs.Operators.{groupOf, isPresent, isOperator, eqnGroup, numberOf}
+use Rattle.operators.proofs.Laws.{one-group, two-group, group-of}
+use Rattle.operators.proofs.Rules.{out-pass, fields-pass}
 use Rattle.le.specs.Bytes.{allZero}
 use Rattle.le.specs.Layout.{encFields, encRows}
 use Rattle.le.proofs.RoundTrip.{rows-drop}
 use Rattle.layout.specs.Record.{noSlot, num, headWidths, encSlot, encRaw, decRaw, countF, boundF}
 use Rattle.layout.proofs.Laws.{head-len, slot-len, raw-enc}
 use Rattle.layout.proofs.Slots.{slot-zeros}
-use Rattle.cells.specs.View.{flag, flagOf, bitsOf, KeptNums, keptNums, slotOf, padTo, rawOf, ofCell}
-use Rattle.cells.specs.Sound.{AllBelow, Rising, IsNext, IsKept, SoundCell}
+use Rattle.cells.specs.View.{flag, flagOf, bitsOf, keptNums, slotOf, padTo, rawOf, ofCell}
+use Rattle.cells.specs.Sound.{Rising, IsNext, IsKept, SoundCell}
 use Rattle.cells.proofs.Widths.{cell-raw, pad-length}
-use Rattle.valid.specs.Valid.{argOk, kOk, outOk, planOk, nextOk, sizesOk, risen, flagOk, noneIf, noneOk, lastOk, delayOk, keptOk, rowOk}
+use Rattle.valid.specs.Valid.{planOk, nextOk, sizesOk, risen, flagOk, noneIf, noneOk, lastOk, delayOk, keptOk, rowOk}
 
 -- ---- the plan part
 
-op-one : (f : Unary) → isOperator (unaryNumber f) ≡ true
-op-one time = refl
-op-one neg = refl
-op-one (plan.set k) = refl
-op-one (plus k) = refl
+op-passes : (e : Eqn) → isOperator (numberOf e) ≡ true
+op-passes e = ap isPresent (group-of e) ∙ shape e
+  where
+    shape : (e : Eqn) → isPresent (eqnGroup e) ≡ true
+    shape input = refl
+    shape nil = refl
+    shape unit = refl
+    shape (one f a) = refl
+    shape (two g a b) = refl
+    shape (last a b) = refl
+    shape (delay a b) = refl
 
-op-two : (g : Binary) → isOperator (binaryNumber g) ≡ true
-op-two (calc add) = refl
-op-two (calc sub) = refl
-op-two (calc mul) = refl
-op-two (calc div) = refl
-op-two (calc rem) = refl
-op-two (calc lt) = refl
-op-two (calc le) = refl
-op-two (calc eq) = refl
-op-two keep = refl
-op-two merge = refl
-
-pub op-passes : (e : Eqn) → isOperator (numberOf e) ≡ true
-unfolding numberOf
-op-passes input = refl
-op-passes nil = refl
-op-passes unit = refl
-op-passes (one f a) = op-one f
-op-passes (two g a b) = op-two g
-op-passes (last a b) = refl
-op-passes (delay a b) = refl
-
--- which fields the groups use
-one-uses : (f : Unary) → (usesA (unaryNumber f) ≡ true) × (usesB (unaryNumber f) ≡ false) × (eqb (unaryNumber f) 1 ≡ false)
-one-uses time = (refl, refl, refl)
-one-uses neg = (refl, refl, refl)
-one-uses (plan.set k) = (refl, refl, refl)
-one-uses (plus k) = (refl, refl, refl)
-
-two-uses : (g : Binary) → (usesA (binaryNumber g) ≡ true) × (usesB (binaryNumber g) ≡ true) × (usesK (binaryNumber g) ≡ false) × (eqb (binaryNumber g) 1 ≡ false)
-two-uses (calc add) = (refl, refl, refl, refl)
-two-uses (calc sub) = (refl, refl, refl, refl)
-two-uses (calc mul) = (refl, refl, refl, refl)
-two-uses (calc div) = (refl, refl, refl, refl)
-two-uses (calc rem) = (refl, refl, refl, refl)
-two-uses (calc lt) = (refl, refl, refl, refl)
-two-uses (calc le) = (refl, refl, refl, refl)
-two-uses (calc eq) = (refl, refl, refl, refl)
-two-uses keep = (refl, refl, refl, refl)
-two-uses merge = (refl, refl, refl, refl)
-
-a-passes : (n : ℕ) (e : Eqn) → AllBelow n (reads e) → argOk (usesA (numberOf e)) (firstOf e) n ≡ true
-unfolding numberOf firstOf
-a-passes n input h = refl
-a-passes n nil h = refl
-a-passes n unit h = refl
-a-passes n (one f a) h = rw (one-uses f .0) (lt-ltb a n (h .0))
-a-passes n (two g a b) h = rw (two-uses g .0) (lt-ltb a n (h .0))
-a-passes n (last a b) h = lt-ltb a n (h .0)
-a-passes n (delay a b) h = lt-ltb a n (h .0)
-
-b-passes : (n : ℕ) (e : Eqn) → AllBelow n (reads e) → argOk (usesB (numberOf e)) (secondOf e) n ≡ true
-unfolding numberOf secondOf
-b-passes n input h = refl
-b-passes n nil h = refl
-b-passes n unit h = refl
-b-passes n (one f a) h = rw (one-uses f .1)
-b-passes n (two g a b) h = rw (two-uses g .1) (lt-ltb b n (h .1 .0))
-b-passes n (last a b) h = lt-ltb b n (h .1 .0)
-b-passes n (delay a b) h = lt-ltb b n (h .1 .0)
-
-k-one : (f : Unary) → kOk (usesK (unaryNumber f)) (ofZ w64 (Rattle.operators.specs.Operators.unaryValue f)) ≡ true
-k-one time = refl
-k-one neg = refl
-k-one (plan.set k) = refl
-k-one (plus k) = refl
-
-k-passes : (e : Eqn) → kOk (usesK (numberOf e)) (ofZ w64 (valueOf e)) ≡ true
-unfolding numberOf valueOf
-k-passes input = refl
-k-passes nil = refl
-k-passes unit = refl
-k-passes (one f a) = k-one f
-k-passes (two g a b) = rw (two-uses g .2)
-k-passes (last a b) = refl
-k-passes (delay a b) = refl
-
-flag-small : (b : Bool) → ltb (flag b) 2 ≡ true
-flag-small true = refl
-flag-small false = refl
-
-out-passes : (e : Eqn) (o : Bool) → (T (isInput e) → o ≡ false) → outOk (numberOf e) (flag o) ≡ true
-unfolding numberOf
-out-passes input o h = rw (h tt)
-out-passes nil o h = flag-small o
-out-passes unit o h = flag-small o
-out-passes (one f a) o h = rw (one-uses f .2) (flag-small o)
-out-passes (two g a b) o h = rw (two-uses g .3) (flag-small o)
-out-passes (last a b) o h = flag-small o
-out-passes (delay a b) o h = flag-small o
+flag-small : (b : Bool) → flag b < 2
+flag-small true = lit< tt
+flag-small false = lit< tt
 
 plan-passes : (n : ℕ) (c : Cell) → SoundCell n c → planOk n (ofCell c) ≡ true
 unfolding planOk ofCell
 plan-passes n c ok =
-    rw (op-passes (c .eqn), a-passes n (c .eqn) (ok .arguments), b-passes n (c .eqn) (ok .arguments), k-passes (c .eqn)) (out-passes (c .eqn) (c .out) (ok .out))
+    rw (op-passes (c .eqn)) (fields-pass (ofZ w64) refl n (c .eqn) (flag (c .out)) (ok .arguments) (out-pass (c .eqn) (flag (c .out)) (flag-small (c .out)) (λ t. ap flag (ok .out t))))
 
 -- ---- sizes, stamps, kept data
 
@@ -159,36 +79,13 @@ none-passes : (y : ℕ) (o : Option ℤ) → (y ≡ 0 → o ≡ none) → noneIf
 none-passes zero o h = rw (h refl)
 none-passes (suc y) o h = rw (ne-eqb (suc y) 0 (λ e. omega arith))
 
-abbrev no-nums : KeptNums
-no-nums = record { flag = 0; priorFlag = 0; kept = 0; value = 0; prior = 0 }
-
-one-keeps : (f : Unary) (a : ℕ) (o : Bool) (y : ℕ) (h : List Event) (m : ℕ) → keptOk (rawOf (one f a) o y h m no-nums) ≡ true
-unfolding keptOk noneOk numberOf
-one-keeps time a o y h m = refl
-one-keeps neg a o y h m = refl
-one-keeps (plan.set v) a o y h m = refl
-one-keeps (plus v) a o y h m = refl
-
-two-keeps : (g : Binary) (a b : ℕ) (o : Bool) (y : ℕ) (h : List Event) (m : ℕ) → keptOk (rawOf (two g a b) o y h m no-nums) ≡ true
-unfolding keptOk noneOk numberOf
-two-keeps (calc add) a b o y h m = refl
-two-keeps (calc sub) a b o y h m = refl
-two-keeps (calc mul) a b o y h m = refl
-two-keeps (calc div) a b o y h m = refl
-two-keeps (calc rem) a b o y h m = refl
-two-keeps (calc lt) a b o y h m = refl
-two-keeps (calc le) a b o y h m = refl
-two-keeps (calc eq) a b o y h m = refl
-two-keeps keep a b o y h m = refl
-two-keeps merge a b o y h m = refl
-
 kept-passes : (e : Eqn) (o : Bool) (y : ℕ) (h : List Event) (m : ℕ) (k : Kept) → IsKept e y k → keptOk (rawOf e o y h m (keptNums e k)) ≡ true
-unfolding keptOk noneOk lastOk delayOk numberOf
+unfolding keptOk noneOk lastOk delayOk groupOf numberOf
 kept-passes input o y h m k ok = refl
 kept-passes nil o y h m k ok = refl
 kept-passes unit o y h m k ok = refl
-kept-passes (one f a) o y h m k ok = one-keeps f a o y h m
-kept-passes (two g a b) o y h m k ok = two-keeps g a b o y h m
+kept-passes (one f a) o y h m k ok = rw (one-group f)
+kept-passes (two g a b) o y h m k ok = rw (two-group g)
 kept-passes (last a b) o y h m k ok = rw (flag-passes (k .prev), none-passes y (k .prev) (ok .fresh))
 kept-passes (delay a b) o y h m k ok =
     rw (flag-passes (k .value), flag-passes (k .prior), none-passes (k .since) (k .value) (ok .unset), none-passes y (k .prior) (ok .fresh)) (le-leb (k .since) y (ok .since))

@@ -4,94 +4,81 @@ use mathlib.Core.Path.{_≡_, refl, sym, ap, _∙_, subst}
 use mathlib.Core.List.{List, [], _∷_, map}
 use mathlib.Core.Bool.{Bool, true, false, not, cond}
 use native.Mathlib.Omega.{arith}
-use native.Mathlib.Decide.{ℕ-discrete}
 use lib.Dec.{eqb, lit<, lit≤, T}
 use lib.ListN.{length, take, length-map}
 use lib.Seq.{length-take-le}
-use borrow.Author.Tests.{eqb-true, leb-true, ne-eqb, eq-eqb}
+use borrow.Author.Tests.{eqb-true, leb-true, ne-eqb}
 use mir.Syntax.{w64}
 use mir.Val.{ofZ, toZ}
-use Rattle.meaning.specs.Plan.{Unary, time, neg, plus, add, sub, mul, div, rem, lt, le, eq, Binary, calc, keep, merge, Eqn, input, nil, unit, one, two, last, delay, isInput}
-use Rattle.meaning.specs.Plan as plan
+use Rattle.meaning.specs.Plan.{Eqn, input, nil, unit, one, two, last, delay, isInput}
 use Rattle.machine.specs.State.{Kept, room, noKept}
-use Rattle.operators.specs.Operators.{operatorCount, usesA, usesB, usesK, numberOf, unaryNumber, binaryNumber}
-use Rattle.operators.proofs.Laws.{number-back, first-back, second-back, value-back}
+use Rattle.operators.specs.Operators.{groupOf, isLast, isDelay, eqnGroup, usesK, numberOf}
+use Rattle.operators.specs.declared.Group.{Group}
+use Rattle.operators.proofs.Laws.{group-of, number-back, value-back, input-by-number}
+use Rattle.operators.proofs.Rules.{value-ok, out-ok, fields-first, fields-second, fields-reads}
 use Rattle.le.specs.Bytes.{Bytes}
 use Rattle.le.specs.Layout.{decFields}
 use Rattle.layout.specs.Record.{Raw, noSlot, num, decRaw, opF, aF, bF, outF, countF, flagF, priorFlagF, kF, boundF, nextF, keptF, valueF, priorF}
 use Rattle.layout.proofs.Laws.{RawOk, raw-ok}
 use Rattle.layout.proofs.Slots.{slots-many}
-use Rattle.cells.specs.View.{flag, KeptNums, noNums, keptNums, slotOf, padTo, ofCell}
+use Rattle.cells.specs.View.{flag, KeptNums, noNums, lastNums, delayNums, keptNums, slotOf, padTo, ofCell}
 use Rattle.cells.specs.Back.{eventOf, heldOf, keptOf, toCell}
 use Rattle.cells.specs.Sound.{IsValue, IsNext, LastKept, DelayKept, IsKept, SoundCell}
 use Rattle.valid.specs.Valid.{nextOk, lastOk, delayOk, noneOk, keptOk}
-use Rattle.valid.proofs.Link.{used-is, eqnIn}
+use Rattle.valid.proofs.Link.{eqnIn}
 use Rattle.state.proofs.Tail.{slots-back, stamps-back}
-use Rattle.state.proofs.Back.{RowFacts, k-is, k-value, out-is, reads-below, input-number, no-input, lastNums, delayNums, nums-by-number, word, last-kept, delay-kept, none-kept}
+use Rattle.state.proofs.Back.{RowFacts, k-is, k-value, out-is, no-input, word, last-kept, delay-kept, none-kept}
 
--- ---- kept data by the equation's number
+-- ---- kept data by the equation's group
 
-one-high : (f : Unary) → unaryNumber f < 18
-one-high time = lit< tt
-one-high neg = lit< tt
-one-high (plan.set k) = lit< tt
-one-high (plus k) = lit< tt
-
-two-high : (g : Binary) → binaryNumber g < 18
-two-high (calc add) = lit< tt
-two-high (calc sub) = lit< tt
-two-high (calc mul) = lit< tt
-two-high (calc div) = lit< tt
-two-high (calc rem) = lit< tt
-two-high (calc lt) = lit< tt
-two-high (calc le) = lit< tt
-two-high (calc eq) = lit< tt
-two-high keep = lit< tt
-two-high merge = lit< tt
-
-is-kept : (e : Eqn) (y : ℕ) (k : Kept) → (numberOf e ≡ 18 → LastKept y k) → (numberOf e ≡ 19 → DelayKept y k)
-    → ((numberOf e ≡ 18 → ⊥) → (numberOf e ≡ 19 → ⊥) → k ≡ noKept) → IsKept e y k
-unfolding numberOf
-is-kept input y k l d n = n (λ q. omega arith) (λ q. omega arith)
-is-kept nil y k l d n = n (λ q. omega arith) (λ q. omega arith)
-is-kept unit y k l d n = n (λ q. omega arith) (λ q. omega arith)
-is-kept (one f a) y k l d n = let h = one-high f in n (λ q. omega arith) (λ q. omega arith)
-is-kept (two g a b) y k l d n = let h = two-high g in n (λ q. omega arith) (λ q. omega arith)
+is-kept : (e : Eqn) (y : ℕ) (k : Kept) → (isLast (eqnGroup e) ≡ true → LastKept y k) → (isLast (eqnGroup e) ≡ false → isDelay (eqnGroup e) ≡ true → DelayKept y k)
+    → (isLast (eqnGroup e) ≡ false → isDelay (eqnGroup e) ≡ false → k ≡ noKept) → IsKept e y k
+is-kept input y k l d n = n refl refl
+is-kept nil y k l d n = n refl refl
+is-kept unit y k l d n = n refl refl
+is-kept (one f a) y k l d n = n refl refl
+is-kept (two g a b) y k l d n = n refl refl
 is-kept (last a b) y k l d n = l refl
-is-kept (delay a b) y k l d n = d refl
+is-kept (delay a b) y k l d n = d refl refl
 
 abbrev storedNums : Raw → KeptNums
 storedNums r = record { flag = num flagF r; priorFlag = num priorFlagF r; kept = num keptF r; value = num valueF r; prior = num priorF r }
 
 module _ (r : Raw) (ok : RawOk r) (e : keptOk r ≡ true) where
-  as-last : num opF r ≡ 18 → lastOk r ≡ true
+  as-last : isLast (groupOf (num opF r)) ≡ true → lastOk r ≡ true
   unfolding keptOk
-  as-last h = rw (eq-eqb (num opF r) 18 h) at e
+  as-last l = rw l at e
 
-  as-delay : num opF r ≡ 19 → delayOk r ≡ true
+  as-delay : isLast (groupOf (num opF r)) ≡ false → isDelay (groupOf (num opF r)) ≡ true → delayOk r ≡ true
   unfolding keptOk
-  as-delay h =
-      let k : num opF r ≡ 18 → ⊥ = λ q. absurd (omega arith) in
-      rw (ne-eqb (num opF r) 18 k, eq-eqb (num opF r) 19 h) at e
+  as-delay l d = rw (l, d) at e
 
-  as-none : (num opF r ≡ 18 → ⊥) → (num opF r ≡ 19 → ⊥) → noneOk r ≡ true
+  as-none : isLast (groupOf (num opF r)) ≡ false → isDelay (groupOf (num opF r)) ≡ false → noneOk r ≡ true
   unfolding keptOk
-  as-none h k = rw (ne-eqb (num opF r) 18 h, ne-eqb (num opF r) 19 k) at e
+  as-none l d = rw (l, d) at e
 
-  kept-sound : (q : Eqn) → numberOf q ≡ num opF r → IsKept q (num boundF r) (keptOf r)
-  kept-sound q n =
-      is-kept q (num boundF r) (keptOf r)
-      (λ h. last-kept r ok (as-last (sym n ∙ h)) (sym n ∙ h) .0)
-      (λ h. delay-kept r ok (as-delay (sym n ∙ h)) (sym n ∙ h) .0)
-      (λ h k. none-kept r ok (as-none (λ z. h (n ∙ z)) (λ z. k (n ∙ z))) (λ z. h (n ∙ z)) (λ z. k (n ∙ z)) .0)
+  -- q is the equation whose stored number the record has
+  module _ (q : Eqn) (n : numberOf q ≡ num opF r) where
+    same-group : groupOf (num opF r) ≡ eqnGroup q
+    same-group = sym (ap groupOf n) ∙ group-of q
 
-  kept-nums : 1 ≤ num opF r → num opF r ≤ operatorCount → keptNums (eqnIn r) (keptOf r) ≡ storedNums r
-  kept-nums l h = nums-by-number (num aF r) (num bF r) (toZ w64 (num kF r)) (keptOf r) (num opF r) l h ∙ go (ℕ-discrete (num opF r) 18) (ℕ-discrete (num opF r) 19)
-    where
-      go : Dec (num opF r ≡ 18) → Dec (num opF r ≡ 19) → cond (eqb (num opF r) 18) (lastNums (keptOf r)) (cond (eqb (num opF r) 19) (delayNums (keptOf r)) noNums) ≡ storedNums r
-      go (yes a) b = rw (eq-eqb (num opF r) 18 a) (last-kept r ok (as-last a) a .1)
-      go (no a) (yes b) = rw (ne-eqb (num opF r) 18 a, eq-eqb (num opF r) 19 b) (delay-kept r ok (as-delay b) b .1)
-      go (no a) (no b) = rw (ne-eqb (num opF r) 18 a, ne-eqb (num opF r) 19 b) (none-kept r ok (as-none a b) a b .1)
+    kept-sound : IsKept q (num boundF r) (keptOf r)
+    kept-sound =
+        is-kept q (num boundF r) (keptOf r)
+        (λ l. let l′ = ap isLast same-group ∙ l in last-kept r ok (as-last l′) l′ .0)
+        (λ l d. let l′ = ap isLast same-group ∙ l in let d′ = ap isDelay same-group ∙ d in delay-kept r ok (as-delay l′ d′) l′ d′ .0)
+        (λ l d. let l′ = ap isLast same-group ∙ l in let d′ = ap isDelay same-group ∙ d in none-kept r ok (as-none l′ d′) l′ d′ .0)
+
+    kept-nums : keptNums q (keptOf r) ≡ storedNums r
+    kept-nums = sym (ap (λ (g : Group). numsBy g) same-group) ∙ go (isLast (groupOf (num opF r))) refl (isDelay (groupOf (num opF r))) refl
+      where
+        numsBy : Group → KeptNums
+        numsBy g = cond (isLast g) (lastNums (keptOf r)) (cond (isDelay g) (delayNums (keptOf r)) noNums)
+
+        go : (l : Bool) → isLast (groupOf (num opF r)) ≡ l → (d : Bool) → isDelay (groupOf (num opF r)) ≡ d → numsBy (groupOf (num opF r)) ≡ storedNums r
+        go true l d m = rw l (last-kept r ok (as-last l) l .1)
+        go false l true m = rw (l, m) (delay-kept r ok (as-delay l m) l m .1)
+        go false l false m = rw (l, m) (none-kept r ok (as-none l m) l m .1)
 
 -- ---- the record
 
@@ -119,11 +106,11 @@ module _ (n : ℕ) (p : List ℕ) (len : length p ≡ 256) (b : Bytes p) (f : Ro
       let g = f .plan in
       let k = toZ w64 (num kF r) in
       let o = number-back (num aF r) (num bF r) k op (g .least) (g .most) in
-      let a = first-back (num aF r) (num bF r) k op (g .least) (g .most) ∙ used-is (usesA op) (num aF r) n (g .a-ok) in
-      let s = second-back (num aF r) (num bF r) k op (g .least) (g .most) ∙ used-is (usesB op) (num bF r) n (g .b-ok) in
-      let v = ap (ofZ w64) (value-back (num aF r) (num bF r) k op (g .least) (g .most)) ∙ k-is (usesK op) (num kF r) (word r ok kF (lit≤ tt) (lit< tt)) (g .k-ok) in
-      let out = out-is op (num outF r) (g .out-ok) in
-      let kb = kept-nums r ok (f .kept) (g .least) (g .most) in
+      let a = fields-first n (num opF r) (num aF r) (num bF r) (num kF r) (num outF r) (g .fields) k in
+      let s = fields-second n (num opF r) (num aF r) (num bF r) (num kF r) (num outF r) (g .fields) k in
+      let v = ap (ofZ w64) (value-back (num aF r) (num bF r) k op) ∙ k-is (usesK op) (num kF r) (word r ok kF (lit≤ tt) (lit< tt)) (value-ok n (num opF r) (num aF r) (num bF r) (num kF r) (num outF r) (g .fields)) in
+      let out = out-is (groupOf op) (num outF r) (out-ok n (num opF r) (num aF r) (num bF r) (num kF r) (num outF r) (g .fields)) in
+      let kb = kept-nums r ok (f .kept) (eqnIn r) o in
       let cn = ap length held-is ∙ length-map (take (num countF r) (r .slots)) eventOf ∙ length-take-le (num countF r) (r .slots) (rw (slots-many p) (f .count)) in
       let sl = ap (λ (l : List Rattle.meaning.specs.Events.Event). padTo room noSlot (map slotOf l)) held-is ∙ slots-back p (num countF r) len (f .count) (ok .good) (f .zeros) in
       sym ((λ i. record {
@@ -146,9 +133,9 @@ module _ (n : ℕ) (p : List ℕ) (len : length p ≡ 256) (b : Bytes p) (f : Ro
       let k = toZ w64 (num kF r) in
       let o = number-back (num aF r) (num bF r) k (num opF r) (g .least) (g .most) in
       record {
-        arguments = reads-below n r g;
-        value = subst IsValue (sym (value-back (num aF r) (num bF r) k (num opF r) (g .least) (g .most))) (k-value (usesK (num opF r)) (num kF r) (word r ok kF (lit≤ tt) (lit< tt)));
-        out = λ t. no-input (num opF r) (num outF r) (g .out-ok) (sym (input-number (num aF r) (num bF r) k (num opF r) (g .least) (g .most)) ∙ is-true (isInput (eqnIn r)) t);
+        arguments = fields-reads n (num opF r) (num aF r) (num bF r) (num kF r) (num outF r) (g .fields) k;
+        value = subst IsValue (sym (value-back (num aF r) (num bF r) k (num opF r))) (k-value (usesK (num opF r)) (num kF r) (word r ok kF (lit≤ tt) (lit< tt)));
+        out = λ t. no-input (groupOf (num opF r)) (num outF r) (out-ok n (num opF r) (num aF r) (num bF r) (num kF r) (num outF r) (g .fields)) (sym (input-by-number (num aF r) (num bF r) k (num opF r)) ∙ is-true (isInput (eqnIn r)) t);
         bound = f .bound;
         few = rw held-is (rw (length-map (take (num countF r) (r .slots)) eventOf, length-take-le (num countF r) (r .slots) (rw (slots-many p) (f .count))) (f .count));
         held = rw held-is (stamps-back 0 (num boundF r) (num countF r) (r .slots) (rw (slots-many p) (f .count)) (ok .good) (f .stamps));

@@ -5,14 +5,16 @@ use mathlib.Core.List.{List, [], _∷_, _++_, map, append-assoc}
 use mathlib.Core.Bool.{Bool, true, false, not, cond, _&&_}
 use native.Mathlib.Omega.{arith}
 use native.Mathlib.Nat.{zero-add}
-use lib.Dec.{eqb, leb}
+use lib.Dec.{eqb, leb, ltb}
 use lib.ListN.{length, getD, take, drop, replicate, length-map, length-append, length-drop, length-replicate}
 use lib.Seq.{length-take-le, take-at, drop-at, ext-getD}
-use borrow.Author.Tests.{eqb-true, eqb-false, eq-eqb, ne-eqb, not-true}
+use borrow.Author.Tests.{eqb-false, ne-eqb, ltb-true, lt-ltb, not-true}
 use Rattle.meaning.specs.Cycle.{acyclic}
 use Rattle.machine.specs.State.{Cell, State, cellAt, planOf}
 use Rattle.operators.specs.Operators.{numberOf}
-use Rattle.operators.specs.Limits.{streamLimit}
+use Rattle.operators.specs.Limits.{capacity}
+use Rattle.operators.proofs.Sizes.{capacity-fits, capacity-few}
+use Rattle.operators.proofs.Laws.{number-range}
 use Rattle.le.specs.Bytes.{Bytes, part, allZero, enc}
 use Rattle.le.specs.Layout.{encFields, encRows}
 use Rattle.le.proofs.Laws.{take-bytes, drop-bytes}
@@ -24,10 +26,10 @@ use Rattle.cells.specs.View.{ofCell, rawsOf, bytesOf}
 use Rattle.cells.specs.Back.{toCell, stateOf}
 use Rattle.cells.specs.Sound.{SoundCell, Sound}
 use Rattle.cells.proofs.Widths.{cell-raw, cell-back}
-use Rattle.valid.specs.Valid.{stateLength, rowOk, allRows, streamsIn, count, planIn, valid}
-use Rattle.valid.proofs.Tests.{left, right, in-few}
-use Rattle.valid.proofs.Link.{rows-at}
-use Rattle.state.proofs.Passes.{row-passes, zeros-zero, op-passes}
+use Rattle.valid.specs.Valid.{rowOk, allRows, streamsIn, count, planIn, valid}
+use Rattle.valid.proofs.Tests.{left, right}
+use Rattle.valid.proofs.Link.{rows-at, count-few, count-fits}
+use Rattle.state.proofs.Passes.{row-passes, zeros-zero}
 use Rattle.state.proofs.Tail.{zero-list}
 use Rattle.state.proofs.Back.{row-facts}
 use Rattle.state.proofs.Rows.{row-back, row-sound}
@@ -35,26 +37,26 @@ use Rattle.state.proofs.Rows.{row-back, row-sound}
 -- ---- from bytes to states
 
 pub record ValidFacts (s : List ℕ) : Type 0 where
-  pub size : length s ≡ stateLength
+  pub size : 0 < capacity (length s)
   pub some : 0 < count s
   pub rows : allRows (rowOk (count s)) (count s) s ≡ true
   pub zeros : allZero (drop (count s * 256) s) ≡ true
-  pub acyclic : acyclic streamLimit (planIn (count s) s) ≡ true
+  pub acyclic : acyclic (capacity (length s)) (planIn (count s) s) ≡ true
 
 pub valid-facts : (s : List ℕ) → valid s ≡ true → ValidFacts s
 unfolding valid
 valid-facts s e =
-    let a : Bool = eqb (length s) stateLength in
+    let a : Bool = ltb 0 (capacity (length s)) in
     let b : Bool = not (eqb (count s) 0) in
     let c : Bool = allRows (rowOk (count s)) (count s) s in
     let d : Bool = allZero (drop (count s * 256) s) in
-    let f : Bool = acyclic streamLimit (planIn (count s) s) in
+    let f : Bool = acyclic (capacity (length s)) (planIn (count s) s) in
     let e₁ = right a (b && (c && (d && f))) e in
     let e₂ = right b (c && (d && f)) e₁ in
     let e₃ = right c (d && f) e₂ in
     let z = eqb-false (count s) 0 (not-true (eqb (count s) 0) (left b (c && (d && f)) e₁)) in
     record {
-      size = eqb-true (length s) stateLength (left a (b && (c && (d && f))) e);
+      size = ltb-true 0 (capacity (length s)) (left a (b && (c && (d && f))) e);
       some = positive (count s) z;
       rows = left c (d && f) e₂;
       zeros = left d f e₃;
@@ -83,14 +85,8 @@ module _ (s : List ℕ) (b : Bytes s) (ok : valid s ≡ true) where
   f : ValidFacts s
   f = valid-facts s ok
 
-  few : count s ≤ streamLimit
-  few = in-few streamLimit s
-
-  fits : count s * 256 ≤ length s
-  fits = omega (arith, few, f .size)
-
   row-part : (i : ℕ) → i < count s → length (part s (i * 256) 256) ≡ 256
-  row-part i h = length-take-le 256 (drop (i * 256) s) (rw (length-drop (i * 256) s) (omega (arith, fits)))
+  row-part i h = length-take-le 256 (drop (i * 256) s) (rw (length-drop (i * 256) s) (omega (arith, count-fits s)))
 
   row-bytes : (i : ℕ) → Bytes (part s (i * 256) 256)
   row-bytes i = take-bytes 256 (drop (i * 256) s) (drop-bytes s (i * 256) b)
@@ -108,34 +104,34 @@ module _ (s : List ℕ) (b : Bytes s) (ok : valid s ≡ true) where
       row-at (count s) s i k ∙ row-back (count s) (part s (i * 256) 256) (row-part i k) (row-bytes i) (row-facts (count s) (part s (i * 256) 256) (facts-at i k))
       ∙ ap (λ (r : Raw). ofCell (toCell r)) (sym (row-at (count s) s i k)) ∙ sym (back-at l i h))
 
-  spare-back : decode (count s) s .spare ≡ replicate (stateLength - length (stateOf (count s) s) * 256) 0
+  spare-back : decode (count s) s .spare ≡ replicate (length s - length (stateOf (count s) s) * 256) 0
   unfolding decode
   spare-back =
       zero-list (drop (count s * 256) s) (f .zeros)
-      ∙ ap (λ (j : ℕ). replicate {A = ℕ} j 0) (length-drop (count s * 256) s ∙ ap₂ (λ (x y : ℕ). x - y * 256) (f .size) (sym (state-length (count s) s)))
+      ∙ ap (λ (j : ℕ). replicate {A = ℕ} j 0) (length-drop (count s * 256) s ∙ ap (λ (y : ℕ). length s - y * 256) (sym (state-length (count s) s)))
 
-  pub decoded : decode (count s) s ≡ rawsOf stateLength (stateOf (count s) s)
+  pub decoded : decode (count s) s ≡ rawsOf (length s) (stateOf (count s) s)
   unfolding rawsOf
   decoded = λ i. record { rows = rows-back i; spare = spare-back i }
 
   -- valid bytes are those of the state that they give
-  pub valid-bytes : s ≡ bytesOf stateLength (stateOf (count s) s)
+  pub valid-bytes : s ≡ bytesOf (length s) (stateOf (count s) s)
   unfolding bytesOf
   valid-bytes =
-      sym (encode-decode (count s) s fits b) ∙ ap (encode (count s)) decoded
-      ∙ ap (λ (n : ℕ). encode n (rawsOf stateLength (stateOf (count s) s))) (sym (state-length (count s) s))
+      sym (encode-decode (count s) s (count-fits s) b) ∙ ap (encode (count s)) decoded
+      ∙ ap (λ (n : ℕ). encode n (rawsOf (length s) (stateOf (count s) s))) (sym (state-length (count s) s))
 
   cell-at : (i : ℕ) → i < count s → cellAt (stateOf (count s) s) i ≡ toCell (decRaw (part s (i * 256) 256))
   unfolding stateOf
   cell-at i h = map-at (decode (count s) s .rows) i (rw (rows-many (count s) s) h) ∙ ap toCell (row-at (count s) s i h)
 
   -- and that state is sound
-  pub valid-sound : Sound (stateOf (count s) s)
+  pub valid-sound : Sound (capacity (length s)) (stateOf (count s) s)
   valid-sound =
       let n = state-length (count s) s in
       record {
         some = rw n (f .some);
-        few = rw n few;
+        few = rw n (count-few s);
         each = λ i h.
             let k : i < count s = omega arith in
             rw n (rw (cell-at i k) (row-sound (count s) (part s (i * 256) 256) (row-part i k) (row-bytes i) (row-facts (count s) (part s (i * 256) 256) (facts-at i k))));
@@ -164,9 +160,7 @@ first-byte c z = refl
 
 byte-not-zero : (c : Cell) → numberOf (c .eqn) % 256 ≡ 0 → ⊥
 byte-not-zero c q =
-    let o = op-passes (c .eqn) in
-    let l = borrow.Author.Tests.leb-true 1 (numberOf (c .eqn)) (left (leb 1 (numberOf (c .eqn))) (leb (numberOf (c .eqn)) 19) o) in
-    let h = borrow.Author.Tests.leb-true (numberOf (c .eqn)) 19 (right (leb 1 (numberOf (c .eqn))) (leb (numberOf (c .eqn)) 19) o) in
+    let r = number-range (c .eqn) in
     omega arith
 
 abbrev rowsOf : State → List ℕ
@@ -212,64 +206,65 @@ rows-pass f (c ∷ M) z h =
     ap (allRows f (suc (length M))) (enc-more c M z) ∙ rows-more f (length M) (encRaw (ofCell c) ++ (rowsOf M ++ z))
     ∙ ap₂ (λ (x y : List ℕ). f x && allRows f (length M) y) t d ∙ rw (h .0, rows-pass f M z (h .1))
 
-module _ (M : State) (ok : Sound M) where
+-- a state within the capacity of this many bytes
+module _ (size : ℕ) (M : State) (ok : Sound (capacity size) M) where
   cells : All (SoundCell (length M)) M
   cells = all-cells (SoundCell (length M)) M (ok .each)
 
   small : length M ≤ 256
-  small = let h = ok .few in omega arith
+  small = omega (arith, ok .few, capacity-few size)
 
-  pub raws-ok : RawsOk (length M) (rawsOf stateLength M)
+  pub raws-ok : RawsOk (length M) (rawsOf size M)
   unfolding rawsOf
   raws-ok = record { many = length-map M ofCell; good = all-rows (SoundCell (length M)) RawOk (λ c h. cell-raw (length M) c small h) M cells }
 
-  pub bytes-decoded : decode (length M) (bytesOf stateLength M) ≡ rawsOf stateLength M
+  pub bytes-decoded : decode (length M) (bytesOf size M) ≡ rawsOf size M
   unfolding bytesOf
-  bytes-decoded = decode-encode (length M) (rawsOf stateLength M) raws-ok
+  bytes-decoded = decode-encode (length M) (rawsOf size M) raws-ok
 
   -- the state that a sound state's bytes give
-  pub bytes-state : stateOf (length M) (bytesOf stateLength M) ≡ M
+  pub bytes-state : stateOf (length M) (bytesOf size M) ≡ M
   unfolding stateOf
   bytes-state = ap (λ (r : Raws). map toCell (r .rows)) bytes-decoded ∙ rows
     where
-      rows : map toCell (rawsOf stateLength M .rows) ≡ M
+      rows : map toCell (rawsOf size M .rows) ≡ M
       rows = unfold rawsOf in map-back (length M) M cells
 
   rest : ℕ
-  rest = stateLength - length M * 256
+  rest = size - length M * 256
 
-  bytes-are : bytesOf stateLength M ≡ rowsOf M ++ replicate (stateLength - length M * 256) 0
+  bytes-are : bytesOf size M ≡ rowsOf M ++ replicate (size - length M * 256) 0
   unfolding bytesOf rawsOf encode
   bytes-are = refl
 
   rows-length : length (rowsOf M) ≡ length M * 256
   rows-length = length-rows encRaw noRaw 256 raw-len (length M) (map ofCell M)
 
-  pub bytes-length : length (bytesOf stateLength M) ≡ stateLength
+  pub bytes-length : length (bytesOf size M) ≡ size
   bytes-length =
-      let h = ok .few in
-      ap length bytes-are ∙ length-append (rowsOf M) (replicate (stateLength - length M * 256) 0) ∙ ap₂ _+_ rows-length (length-replicate {A = ℕ} (stateLength - length M * 256) 0) ∙ omega arith
+      let fits : length M * 256 ≤ size = omega (arith, ok .few, capacity-fits size) in
+      ap length bytes-are ∙ length-append (rowsOf M) (replicate (size - length M * 256) 0) ∙ ap₂ _+_ rows-length (length-replicate {A = ℕ} (size - length M * 256) 0) ∙ omega arith
 
-  pub bytes-count : count (bytesOf stateLength M) ≡ length M
+  pub bytes-count : count (bytesOf size M) ≡ length M
   bytes-count =
       let h = ok .few in
-      let e : streamLimit ≡ length M + (streamLimit - length M) = omega arith in
-      ap₂ streamsIn e bytes-are ∙ counted M (streamLimit - length M) (stateLength - length M * 256)
+      let e : capacity size ≡ length M + (capacity size - length M) = omega arith in
+      ap₂ streamsIn (ap capacity bytes-length ∙ e) bytes-are ∙ counted M (capacity size - length M) (size - length M * 256)
 
   -- a sound state's bytes are valid
-  pub bytes-valid : valid (bytesOf stateLength M) ≡ true
+  pub bytes-valid : valid (bytesOf size M) ≡ true
   unfolding valid
   bytes-valid =
-      let s = bytesOf stateLength M in
+      let room : ltb 0 (capacity (length (bytesOf size M))) ≡ true = ap (λ (x : ℕ). ltb 0 (capacity x)) bytes-length ∙ lt-ltb 0 (capacity size) (omega (arith, ok .some, ok .few)) in
       let n : length M ≡ 0 → ⊥ = λ q. let h = ok .some in omega arith in
-      let rows : allRows (rowOk (length M)) (length M) (bytesOf stateLength M) ≡ true =
+      let rows : allRows (rowOk (length M)) (length M) (bytesOf size M) ≡ true =
       ap (allRows (rowOk (length M)) (length M)) bytes-are
-      ∙ rows-pass (rowOk (length M)) M (replicate (stateLength - length M * 256) 0) (all-rows′ M cells) in
-      let zeros : allZero (drop (length M * 256) (bytesOf stateLength M)) ≡ true =
+      ∙ rows-pass (rowOk (length M)) M (replicate (size - length M * 256) 0) (all-rows′ M cells) in
+      let zeros : allZero (drop (length M * 256) (bytesOf size M)) ≡ true =
       ap (λ (l : List ℕ). allZero (drop (length M * 256) l)) bytes-are
-      ∙ ap allZero (drop-at (rowsOf M) (replicate (stateLength - length M * 256) 0) (length M * 256) rows-length) ∙ zeros-zero (stateLength - length M * 256) in
-      let cyc : acyclic streamLimit (planIn (length M) (bytesOf stateLength M)) ≡ true = ap (λ (N : State). acyclic streamLimit (planOf N)) bytes-state ∙ ok .acyclic in
-      rw (eq-eqb (length (bytesOf stateLength M)) stateLength bytes-length, bytes-count, ne-eqb (length M) 0 n, rows, zeros) cyc
+      ∙ ap allZero (drop-at (rowsOf M) (replicate (size - length M * 256) 0) (length M * 256) rows-length) ∙ zeros-zero (size - length M * 256) in
+      let cyc : acyclic (capacity (length (bytesOf size M))) (planIn (length M) (bytesOf size M)) ≡ true = ap₂ (λ (x : ℕ) (N : State). acyclic (capacity x) (planOf N)) bytes-length bytes-state ∙ ok .acyclic in
+      rw (room, bytes-count, ne-eqb (length M) 0 n, rows, zeros) cyc
     where
       all-rows′ : (N : State) → All (SoundCell (length M)) N → All (λ c. rowOk (length M) (encRaw (ofCell c)) ≡ true) N
       all-rows′ [] h = tt

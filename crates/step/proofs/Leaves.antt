@@ -1,8 +1,8 @@
 -- What each leaf makes of a record: the scheme of its stores, and the cases of each definition.
 use Prim.Native.Nat.{ℕ, _+_, _-_, _^_, _<_, _≤_, min}
 use mathlib.Core.Path.{_≡_, refl, sym, ap, ap₂, _∙_}
-use mathlib.Core.List.{List}
-use mathlib.Core.Bool.{Bool, true, false, cond}
+use mathlib.Core.List.{List, map}
+use mathlib.Core.Bool.{Bool, true, false, cond, _||_}
 use native.Mathlib.Omega.{arith}
 use native.Mathlib.Nat.{sub-zero}
 use lib.Dec.{lit<, ltb, eqb}
@@ -10,7 +10,12 @@ use lib.ListN.{length, getD, take-append-drop}
 use lib.Seq.{set-getD}
 use borrow.Author.Tests.{lt-ltb, le-ltb, eq-eqb, ne-eqb}
 use Rattle.le.specs.Bytes.{Bytes}
+use Rattle.meaning.specs.Plan.{Argument}
 use Rattle.machine.specs.State.{room}
+use Rattle.machine.specs.Step.{anyOf}
+use Rattle.operators.specs.Operators.{groupOf, isLast, isDelay, takesFirst, takesSecond, argumentsOf}
+use Rattle.operators.specs.declared.Group.{Group}
+use Rattle.operators.specs.declared.Group.the-variants.{Absent, Input, Plain, One, Two, Last, Delay}
 use Rattle.layout.specs.Record.{Slot, Raw, headWidths, num, withNum, withSlot, dropped, encRaw, decRaw, opF, aF, bF, outF, countF, flagF, priorFlagF, boundF, nextF, keptF, valueF, priorF}
 use Rattle.layout.proofs.Laws.{RawOk, raw-ok, leaf-none, leaf-then, num-ok, num-small}
 use Rattle.layout.proofs.Slots.{slot-ok}
@@ -49,29 +54,27 @@ module _ (t v : ℕ) (r : Raw) where
       rw (e, lt-ltb (num countF r) room k)
 
 module _ (s : ℕ) (r : Raw) where
-  pub reads-low : num opF r < 4 → readsRow s r ≡ false
+  -- argument after argument
+  pub reads-is : readsRow s r ≡ cond (takesFirst (groupOf (num opF r))) (cond (eqb (num aF r) s) true (cond (takesSecond (groupOf (num opF r))) (eqb (num bF r) s) false)) false
   unfolding readsRow
-  reads-low h = simp (lt-ltb _ _ h)
+  reads-is = go (groupOf (num opF r))
+    where
+      first : (x : Bool) → x ≡ cond x true false
+      first true = refl
+      first false = refl
 
-  pub reads-high : 19 < num opF r → readsRow s r ≡ false
-  unfolding readsRow
-  reads-high h =
-      let k : 4 ≤ num opF r = omega arith in
-      simp (le-ltb _ _ k, lt-ltb _ _ h)
+      both : (x y : Bool) → (x || y) ≡ cond x true y
+      both true y = refl
+      both false y = refl
 
-  module _ (lo : 4 ≤ num opF r) (hi : num opF r ≤ 19) where
-    pub reads-a : num aF r ≡ s → readsRow s r ≡ true
-    unfolding readsRow
-    reads-a e = simp (le-ltb _ _ lo, le-ltb _ _ hi, eq-eqb _ _ e)
-
-    module _ (na : num aF r ≡ s → ⊥) where
-      pub reads-one : num opF r < 8 → readsRow s r ≡ false
-      unfolding readsRow
-      reads-one h = simp (le-ltb _ _ lo, le-ltb _ _ hi, ne-eqb _ _ na, lt-ltb _ _ h)
-
-      pub reads-b : 8 ≤ num opF r → readsRow s r ≡ eqb (num bF r) s
-      unfolding readsRow
-      reads-b h = simp (le-ltb _ _ lo, le-ltb _ _ hi, ne-eqb _ _ na, le-ltb _ _ h)
+      go : (g : Group) → anyOf s (map (λ (x : Argument). x .stream) (argumentsOf g (num aF r) (num bF r))) ≡ cond (takesFirst g) (cond (eqb (num aF r) s) true (cond (takesSecond g) (eqb (num bF r) s) false)) false
+      go Absent = refl
+      go Input = refl
+      go Plain = refl
+      go One = first (eqb (num aF r) s)
+      go Two = both (eqb (num aF r) s) (eqb (num bF r) s)
+      go Last = both (eqb (num aF r) s) (eqb (num bF r) s)
+      go Delay = both (eqb (num aF r) s) (eqb (num bF r) s)
 
   pub last-no : (v : ℕ) → (num aF r ≡ s → ⊥) → toldLast s v r ≡ r
   unfolding toldLast
@@ -110,31 +113,21 @@ module _ (s : ℕ) (r : Raw) where
     unfolding toldRow
     told-behind h = simp (le-ltb _ _ h)
 
-    pub told-other : num opF r < 18 → toldRow s t v r ≡ r
+    pub told-last : isLast (groupOf (num opF r)) ≡ true → t < num boundF r → toldRow s t v r ≡ toldLast s v r
     unfolding toldRow
-    told-other h =
-        let k : num opF r ≡ 18 → ⊥ = λ q. absurd (omega arith) in
-        let l : num opF r ≡ 19 → ⊥ = λ q. absurd (omega arith) in
-        rw (ne-eqb _ _ k, ne-eqb _ _ l) (cond-same (ltb t (num boundF r)))
+    told-last l h = rw (lt-ltb _ _ h, l)
+
+    pub told-delay : isLast (groupOf (num opF r)) ≡ false → isDelay (groupOf (num opF r)) ≡ true → t < num boundF r → toldRow s t v r ≡ toldDelay s t v r
+    unfolding toldRow
+    told-delay l d h = rw (lt-ltb _ _ h, l, d)
+
+    pub told-other : isLast (groupOf (num opF r)) ≡ false → isDelay (groupOf (num opF r)) ≡ false → toldRow s t v r ≡ r
+    unfolding toldRow
+    told-other l d = rw (l, d) (cond-same (ltb t (num boundF r)))
       where
         cond-same : (b : Bool) → cond b r r ≡ r
         cond-same true = refl
         cond-same false = refl
-
-    module _ (h : t < num boundF r) where
-      pub told-last : num opF r ≡ 18 → toldRow s t v r ≡ toldLast s v r
-      unfolding toldRow
-      told-last e = rw (lt-ltb _ _ h, eq-eqb _ _ e)
-
-      pub told-delay : num opF r ≡ 19 → toldRow s t v r ≡ toldDelay s t v r
-      unfolding toldRow
-      told-delay e =
-          let k : num opF r ≡ 18 → ⊥ = λ q. absurd (omega arith) in
-          rw (lt-ltb _ _ h, ne-eqb _ _ k, eq-eqb _ _ e)
-
-      pub told-else : (num opF r ≡ 18 → ⊥) → (num opF r ≡ 19 → ⊥) → toldRow s t v r ≡ r
-      unfolding toldRow
-      told-else k l = rw (lt-ltb _ _ h, ne-eqb _ _ k, ne-eqb _ _ l)
 
     pub delay-is : toldDelay s t v r ≡ toldSince s t (toldPrior s t v (toldValue s t v r))
     unfolding toldDelay
@@ -252,8 +245,8 @@ module _ (v : ℕ) (hv : v < 2 ^ 64) where
   told-ok s t ht r ok =
       let a = toldValue s t v r in
       let b = toldPrior s t v a in
-      let d = cond (eqb (num opF r) 19) (toldSince s t b) r in
-      let e = cond (eqb (num opF r) 18) (toldLast s v r) d in
+      let d = cond (isDelay (groupOf (num opF r))) (toldSince s t b) r in
+      let e = cond (isLast (groupOf (num opF r))) (toldLast s v r) d in
       cond-ok (ltb t (num boundF r)) e r
-      (cond-ok (eqb (num opF r) 18) (toldLast s v r) d (last-ok s r ok)
-      (cond-ok (eqb (num opF r) 19) (toldSince s t b) r (since-ok s t ht b (prior-ok s t a (value-ok s t r ok))) ok)) ok
+      (cond-ok (isLast (groupOf (num opF r))) (toldLast s v r) d (last-ok s r ok)
+      (cond-ok (isDelay (groupOf (num opF r))) (toldSince s t b) r (since-ok s t ht b (prior-ok s t a (value-ok s t r ok))) ok)) ok

@@ -1,10 +1,12 @@
 -- The steps of the calls on raw records: total functions of numbers and slots.
 use Prim.Native.Nat.{ℕ, zero, suc, _+_, _-_, min}
-use mathlib.Core.List.{List, [], _∷_}
-use mathlib.Core.Bool.{Bool, true, false, cond}
+use mathlib.Core.List.{List, [], _∷_, map}
+use mathlib.Core.Bool.{Bool, cond}
 use lib.Dec.{ltb, eqb}
 use Rattle.meaning.specs.Events.{horizon}
 use Rattle.machine.specs.State.{room}
+use Rattle.machine.specs.Step.{anyOf}
+use Rattle.operators.specs.Operators.{groupOf, isLast, isDelay, argumentsOf}
 use Rattle.layout.specs.Record.{Slot, Raw, Raws, num, withNum, withSlot, dropped, rowAt, change, changeAll, opF, aF, bF, outF, countF, flagF, priorFlagF, boundF, nextF, keptF, valueF, priorF}
 
 -- the event (t, v) put after the held ones, and the bound past it; a full record stays as it is
@@ -14,13 +16,9 @@ pushed t v r =
     (withNum boundF (t + 1) (withNum countF (num countF r + 1) (withSlot (num countF r) t v r)))
     r
 
--- whether the record's equation reads stream s, by the groups of the stored number
+-- whether the record's equation reads stream s
 unfoldable pub readsRow : ℕ → Raw → Bool
-readsRow s r =
-    cond (ltb (num opF r) 4) false
-    (cond (ltb 19 (num opF r)) false
-    (cond (eqb (num aF r) s) true
-    (cond (ltb (num opF r) 8) false (eqb (num bF r) s))))
+readsRow s r = anyOf s (map (λ x. x .stream) (argumentsOf (groupOf (num opF r)) (num aF r) (num bF r)))
 
 -- ---- a reader ahead of the event (t, v) of stream s takes what it needs of it
 
@@ -51,7 +49,7 @@ unfoldable pub toldRow : ℕ → ℕ → ℕ → Raw → Raw
 unfolding toldLast toldDelay
 toldRow s t v r =
     cond (ltb t (num boundF r))
-    (cond (eqb (num opF r) 18) (toldLast s v r) (cond (eqb (num opF r) 19) (toldDelay s t v r) r))
+    (cond (isLast (groupOf (num opF r))) (toldLast s v r) (cond (isDelay (groupOf (num opF r))) (toldDelay s t v r) r))
     r
 
 -- ---- release

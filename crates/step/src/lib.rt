@@ -7,6 +7,7 @@ ghost use Rattle.layout.specs.Record.{encRaw, decRaw, encode, decode, change, c
 ghost use Rattle.step.specs.Step.{pushed, readsRow, toldLast, toldValue, toldPrior, toldSince, toldDelay, toldRow, leastRow, waitingRow, below, released, releasedRow, offered};
 use limits::Bound;
 use limits::Queue;
+use operators::Group;
 
 // Puts the event (t, v) after the held ones of a record, and its bound past it. A full record stays as it is.
 pub fn push(r: &mut [u8], t: u32, v: u64)
@@ -27,18 +28,15 @@ pub fn reads(r: &[u8], s: u64) -> bool
     requires { ⌜ length (now r) ≡ 256 ⌝ }
     ensures { λ x. ⌜ x ≡ readsRow s (decRaw (now (r .entry))) ⌝ }
 {
-    let op = layout::byte_at(r, 0);
-    if op < 4 {
-        return false;
-    }
-    if 19 < op {
+    let g = operators::group_of(layout::byte_at(r, 0));
+    if !operators::takes_first(g) {
         return false;
     }
     let a = layout::byte_at(r, 1);
     if a == s {
         return true;
     }
-    if op < 8 {
+    if !operators::takes_second(g) {
         return false;
     }
     let b = layout::byte_at(r, 2);
@@ -127,19 +125,18 @@ fn tell(r: &mut [u8], s: u64, t: u32, v: u64)
     ensures { λ _. ⌜ now (r .exit) ≡ encRaw (toldRow s t v (decRaw (now (r .entry)))) ⌝ }
 {
     let op = layout::byte_at(r, 0);
-    if op < 18 {
-        return;
-    }
-    let bound = layout::word_at(r, 1);
-    if bound <= t as u64 {
-        return;
-    }
-    if op == 18 {
-        tell_last(r, s, v);
-        return;
-    }
-    if op == 19 {
-        tell_delay(r, s, t, v);
+    match operators::group_of(op) {
+        Group::Last => {
+            if (t as u64) < layout::word_at(r, 1) {
+                tell_last(r, s, v);
+            }
+        }
+        Group::Delay => {
+            if (t as u64) < layout::word_at(r, 1) {
+                tell_delay(r, s, t, v);
+            }
+        }
+        _ => {}
     }
 }
 

@@ -113,14 +113,15 @@ stream s at = streamAfter s (opLine s at)
 
 -- ## The first two lines: `plan=1`, `streams=N`
 
--- "3 streams 0 or above 32"
-abbrev pub counts : Found → Head
-counts (Number n p) = cond (countFits n) (Head.Streams n p) (Head.Refused 3)
-counts Fault = Head.Refused 2
+-- "3 streams 0 or above 32", 32 being the capacity
+abbrev pub counts : ℕ → Found → Head
+counts cap (Number n p) = cond (countFits cap n) (Head.Streams n p) (Head.Refused 3)
+counts cap Fault = Head.Refused 2
 
-abbrev pub headAfter : List ℕ → Word → Head
-headAfter s (Past p) = counts (field s p streamsKey 3)
-headAfter s Absent = Head.Refused 2
+abbrev pub headAfter : ℕ → List ℕ → Word → Head
+headAfter cap s (Past p) = counts cap (field s p streamsKey 3)
+headAfter cap s Absent = Head.Refused 2
 
-unfoldable pub head : List ℕ → Head
-head s = headAfter s (skip s 0 planLine)
+-- of a text that may announce so many streams
+unfoldable pub head : ℕ → List ℕ → Head
+head cap s = headAfter cap s (skip s 0 planLine)

@@ -158,25 +158,25 @@ pub fn read_stream(text: &[u8], at: usize) -> Lines
 }
 
 // A count of streams, whose line ends before a position.
-fn count(n: u64, at: usize) -> Head
-    ensures { λ r. ⌜ r ≡ counts (Number n at) ⌝ }
+fn count(n: u64, most: usize, at: usize) -> Head
+    ensures { λ r. ⌜ r ≡ counts most (Number n at) ⌝ }
 {
     let streams = n as usize;
-    if !Plan::new(streams).fits() {
+    if !Plan::new(streams).fits(most) {
         return Head::Refused(3);
     }
     Head::Streams(streams, at)
 }
 
-// The first two lines.
-pub fn read_head(text: &[u8]) -> Head
-    ensures { λ r. ⌜ r ≡ head (now (text .entry)) ⌝ }
+// The first two lines, of a text that may announce so many streams.
+pub fn read_head(text: &[u8], most: usize) -> Head
+    ensures { λ r. ⌜ r ≡ head most (now (text .entry)) ⌝ }
 {
     let Word::Past(p) = lines::skip(text, 0, b"plan=1\n") else {
         return Head::Refused(2);
     };
     match lines::field(text, p, b"streams=", 3) {
-        Found::Number(n, q) => count(n, q),
+        Found::Number(n, q) => count(n, most, q),
         Found::Fault => Head::Refused(2),
     }
 }

@@ -5,6 +5,7 @@ ghost use Prim.Native.Nat.{_≤_};
 ghost use lib.ListN.{length};
 use libc::STDIN_FILENO;
 use libc::STDOUT_FILENO;
+use operators::Plan;
 
 // The position of the first byte b from a position on, or the table's length.
 fn find(table: &[u8], b: u8, from: usize) -> usize
@@ -32,7 +33,10 @@ fn one(table: &[u8], from: usize) -> usize
     }
     let start = line + 1;
     let next = find(table, b'#', start);
-    io::print_decimal(STDOUT_FILENO, plan::number(&table[start..next]) as u64);
+    io::print_decimal(
+        STDOUT_FILENO,
+        plan::number(&table[start..next], Plan::STREAMS) as u64,
+    );
     io::write_all(STDOUT_FILENO, b" ");
     io::write_all(STDOUT_FILENO, &table[from..start]);
     next

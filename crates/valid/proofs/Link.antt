@@ -1,33 +1,35 @@
 -- On records that pass, the graph that the code fills is that of the plan, so the code's test is the definition's.
 use Prim.Native.Nat.{ℕ, zero, suc, _+_, _*_, _-_, _<_, _≤_}
-use mathlib.Core.Path.{_≡_, refl, sym, ap, ap₂, _∙_, subst}
+use mathlib.Core.Path.{_≡_, refl, sym, ap, ap₂, _∙_}
 use mathlib.Core.Logic.{⊎-elim}
 use mathlib.Core.List.{List, [], _∷_, map}
-use mathlib.Core.Bool.{Bool, true, false, cond, _&&_}
+use mathlib.Core.Bool.{Bool, true, _&&_}
 use native.Mathlib.Omega.{arith}
 use native.Mathlib.Nat.{eq-or-lt-of-le}
-use lib.Dec.{leb, lit<}
+use lib.Dec.{lit<}
 use lib.ListN.{length, getD, set, take, drop, replicate, length-map, length-replicate, length-set, length-drop}
 use lib.Seq.{sets, drop-drop, getD-drop, getD-take, getD-set-same, getD-set-other, length-take-le}
-use borrow.Author.Tests.{leb-true, ltb-true, eqb-true, le-leb}
 use mir.Syntax.{w64}
 use mir.Val.{toZ}
 use Rattle.le.specs.Bytes.{part}
 use Rattle.le.proofs.Laws.{le-one}
-use Rattle.meaning.specs.Plan.{Eqn, eqnAt, undelayed}
+use Rattle.meaning.specs.Plan.{Eqn, eqnAt, undelayed, argA, argB, AllBelow}
 use Rattle.meaning.specs.Cycle.{acyclic}
 use Rattle.machine.specs.State.{planOf}
-use Rattle.operators.specs.Operators.{operatorCount, isOperator, usesA, usesB, usesK, delaysA, eqnOf, numberOf, firstOf, secondOf}
-use Rattle.operators.specs.Limits.{streamLimit}
-use Rattle.operators.proofs.Laws.{number-back, first-back, second-back, reads-by-number, undelayed-by-number}
-use Rattle.cycle.specs.Graph.{AllBelow, entryOf, cleared}
+use Rattle.operators.specs.Operators.{operatorCount, isOperator, eqnOf, numberOf}
+use Rattle.operators.specs.Rules.{fieldsOk}
+use Rattle.operators.specs.Limits.{mostStreams, capacity}
+use Rattle.operators.proofs.Sizes.{capacity-fits, capacity-few}
+use Rattle.operators.proofs.Laws.{operator-low, operator-high, number-back}
+use Rattle.operators.proofs.Rules.{fields-first, fields-second, fields-undelayed}
+use Rattle.cycle.specs.Graph.{graphLength, entryOf, cleared}
 use Rattle.cycle.proofs.Tied.{argsAt, cleared-acyclic}
-use Rattle.cycle.proofs.Graphs.{entries-tied}
+use Rattle.cycle.proofs.Graphs.{entry-length, entries-tied}
 use Rattle.layout.specs.Record.{Raw, noRaw, num, decRaw, decode, rowAt, opF, aF, bF, kF, outF, countF, boundF}
 use Rattle.layout.proofs.Laws.{row-at, rows-many, byte-get}
 use Rattle.cells.specs.Back.{toCell, stateOf}
-use Rattle.valid.specs.Valid.{argOk, kOk, outOk, planOk, sizesOk, risen, keptOk, rowOk, allRows, planIn, noted, clearIn}
-use Rattle.valid.proofs.Tests.{left, right}
+use Rattle.valid.specs.Valid.{planOk, sizesOk, risen, keptOk, rowOk, allRows, count, planIn, noted, clearIn}
+use Rattle.valid.proofs.Tests.{left, right, in-few}
 use Rattle.valid.proofs.Graph.{noted-length}
 
 -- ---- a record's row passes, and its plan part
@@ -45,44 +47,20 @@ rows-at f (suc m) (suc i) s e h =
 pub record PlanFacts (n : ℕ) (r : Raw) : Type 0 where
   pub least : 1 ≤ num opF r
   pub most : num opF r ≤ operatorCount
-  pub a-ok : argOk (usesA (num opF r)) (num aF r) n ≡ true
-  pub b-ok : argOk (usesB (num opF r)) (num bF r) n ≡ true
-  pub k-ok : kOk (usesK (num opF r)) (num kF r) ≡ true
-  pub out-ok : outOk (num opF r) (num outF r) ≡ true
+  pub fields : fieldsOk n (num opF r) (num aF r) (num bF r) (num kF r) (num outF r) ≡ true
 
 pub plan-facts : (n : ℕ) (r : Raw) → planOk n r ≡ true → PlanFacts n r
 unfolding planOk
 plan-facts n r e =
     let op = num opF r in
-    let a : Bool = argOk (usesA op) (num aF r) n in
-    let b : Bool = argOk (usesB op) (num bF r) n in
-    let k : Bool = kOk (usesK op) (num kF r) in
-    let o : Bool = outOk op (num outF r) in
-    let e₁ = right (isOperator op) (a && (b && (k && o))) e in
-    let e₂ = right a (b && (k && o)) e₁ in
-    let e₃ = right b (k && o) e₂ in
-    let i : isOperator op ≡ true = left (isOperator op) (a && (b && (k && o))) e in
-    record {
-      least = leb-true 1 op (left (leb 1 op) (leb op operatorCount) i);
-      most = leb-true op operatorCount (right (leb 1 op) (leb op operatorCount) i);
-      a-ok = left a (b && (k && o)) e₁;
-      b-ok = left b (k && o) e₂;
-      k-ok = left k o e₃;
-      out-ok = right k o e₃;
-    }
+    let f : Bool = fieldsOk n op (num aF r) (num bF r) (num kF r) (num outF r) in
+    let i : isOperator op ≡ true = left (isOperator op) f e in
+    record { least = operator-low op i; most = operator-high op i; fields = right (isOperator op) f e }
 
 pub row-plan : (n : ℕ) (p : List ℕ) → rowOk n p ≡ true → planOk n (decRaw p) ≡ true
 unfolding rowOk
 row-plan n p e =
     left (planOk n (decRaw p)) (sizesOk (decRaw p) && (risen (num boundF (decRaw p)) 0 (num countF (decRaw p)) (decRaw p .slots) && (keptOk (decRaw p) && Rattle.le.specs.Bytes.allZero (drop (64 + num countF (decRaw p) * 12) p)))) e
-
--- an argument that is not used is 0
-pub used-is : (used : Bool) (a n : ℕ) → argOk used a n ≡ true → cond used a 0 ≡ a
-used-is true a n e = refl
-used-is false a n e = sym (eqb-true a 0 e)
-
-used-below : (used : Bool) (a n : ℕ) → argOk used a n ≡ true → used ≡ true → a < n
-used-below used a n e u = ltb-true a n (rw u at e)
 
 -- ---- the equations
 
@@ -109,16 +87,6 @@ eqn-at n s i h =
 
 -- ---- the three bytes of a record's arguments
 
-three : (op a b : ℕ) → length (entryOf op a b) ≡ 3
-unfolding entryOf
-three op a b = go (leb op 3) (leb op 7) (leb op 17)
-  where
-    go : (x y z : Bool) → length (cond x (2 ∷ 0 ∷ 0 ∷ []) (cond y (0 ∷ a ∷ a ∷ []) (cond z (0 ∷ a ∷ b ∷ []) (0 ∷ b ∷ b ∷ [])))) ≡ 3
-    go true y z = refl
-    go false true z = refl
-    go false false true = refl
-    go false false false = refl
-
 sets-before : (vs l : List ℕ) (k m : ℕ) → m < k → getD (sets l k vs) m 0 ≡ getD l m 0
 sets-before [] l k m h = refl
 sets-before (v ∷ vs) l k m h = sets-before vs (set l k v) (suc k) m (omega arith) ∙ getD-set-other l k m v 0 (λ e. omega arith)
@@ -142,7 +110,7 @@ noted-at zero s g i j l h k = absurd (omega arith)
 noted-at (suc n) s g i j l h k =
     let v = entryIn n s in
     let w = noted n s g in
-    let lv : length v ≡ 3 = three (getD s (n * 256) 0) (getD s (n * 256 + 1) 0) (getD s (n * 256 + 2) 0) in
+    let lv : length v ≡ 3 = entry-length (getD s (n * 256) 0) (getD s (n * 256 + 1) 0) (getD s (n * 256 + 2) 0) in
     let lw : length w ≡ length g = noted-length n s g in
     ⊎-elim
     (λ e. rw (suc-eq e) (sets-within v w (3 * n) j (omega arith) (omega arith)))
@@ -161,43 +129,27 @@ byte-in s i j l h =
 
 -- a record that passes: its three bytes are those of its equation
 entry-is : (n : ℕ) (r : Raw) → PlanFacts n r
-    → entryOf (num opF r) (num aF r) (num bF r) ≡ entryOf (numberOf (eqnIn r)) (firstOf (eqnIn r)) (secondOf (eqnIn r))
+    → entryOf (num opF r) (num aF r) (num bF r) ≡ entryOf (numberOf (eqnIn r)) (argA (eqnIn r)) (argB (eqnIn r))
 entry-is n r f =
-    let op = num opF r in
     let k = toZ w64 (num kF r) in
-    let a = first-back (num aF r) (num bF r) k op (f .least) (f .most) ∙ used-is (usesA op) (num aF r) n (f .a-ok) in
-    let b = second-back (num aF r) (num bF r) k op (f .least) (f .most) ∙ used-is (usesB op) (num bF r) n (f .b-ok) in
-    let o = number-back (num aF r) (num bF r) k op (f .least) (f .most) in
-    sym (ap (λ (x : ℕ). entryOf x (firstOf (eqnIn r)) (secondOf (eqnIn r))) o ∙ ap₂ (entryOf op) a b)
+    let a = fields-first n (num opF r) (num aF r) (num bF r) (num kF r) (num outF r) (f .fields) k in
+    let b = fields-second n (num opF r) (num aF r) (num bF r) (num kF r) (num outF r) (f .fields) k in
+    let o = number-back (num aF r) (num bF r) k (num opF r) (f .least) (f .most) in
+    sym (ap (λ (x : ℕ). entryOf x (argA (eqnIn r)) (argB (eqnIn r))) o ∙ ap₂ (entryOf (num opF r)) a b)
 
 -- and its undelayed arguments name streams
 args-below : (n : ℕ) (r : Raw) → PlanFacts n r → AllBelow n (undelayed (eqnIn r))
-args-below n r f =
-    let op = num opF r in
-    let k = toZ w64 (num kF r) in
-    subst (AllBelow n) (sym (undelayed-by-number (num aF r) (num bF r) k op (f .least) (f .most)
-    ∙ ap (cond (delaysA op) (num bF r ∷ [])) (reads-by-number (num aF r) (num bF r) k op (f .least) (f .most))))
-    (go (leb 18 op) refl (usesB op) refl (usesA op) refl)
-  where
-    op : ℕ
-    op = num opF r
+args-below n r f = fields-undelayed n (num opF r) (num aF r) (num bF r) (num kF r) (num outF r) (f .fields) (toZ w64 (num kF r))
 
-    go : (d : Bool) → leb 18 op ≡ d → (u : Bool) → usesB op ≡ u → (v : Bool) → usesA op ≡ v
-        → AllBelow n (cond d (num bF r ∷ []) (cond u (num aF r ∷ num bF r ∷ []) (cond v (num aF r ∷ []) [])))
-    go true e u eu v ev = (used-below (usesB op) (num bF r) n (f .b-ok) (le-leb 8 op (omega (arith, leb-true 18 op e))), tt)
-    go false e true eu v ev = (used-below (usesA op) (num aF r) n (f .a-ok) (le-leb 4 op (omega (arith, leb-true 8 op eu))), (used-below (usesB op) (num bF r) n (f .b-ok) eu, tt))
-    go false e false eu true ev = (used-below (usesA op) (num aF r) n (f .a-ok) ev, tt)
-    go false e false eu false ev = tt
-
-pub clear-is : (s : List ℕ) (n : ℕ) → n ≤ streamLimit → allRows (rowOk n) n s ≡ true → n * 256 ≤ length s → clearIn n s ≡ acyclic streamLimit (planIn n s)
+clear-is : (cap : ℕ) (s : List ℕ) (n : ℕ) → n ≤ mostStreams → allRows (rowOk n) n s ≡ true → n * 256 ≤ length s → clearIn cap n s ≡ acyclic cap (planIn n s)
 unfolding clearIn
-clear-is s n h ok l =
-    let g = noted n s (replicate 96 0) in
+clear-is cap s n h ok l =
+    let g = noted n s (replicate graphLength 0) in
     let plan = planIn n s in
     let pl = plan-length n s in
-    let gl : length g ≡ 96 = noted-length n s (replicate 96 0) in
-    ap (λ (m : ℕ). cleared streamLimit m g .isClear) (sym pl)
-    ∙ cleared-acyclic plan (omega arith) (λ i k. below i (omega arith)) streamLimit g
+    let gl : length g ≡ graphLength = noted-length n s (replicate graphLength 0) in
+    ap (λ (m : ℕ). cleared cap m g .isClear) (sym pl)
+    ∙ cleared-acyclic plan (λ i k. below i (omega arith)) cap g
     (entries-tied plan g (omega arith) (λ i j k m. byte i j (omega arith) m))
   where
     facts : (i : ℕ) → i < n → PlanFacts n (decRaw (part s (i * 256) 256))
@@ -207,14 +159,25 @@ clear-is s n h ok l =
     below i k = rw (plan-length n s) (rw (eqn-at n s i k) (args-below n (decRaw (part s (i * 256) 256)) (facts i k)))
 
     byte : (i j : ℕ) → i < n → j < 3
-        → getD (noted n s (replicate 96 0)) (3 * i + j) 0 ≡ getD (entryOf (numberOf (eqnAt (planIn n s) i)) (firstOf (eqnAt (planIn n s) i)) (secondOf (eqnAt (planIn n s) i))) j 0
+        → getD (noted n s (replicate graphLength 0)) (3 * i + j) 0 ≡ getD (entryOf (numberOf (eqnAt (planIn n s) i)) (argA (eqnAt (planIn n s) i)) (argB (eqnAt (planIn n s) i))) j 0
     byte i j k m =
         let r = decRaw (part s (i * 256) 256) in
         let z : i * 256 + 0 ≡ i * 256 = omega arith in
         let b₀ = byte-in s i 0 (omega arith) (lit< tt) ∙ ap (λ (x : ℕ). getD s x 0) z in
         let b₁ = byte-in s i 1 (omega arith) (lit< tt) in
         let b₂ = byte-in s i 2 (omega arith) (lit< tt) in
-        noted-at n s (replicate 96 0) i j (omega (arith, length-replicate {A = ℕ} 96 0)) k m
+        noted-at n s (replicate graphLength 0) i j (omega (arith, length-replicate {A = ℕ} graphLength 0)) k m
         ∙ ap (λ (e : List ℕ). getD e j 0)
         (sym (ap (λ (x : ℕ). entryOf x (num aF r) (num bF r)) b₀ ∙ ap₂ (entryOf (getD s (i * 256) 0)) b₁ b₂) ∙ entry-is n r (facts i k)
-        ∙ ap (λ (q : Eqn). entryOf (numberOf q) (firstOf q) (secondOf q)) (sym (eqn-at n s i k)))
+        ∙ ap (λ (q : Eqn). entryOf (numberOf q) (argA q) (argB q)) (sym (eqn-at n s i k)))
+
+-- ---- the streams of a buffer: no more than it has room for, and each within it
+
+pub count-few : (s : List ℕ) → count s ≤ capacity (length s)
+count-few s = in-few (capacity (length s)) s
+
+pub count-fits : (s : List ℕ) → count s * 256 ≤ length s
+count-fits s = omega (arith, count-few s, capacity-fits (length s))
+
+pub clear-count : (s : List ℕ) → allRows (rowOk (count s)) (count s) s ≡ true → clearIn (capacity (length s)) (count s) s ≡ acyclic (capacity (length s)) (planIn (count s) s)
+clear-count s ok = clear-is (capacity (length s)) s (count s) (omega (arith, count-few s, capacity-few (length s))) ok (count-fits s)

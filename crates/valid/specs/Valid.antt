@@ -1,45 +1,26 @@
 -- What number 15 tests, reason by reason.
 use Prim.Native.Nat.{ℕ, zero, suc, _+_, _*_}
-use mathlib.Core.List.{List, [], _∷_, map}
-use mathlib.Core.Bool.{Bool, true, false, cond, _&&_, _||_, not}
+use mathlib.Core.List.{List, [], _∷_}
+use mathlib.Core.Bool.{Bool, true, cond, _&&_, not}
 use lib.ListN.{length, getD, take, drop, replicate}
 use lib.Seq.{sets}
-use Rattle.cycle.specs.Graph.{entryOf, cleared}
+use Rattle.cycle.specs.Graph.{graphLength, entryOf, cleared}
 use lib.Dec.{ltb, eqb, leb}
 use Rattle.le.specs.Bytes.{allZero}
 use Rattle.meaning.specs.Plan.{Plan}
 use Rattle.meaning.specs.Events.{horizon}
 use Rattle.meaning.specs.Cycle.{acyclic}
 use Rattle.machine.specs.State.{room, planOf}
-use Rattle.operators.specs.Operators.{isOperator, usesA, usesB, usesK}
-use Rattle.operators.specs.Limits.{streamLimit}
+use Rattle.operators.specs.Operators.{groupOf, isLast, isDelay, isOperator}
+use Rattle.operators.specs.Rules.{fieldsOk}
+use Rattle.operators.specs.Limits.{capacity}
 use Rattle.layout.specs.Record.{Slot, Raw, num, decRaw, opF, aF, bF, outF, countF, flagF, priorFlagF, smallF, kF, boundF, nextF, keptF, valueF, priorF, lastF}
 use Rattle.cells.specs.Back.{stateOf}
 
--- "The state is a lent buffer of 12,288 bytes": a record of 256 bytes for each stream, and 4,096 bytes behind them
-abbrev pub stateLength : ℕ
-stateLength = 12288
-
 -- ---- "contents whose plan no text taken by load gives"
 
--- an argument that is used names a stream; one that is not is 0
-abbrev pub argOk : Bool → ℕ → ℕ → Bool
-argOk used a n = cond used (ltb a n) (eqb a 0)
-
-abbrev pub kOk : Bool → ℕ → Bool
-kOk used k = used || eqb k 0
-
--- no input is an output
-abbrev pub outOk : ℕ → ℕ → Bool
-outOk op out = cond (eqb op 1) (eqb out 0) (ltb out 2)
-
 unfoldable pub planOk : ℕ → Raw → Bool
-planOk n r =
-    isOperator (num opF r)
-    && (argOk (usesA (num opF r)) (num aF r) n
-    && (argOk (usesB (num opF r)) (num bF r) n
-    && (kOk (usesK (num opF r)) (num kF r)
-    && outOk (num opF r) (num outF r))))
+planOk n r = isOperator (num opF r) && fieldsOk n (num opF r) (num aF r) (num bF r) (num kF r) (num outF r)
 
 -- ---- "a bound above the horizon, more than 16 events held"; the mark of collection is an output's and not above its bound
 
@@ -89,7 +70,7 @@ delayOk r =
 
 unfoldable pub keptOk : Raw → Bool
 unfolding lastOk delayOk noneOk
-keptOk r = cond (eqb (num opF r) 18) (lastOk r) (cond (eqb (num opF r) 19) (delayOk r) (noneOk r))
+keptOk r = cond (isLast (groupOf (num opF r))) (lastOk r) (cond (isDelay (groupOf (num opF r))) (delayOk r) (noneOk r))
 
 -- ---- one record, of its 256 bytes; "an unused byte not 0": after the held events every byte is 0
 unfoldable pub rowOk : ℕ → List ℕ → Bool
@@ -112,22 +93,22 @@ streamsIn zero s = 0
 streamsIn (suc m) s = cond (eqb (getD s 0 0) 0) 0 (suc (streamsIn m (drop 256 s)))
 
 abbrev pub count : List ℕ → ℕ
-count s = streamsIn streamLimit s
+count s = streamsIn (capacity (length s)) s
 
 -- the plan that the first n records give
 abbrev pub planIn : ℕ → List ℕ → Plan
 planIn n s = planOf (stateOf n s)
 
--- A state: the right length, at least one stream, each record passes, every byte behind them is 0, and no cycle without a
+-- A state: a length that states have, at least one stream, each record passes, every byte behind them is 0, and no cycle without a
 -- delayed argument.
 unfoldable pub valid : List ℕ → Bool
 unfolding rowOk allRows streamsIn
 valid s =
-    eqb (length s) stateLength
+    ltb 0 (capacity (length s))
     && (not (eqb (count s) 0)
     && (allRows (rowOk (count s)) (count s) s
     && (allZero (drop (count s * 256) s)
-    && acyclic streamLimit (planIn (count s) s))))
+    && acyclic (capacity (length s)) (planIn (count s) s))))
 
 -- ---- the cycle test's graph, as the code fills it
 
@@ -136,6 +117,6 @@ unfoldable pub noted : ℕ → List ℕ → List ℕ → List ℕ
 noted zero s g = g
 noted (suc n) s g = sets (noted n s g) (3 * n) (entryOf (getD s (n * 256) 0) (getD s (n * 256 + 1) 0) (getD s (n * 256 + 2) 0))
 
-unfoldable pub clearIn : ℕ → List ℕ → Bool
+unfoldable pub clearIn : ℕ → ℕ → List ℕ → Bool
 unfolding noted
-clearIn n s = cleared streamLimit n (noted n s (replicate 96 0)) .isClear
+clearIn cap n s = cleared cap n (noted n s (replicate graphLength 0)) .isClear

@@ -2,72 +2,29 @@
 ghost use mathlib.Core.Path.{_≡_};
 ghost use mathlib.Core.Bool.{cond};
 ghost use Prim.Native.Nat.{_+_, _*_, _≤_, _<_};
-ghost use lib.ListN.{length, drop};
-ghost use Rattle.operators.specs.Operators as operators;
-ghost use Rattle.operators.specs.Operators.{isOperator};
-ghost use Rattle.layout.specs.Record.{decRaw, num};
-ghost use Rattle.valid.specs.Valid.{argOk, kOk, outOk, planOk, nextOk, sizesOk, risen, flagOk, noneIf, noneOk, lastOk, delayOk, keptOk, rowOk, allRows, count, noted, clearIn, valid};
+ghost use lib.ListN.{length};
+ghost use Rattle.operators.specs.Limits.{mostStreams, capacity};
+ghost use Rattle.layout.specs.Record.{decRaw};
+ghost use Rattle.valid.specs.Valid.{planOk, nextOk, sizesOk, risen, flagOk, noneIf, noneOk, lastOk, delayOk, keptOk, rowOk, allRows, streamsIn, count, noted, clearIn, valid};
+use cycle::GRAPH;
 use limits::Bound;
 use limits::Queue;
+use operators::Group;
 use operators::Plan;
-
-fn is_operator(op: u64) -> bool
-    ensures { λ x. ⌜ x ≡ isOperator op ⌝ }
-{
-    if op < 1 {
-        return false;
-    }
-    op <= 19
-}
-
-fn arg_ok(used: bool, a: u64, n: u64) -> bool
-    ensures { λ x. ⌜ x ≡ argOk used a n ⌝ }
-{
-    if used {
-        return a < n;
-    }
-    a == 0
-}
-
-fn k_ok(op: u64, k: u64) -> bool
-    ensures { λ x. ⌜ x ≡ kOk (operators.usesK op) k ⌝ }
-{
-    if op < 5 {
-        return k == 0;
-    }
-    if 6 < op {
-        return k == 0;
-    }
-    true
-}
-
-fn out_ok(op: u64, out: u64) -> bool
-    ensures { λ x. ⌜ x ≡ outOk op out ⌝ }
-{
-    if op == 1 {
-        return out == 0;
-    }
-    out < 2
-}
 
 fn plan_ok(r: &[u8], n: u64) -> bool
     requires { ⌜ length (now r) ≡ 256 ⌝ }
     ensures { λ x. ⌜ x ≡ planOk n (decRaw (now (r .entry))) ⌝ }
 {
     let op = layout::byte_at(r, 0);
-    if !is_operator(op) {
+    if !operators::is_present(operators::group_of(op)) {
         return false;
     }
-    if !arg_ok(4 <= op, layout::byte_at(r, 1), n) {
-        return false;
-    }
-    if !arg_ok(8 <= op, layout::byte_at(r, 2), n) {
-        return false;
-    }
-    if !k_ok(op, layout::word_at(r, 0)) {
-        return false;
-    }
-    out_ok(op, layout::byte_at(r, 3))
+    let a = layout::byte_at(r, 1);
+    let b = layout::byte_at(r, 2);
+    let k = layout::word_at(r, 0);
+    let out = layout::byte_at(r, 3);
+    operators::fields_ok(n, op, a, b, k, out)
 }
 
 fn next_ok(out: u64, next: u64, bound: u64) -> bool
@@ -210,9 +167,9 @@ fn kept_ok(r: &[u8]) -> bool
     ensures { λ x. ⌜ x ≡ keptOk (decRaw (now (r .entry))) ⌝ }
 {
     let op = layout::byte_at(r, 0);
-    match op {
-        18 => last_ok(r),
-        19 => delay_ok(r),
+    match operators::group_of(op) {
+        Group::Last => last_ok(r),
+        Group::Delay => delay_ok(r),
         _ => none_ok(r),
     }
 }
@@ -254,24 +211,24 @@ fn rows_ok(state: &[u8], n: usize) -> bool
     true
 }
 
-// How many records have an operator, from the first on.
-fn streams_in(state: &[u8]) -> usize
-    requires { ⌜ length (now state) ≡ 12288 ⌝ }
-    ensures { λ x. ⌜ (x ≡ count (now (state .entry))) × (x ≤ 32) ⌝ }
+// How many records have an operator, from the first on, of so many at most.
+fn streams_in(state: &[u8], most: usize) -> usize
+    requires { ⌜ most * 256 ≤ length (now state) ⌝ }
+    ensures { λ x. ⌜ (x ≡ streamsIn most (now (state .entry))) × (x ≤ most) ⌝ }
 {
     let mut i = 0;
-    while i < Plan::STREAMS {
+    while i < most {
         if state[i * 256] == 0 {
             return i;
         }
         i += 1;
     }
-    Plan::STREAMS
+    most
 }
 
 // The undelayed arguments of the first n records, three bytes for each.
-fn fill_graph(state: &[u8], n: usize, graph: &mut [u8; 96])
-    requires { ⌜ (n * 256 ≤ length (now state)) × (n ≤ 32) ⌝ }
+fn fill_graph(state: &[u8], n: usize, graph: &mut [u8])
+    requires { ⌜ (n * 256 ≤ length (now state)) × (3 * n ≤ length (now graph)) ⌝ }
     ensures { λ _. ⌜ now (graph .exit) ≡ noted n (now (state .entry)) (now (graph .entry)) ⌝ }
 {
     let mut i = 0;
@@ -282,24 +239,25 @@ fn fill_graph(state: &[u8], n: usize, graph: &mut [u8; 96])
     }
 }
 
-// Whether the arguments of the first n records make no cycle without a delayed one.
-fn clear(state: &[u8], n: usize) -> bool
-    requires { ⌜ (n * 256 ≤ length (now state)) × (n ≤ 32) ⌝ }
-    ensures { λ r. ⌜ r ≡ clearIn n (now (state .entry)) ⌝ }
+// Whether the arguments of the first n records, of so many at most, make no cycle without a delayed one.
+fn clear(state: &[u8], n: usize, most: usize) -> bool
+    requires { ⌜ (n * 256 ≤ length (now state)) × (n ≤ most) × (most ≤ mostStreams) ⌝ }
+    ensures { λ r. ⌜ r ≡ clearIn most n (now (state .entry)) ⌝ }
 {
-    let mut graph = [0u8; 96];
+    let mut graph = [0u8; GRAPH];
     fill_graph(state, n, &mut graph);
-    cycle::clear(&mut graph, n as u8, Plan::STREAMS as u8)
+    cycle::clear(&mut graph, n as u8, most as u8)
 }
 
 // How many streams a state has; 0 if the bytes are none.
 pub fn streams(state: &[u8]) -> usize
-    ensures { λ n. ⌜ (n ≡ cond (valid (now (state .entry))) (count (now (state .entry))) 0) × (n ≤ 32) ⌝ }
+    ensures { λ n. ⌜ (n ≡ cond (valid (now (state .entry))) (count (now (state .entry))) 0) × (n ≤ capacity (length (now (state .entry)))) ⌝ }
 {
-    if state.len() != 12288 {
+    let most = Plan::capacity(state.len());
+    if most == 0 {
         return 0;
     }
-    let n = streams_in(state);
+    let n = streams_in(state, most);
     if n == 0 {
         return 0;
     }
@@ -309,7 +267,7 @@ pub fn streams(state: &[u8]) -> usize
     if !le::zeros(state, n * 256) {
         return 0;
     }
-    if !clear(state, n) {
+    if !clear(state, n, most) {
         return 0;
     }
     n

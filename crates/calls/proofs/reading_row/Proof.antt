@@ -1,56 +1,56 @@
+-- `calls::reading_row` meets its contract.
 use Prim.Native.Nat.{_-_}
-use mathlib.Core.Path.{sym, _∙_}
-use borrow.Author.Tests.{lt-ltb, le-ltb, eq-eqb, ne-eqb, le-leb, lt-leb}
+use mathlib.Core.Path.{_≡_, sym, ap, _∙_}
+use mathlib.Core.Bool.{true, false}
+use borrow.Author.Tests.{lt-ltb, le-ltb, le-leb, lt-leb, not-true, not-false}
 use denote.Ref.{now}
 use Rattle.machine.specs.State.{room}
 use Rattle.layout.specs.Record.{decRaw, num, opF, countF, boundF}
+use Rattle.operators.specs.Operators.{groupOf, isIn}
 use Rattle.calls.specs.Numbers.{readingRow}
 use borrow.Author.Needs.{needs}
 use native.Mathlib.Omega.{arith}
 use Rattle.calls.proofs.reading_row.Statement.{statement}
 use Rattle.calls.proofs.reading_row.Tie as tie
-use Rattle.calls.proofs.reading_row.Reads as reads
-use Rattle.calls.proofs.reading_row.Lts as lts
-use Rattle.layout.proofs.byte_at.Reads as byte-at-reads
-use Rattle.layout.proofs.word_at.Reads as word-at-reads
 
--- src/lib.rt:15:9
 byte-at-requires : tie.Need-byte-at-requires
 byte-at-requires c κs = search needs
 
--- src/lib.rt:17:9
+group-of-requires : tie.Need-group-of-requires
+group-of-requires c κs = search needs
+
+is-in-requires : tie.Need-is-in-requires
+is-in-requires c κs = search needs
+
 returns : tie.Need-returns
 unfolding readingRow
-returns c = let a = c .before .before .before .args in let p = now (a .r) in let r = decRaw p in sym (rw (ne-eqb (num opF r) 1 (λ e. c .if1 .taken (c .before .byte-at .ensures .0 ∙ e))))
+returns c = let a = c .before .before .before .before .before .args in let r = decRaw (now (a .r)) in let i : isIn (groupOf (num opF r)) ≡ false = sym (c .before .is-in .ensures ∙ ap isIn (c .before .before .group-of .ensures ∙ ap groupOf (c .before .before .before .byte-at .ensures .0))) ∙ not-true (c .before .is-in .result) (c .if1 .taken) in sym (rw i)
 
--- src/lib.rt:19:9
 word-at-requires : tie.Need-word-at-requires
 word-at-requires c κs = search needs
 
--- src/lib.rt:21:9
 returns-2 : tie.Need-returns-2
 unfolding readingRow
-returns-2 c = let a = c .before .before .before .before .before .args in let p = now (a .r) in let r = decRaw p in sym (rw (eq-eqb (num opF r) 1 (omega arith), lt-ltb (a .t) (num boundF r) (omega arith)))
+returns-2 c = let a = c .before .before .before .before .before .before .before .args in let r = decRaw (now (a .r)) in let i : isIn (groupOf (num opF r)) ≡ true = sym (c .before .before .before .is-in .ensures ∙ ap isIn (c .before .before .before .before .group-of .ensures ∙ ap groupOf (c .before .before .before .before .before .byte-at .ensures .0))) ∙ not-false (c .before .before .before .is-in .result) (c .before .before .if1 .left) in sym (rw (i, lt-ltb (a .t) (num boundF r) (omega arith)))
 
--- src/lib.rt:23:9
 byte-at-requires-2 : tie.Need-byte-at-requires-2
 byte-at-requires-2 c κs = search needs
 
--- src/lib.rt:25:9
 returns-3 : tie.Need-returns-3
 unfolding readingRow
-returns-3 c = let a = c .before .before .before .before .before .before .before .args in let p = now (a .r) in let r = decRaw p in sym (rw (eq-eqb (num opF r) 1 (omega arith), le-ltb (a .t) (num boundF r) (omega arith), le-leb room (num countF r) (omega arith)))
+returns-3 c = let a = c .before .before .before .before .before .before .before .before .before .args in let r = decRaw (now (a .r)) in let i : isIn (groupOf (num opF r)) ≡ true = sym (c .before .before .before .before .before .is-in .ensures ∙ ap isIn (c .before .before .before .before .before .before .group-of .ensures ∙ ap groupOf (c .before .before .before .before .before .before .before .byte-at .ensures .0))) ∙ not-false (c .before .before .before .before .before .is-in .result) (c .before .before .before .before .if1 .left) in sym (rw (i, le-ltb (a .t) (num boundF r) (omega arith), le-leb room (num countF r) (omega arith)))
 
--- src/lib.rt:11:1
 returns-4 : tie.Need-returns-4
 unfolding readingRow
-returns-4 c = let a = c .before .before .before .before .before .before .before .args in let p = now (a .r) in let r = decRaw p in sym (rw (eq-eqb (num opF r) 1 (omega arith), le-ltb (a .t) (num boundF r) (omega arith), lt-leb room (num countF r) (omega arith)))
+returns-4 c = let a = c .before .before .before .before .before .before .before .before .before .args in let r = decRaw (now (a .r)) in let i : isIn (groupOf (num opF r)) ≡ true = sym (c .before .before .before .before .before .is-in .ensures ∙ ap isIn (c .before .before .before .before .before .before .group-of .ensures ∙ ap groupOf (c .before .before .before .before .before .before .before .byte-at .ensures .0))) ∙ not-false (c .before .before .before .before .before .is-in .result) (c .before .before .before .before .if1 .left) in sym (rw (i, le-ltb (a .t) (num boundF r) (omega arith), lt-leb room (num countF r) (omega arith)))
 
 pub reading-row-spec : {M : Type 1} → statement M
 reading-row-spec =
     tie.close
     (tie.spec
     byte-at-requires
+    group-of-requires
+    is-in-requires
     returns
     word-at-requires
     returns-2

@@ -9,53 +9,37 @@ use borrow.Author.Needs.{needs}
 use native.Mathlib.Omega.{arith}
 use Rattle.engine.proofs.tessla_move.Statement.{statement}
 use Rattle.engine.proofs.tessla_move.Tie as tie
-use Rattle.engine.proofs.tessla_move.Reads as reads
-use Rattle.engine.proofs.tessla_move.Lts as lts
-use Rattle.moves.proofs.move_one.Reads as move-one-reads
-use Rattle.running.proofs.is_equation.Reads as is-equation-reads
-use Rattle.valid.proofs.streams.Reads as streams-reads
 
--- src/lib.rt:80:9
 streams-requires : tie.Need-streams-requires
 streams-requires c κs = search needs
 
--- src/lib.rt:82:9
 same-length : tie.Need-same-length
 same-length c = search needs
 
--- src/lib.rt:82:9
 returns : tie.Need-returns
 returns c = let a = c .before .before .before .before .args in let s = now (a .state) in let n = c .before .streams .result in let e = c .before .streams .ensures .0 in let p = Replies.reply-15 s n e (moving (a .stream)) (c .if1 .taken) in (ap (λ (y : Reply). y .number) p, ap (λ (y : Reply). y .buffer) p)
 
--- src/lib.rt:84:9
 is-equation-requires : tie.Need-is-equation-requires
-is-equation-requires c κs = let a = c .before .before .before .before .before .args in let s = now (a .state) in let n = c .before .before .streams .result in let e = c .before .before .streams .ensures .0 in Replies.room-for s (λ j. omega (arith, c .before .before .before .before .slice-known .given j)) n e (c .before .if1 .left) (omega arith)
+is-equation-requires c κs = let a = c .before .before .before .before .before .args in let s = now (a .state) in let n = c .before .before .streams .result in let e = c .before .before .streams .ensures .0 in Replies.room-for s (λ j. omega (arith, c .before .before .before .before .slice-known .given j)) n e (c .before .if1 .left)
 
--- src/lib.rt:85:9
 same-length-2 : tie.Need-same-length-2
 same-length-2 c = search needs
 
--- src/lib.rt:85:9
 returns-2 : tie.Need-returns-2
 returns-2 c = let a = c .before .before .before .before .before .before .before .args in let s = now (a .state) in let n = c .before .before .before .before .streams .result in let e = c .before .before .before .before .streams .ensures .0 in let p = MoveReplies.move-11 s (λ j. omega (arith, c .before .before .before .before .before .before .slice-known .given j)) n e (c .before .before .before .if1 .left) (a .stream) (c .before .is-equation .result) (c .before .is-equation .ensures) (not-true (c .before .is-equation .result) (c .if2 .taken)) in (ap (λ (y : Reply). y .number) p, ap (λ (y : Reply). y .buffer) p)
 
--- src/lib.rt:87:9
 move-one-requires : tie.Need-move-one-requires
-move-one-requires c κs = let a = c .before .before .before .before .before .before .before .before .args in let s = now (a .state) in let n = c .before .before .before .before .before .streams .result in let e = c .before .before .before .before .before .streams .ensures .0 in (Replies.room-for s (λ j. omega (arith, c .before .before .before .before .before .before .before .slice-known .given j)) n e (c .before .before .before .before .if1 .left) (omega arith), MoveReplies.move-there s (λ j. omega (arith, c .before .before .before .before .before .before .before .slice-known .given j)) n e (c .before .before .before .before .if1 .left) (a .stream) (c .before .before .is-equation .result) (c .before .before .is-equation .ensures) (not-false (c .before .before .is-equation .result) (c .before .if2 .left)))
+move-one-requires c κs = let a = c .before .before .before .before .before .before .before .before .args in let s = now (a .state) in let n = c .before .before .before .before .before .streams .result in let e = c .before .before .before .before .before .streams .ensures .0 in (Replies.room-for s (λ j. omega (arith, c .before .before .before .before .before .before .before .slice-known .given j)) n e (c .before .before .before .before .if1 .left), MoveReplies.move-there s (λ j. omega (arith, c .before .before .before .before .before .before .before .slice-known .given j)) n e (c .before .before .before .before .if1 .left) (a .stream) (c .before .before .is-equation .result) (c .before .before .is-equation .ensures) (not-false (c .before .before .is-equation .result) (c .before .if2 .left)))
 
--- src/lib.rt:88:9
 same-length-3 : tie.Need-same-length-3
 same-length-3 c = search needs
 
--- src/lib.rt:88:9
 returns-3 : tie.Need-returns-3
 returns-3 c = let a = c .before .before .before .before .before .before .before .before .before .before .before .before .args in let s = now (a .state) in let n = c .before .before .before .before .before .before .before .before .before .streams .result in let e = c .before .before .before .before .before .before .before .before .before .streams .ensures .0 in let p = MoveReplies.move-12 s (λ j. omega (arith, c .before .before .before .before .before .before .before .before .before .before .before .slice-known .given j)) n e (c .before .before .before .before .before .before .before .before .if1 .left) (a .stream) (c .before .before .before .before .before .before .is-equation .result) (c .before .before .before .before .before .before .is-equation .ensures) (not-false (c .before .before .before .before .before .before .is-equation .result) (c .before .before .before .before .before .if2 .left)) (c .before .before .before .move-one .result) (c .before .before .before .move-one .last .0) (c .before .before .before .move-one .ensures .0) (c .before .before .before .move-one .ensures .1) (not-true (c .before .before .before .move-one .result) (c .if3 .taken)) in (ap (λ (y : Reply). y .number) p, ap (λ (y : Reply). y .buffer) p)
 
--- src/lib.rt:75:1
 same-length-4 : tie.Need-same-length-4
 same-length-4 c = search needs
 
--- src/lib.rt:75:1
 returns-4 : tie.Need-returns-4
 returns-4 c = let a = c .before .before .before .before .before .before .before .before .before .before .before .before .args in let s = now (a .state) in let n = c .before .before .before .before .before .before .before .before .before .streams .result in let e = c .before .before .before .before .before .before .before .before .before .streams .ensures .0 in let p = MoveReplies.move-done s (λ j. omega (arith, c .before .before .before .before .before .before .before .before .before .before .before .slice-known .given j)) n e (c .before .before .before .before .before .before .before .before .if1 .left) (a .stream) (c .before .before .before .before .before .before .is-equation .result) (c .before .before .before .before .before .before .is-equation .ensures) (not-false (c .before .before .before .before .before .before .is-equation .result) (c .before .before .before .before .before .if2 .left)) (c .before .before .before .move-one .result) (c .before .before .before .move-one .last .0) (c .before .before .before .move-one .ensures .0) (c .before .before .before .move-one .ensures .1) (not-false (c .before .before .before .move-one .result) (c .if3 .left)) in (ap (λ (y : Reply). y .number) p, ap (λ (y : Reply). y .buffer) p)
 

@@ -7,45 +7,31 @@ use borrow.Author.Needs.{needs}
 use native.Mathlib.Omega.{arith}
 use Rattle.engine.proofs.tessla_offer_progress.Statement.{statement}
 use Rattle.engine.proofs.tessla_offer_progress.Tie as tie
-use Rattle.engine.proofs.tessla_offer_progress.Reads as reads
-use Rattle.engine.proofs.tessla_offer_progress.Lts as lts
-use Rattle.calls.proofs.progress.Reads as progress-reads
-use Rattle.calls.proofs.progress_number.Reads as progress-number-reads
-use Rattle.valid.proofs.streams.Reads as streams-reads
 
--- src/lib.rt:31:9
 streams-requires : tie.Need-streams-requires
 streams-requires c κs = search needs
 
--- src/lib.rt:33:9
 same-length : tie.Need-same-length
 same-length c = search needs
 
--- src/lib.rt:33:9
 returns : tie.Need-returns
 returns c = let a = c .before .before .before .before .args in let s = now (a .state) in let n = c .before .streams .result in let e = c .before .streams .ensures .0 in (ap (λ (y : Reply). y .number) (Replies.reply-15 s n e (progress (a .stream) (a .bound)) (c .if1 .taken)), ap (λ (y : Reply). y .buffer) (Replies.reply-15 s n e (progress (a .stream) (a .bound)) (c .if1 .taken)))
 
--- src/lib.rt:35:9
 progress-number-requires : tie.Need-progress-number-requires
-progress-number-requires c κs = let a = c .before .before .before .before .before .args in let s = now (a .state) in let n = c .before .before .streams .result in let e = c .before .before .streams .ensures .0 in Replies.room-for s (λ j. omega (arith, c .before .before .before .before .slice-known .given j)) n e (c .before .if1 .left) (omega arith)
+progress-number-requires c κs = let a = c .before .before .before .before .before .args in let s = now (a .state) in let n = c .before .before .streams .result in let e = c .before .before .streams .ensures .0 in Replies.room-for s (λ j. omega (arith, c .before .before .before .before .slice-known .given j)) n e (c .before .if1 .left)
 
--- src/lib.rt:37:9
 same-length-2 : tie.Need-same-length-2
 same-length-2 c = search needs
 
--- src/lib.rt:37:9
 returns-2 : tie.Need-returns-2
 returns-2 c = let a = c .before .before .before .before .before .before .before .args in let s = now (a .state) in let n = c .before .before .before .before .streams .result in let e = c .before .before .before .before .streams .ensures .0 in let p = Replies.progress-refused s (λ j. omega (arith, c .before .before .before .before .before .before .slice-known .given j)) n e (c .before .before .before .if1 .left) (a .stream) (a .bound) (c .before .progress-number .result) (c .before .progress-number .ensures) (c .if2 .taken) in (ap (λ (y : Reply). y .number) p, ap (λ (y : Reply). y .buffer) p)
 
--- src/lib.rt:39:5
 progress-requires : tie.Need-progress-requires
-progress-requires c κs = let a = c .before .before .before .before .before .before .before .before .args in let s = now (a .state) in let n = c .before .before .before .before .before .streams .result in let e = c .before .before .before .before .before .streams .ensures .0 in (Replies.room-for s (λ j. omega (arith, c .before .before .before .before .before .before .before .slice-known .given j)) n e (c .before .before .before .before .if1 .left) (omega arith), Replies.progress-there s (λ j. omega (arith, c .before .before .before .before .before .before .before .slice-known .given j)) n e (c .before .before .before .before .if1 .left) (a .stream) (a .bound) (c .before .before .progress-number .result) (c .before .before .progress-number .ensures) (omega arith))
+progress-requires c κs = let a = c .before .before .before .before .before .before .before .before .args in let s = now (a .state) in let n = c .before .before .before .before .before .streams .result in let e = c .before .before .before .before .before .streams .ensures .0 in (Replies.room-for s (λ j. omega (arith, c .before .before .before .before .before .before .before .slice-known .given j)) n e (c .before .before .before .before .if1 .left), Replies.progress-there s (λ j. omega (arith, c .before .before .before .before .before .before .before .slice-known .given j)) n e (c .before .before .before .before .if1 .left) (a .stream) (a .bound) (c .before .before .progress-number .result) (c .before .before .progress-number .ensures) (omega arith))
 
--- src/lib.rt:26:1
 same-length-3 : tie.Need-same-length-3
 same-length-3 c = search needs
 
--- src/lib.rt:26:1
 returns-3 : tie.Need-returns-3
 returns-3 c = let a = c .before .before .before .before .before .before .before .before .before .before .before .args in let s = now (a .state) in let n = c .before .before .before .before .before .before .before .before .streams .result in let e = c .before .before .before .before .before .before .before .before .streams .ensures .0 in let p = Replies.progress-finished s (λ j. omega (arith, c .before .before .before .before .before .before .before .before .before .before .slice-known .given j)) n e (c .before .before .before .before .before .before .before .if1 .left) (a .stream) (a .bound) (c .before .before .before .before .before .progress-number .result) (c .before .before .before .before .before .progress-number .ensures) (omega arith) (c .before .before .progress .last .0) (c .before .before .progress .ensures) in (ap (λ (y : Reply). y .number) p, ap (λ (y : Reply). y .buffer) p)
 

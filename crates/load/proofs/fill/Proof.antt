@@ -1,55 +1,41 @@
+-- `load::fill` meets its contract.
 use Prim.Native.Nat.{ℕ, _-_}
 use mathlib.Core.Path.{_≡_, sym, ap, _∙_}
-use lib.ListN.{length}
+use lib.ListN.{length, replicate, length-replicate}
 use denote.Ref.{now}
 use Rattle.layout.specs.Record.{encode, decode}
-use Rattle.load.specs.Filled.{written, filled}
+use Rattle.load.specs.Filled.{written, filled, filledHead}
 use mathlib.Core.List.{List}
-use lib.ListN.{replicate, length-replicate}
 use Rattle.le.proofs.Fields.{sets-whole}
 use Rattle.render.proofs.Heads.{head-fits}
 use Rattle.text.specs.declared.Head.{Head}
-use Rattle.load.specs.Filled.{filledHead}
-use Rattle.valid.specs.Valid.{stateLength}
 use borrow.Author.Needs.{needs}
 use native.Mathlib.Omega.{arith}
 use Rattle.load.proofs.fill.Statement.{statement}
 use Rattle.load.proofs.fill.Tie as tie
-use Rattle.load.proofs.fill.Reads as reads
-use Rattle.load.proofs.fill.Lts as lts
-use Rattle.le.proofs.clear.Reads as clear-reads
-use Rattle.load.proofs.write.Reads as write-reads
-use Rattle.text.proofs.read_head.Reads as read-head-reads
 
--- src/lib.rt:49:11
 read-head-requires : tie.Need-read-head-requires
 read-head-requires c κs = search needs
 
--- src/lib.rt:50:23
 enum-known-n : tie.Need-enum-known-n
 enum-known-n c = search needs
 
--- src/lib.rt:51:13
 clear-requires : tie.Need-clear-requires
 clear-requires c κs = search needs
 
--- src/lib.rt:52:13
 write-requires : tie.Need-write-requires
-write-requires c κs = let a = c .before .before .before .before .before .before .before .before .before .before .before .args in let n = c .before .before .before .before .before .before .n .given .0 .0 in let p = c .before .before .before .before .before .before .n .given .0 .1 .0 in let h = sym (c .before .before .before .before .before .before .before .before .read-head .ensures) ∙ c .before .before .before .before .before .before .n .given .1 in let z : c .before .before .before .clear .last .0 ≡ replicate stateLength 0 = c .before .before .before .clear .ensures ∙ sets-whole (now (a .state)) (replicate stateLength 0) (c .before .before .before .before .before .before .before .before .before .before .before .pre ∙ sym (length-replicate {A = ℕ} stateLength 0)) in let f = head-fits (now (a .text)) n p h in let y : length (c .before .before .before .clear .last .0) ≡ stateLength = ap length z ∙ length-replicate {A = ℕ} stateLength 0 in omega (arith, f .1, y)
+write-requires c κs = let a = c .before .before .before .before .before .before .before .before .before .before .before .args in let n = c .before .before .before .before .before .before .n .given .0 .0 in let p = c .before .before .before .before .before .before .n .given .0 .1 .0 in let h = sym (c .before .before .before .before .before .before .before .before .read-head .ensures) ∙ c .before .before .before .before .before .before .n .given .1 in let z : c .before .before .before .clear .last .0 ≡ replicate (length (now (a .state))) 0 = c .before .before .before .clear .ensures ∙ sets-whole (now (a .state)) (replicate (length (now (a .state))) 0) (sym (length-replicate {A = ℕ} (length (now (a .state))) 0)) in let f = head-fits (a .most) (now (a .text)) n p h in let y : length (c .before .before .before .clear .last .0) ≡ length (now (a .state)) = ap length z ∙ length-replicate {A = ℕ} (length (now (a .state))) 0 in omega (arith, f .1, y, c .before .before .before .before .before .before .before .before .before .before .before .pre)
 
 enum-told : tie.Need-enum-told
 enum-told c = search needs
 
--- src/lib.rt:45:1
 same-length : tie.Need-same-length
 same-length c = search needs
 
--- src/lib.rt:45:1
 returns : tie.Need-returns
 unfolding filled
-returns c = let a = c .before .before .before .before .before .before .before .before .before .before .before .before .before .before .args in let n = c .before .before .before .before .before .before .before .before .before .n .given .0 .0 in let p = c .before .before .before .before .before .before .before .before .before .n .given .0 .1 .0 in let h = sym (c .before .before .before .before .before .before .before .before .before .before .before .read-head .ensures) ∙ c .before .before .before .before .before .before .before .before .before .n .given .1 in let z : c .before .before .before .before .before .before .clear .last .0 ≡ replicate stateLength 0 = c .before .before .before .before .before .before .clear .ensures ∙ sets-whole (now (a .state)) (replicate stateLength 0) (c .before .before .before .before .before .before .before .before .before .before .before .before .before .before .pre ∙ sym (length-replicate {A = ℕ} stateLength 0)) in c .before .before .write .ensures ∙ ap (λ (l : List ℕ). encode n (written (now (a .text)) p n 0 (decode n l))) z ∙ ap (λ (x : Head). filledHead (now (a .text)) x (now (a .state))) (sym h)
+returns c = let a = c .before .before .before .before .before .before .before .before .before .before .before .before .before .before .args in let n = c .before .before .before .before .before .before .before .before .before .n .given .0 .0 in let p = c .before .before .before .before .before .before .before .before .before .n .given .0 .1 .0 in let h = sym (c .before .before .before .before .before .before .before .before .before .before .before .read-head .ensures) ∙ c .before .before .before .before .before .before .before .before .before .n .given .1 in let z : c .before .before .before .before .before .before .clear .last .0 ≡ replicate (length (now (a .state))) 0 = c .before .before .before .before .before .before .clear .ensures ∙ sets-whole (now (a .state)) (replicate (length (now (a .state))) 0) (sym (length-replicate {A = ℕ} (length (now (a .state))) 0)) in c .before .before .write .ensures ∙ ap (λ (l : List ℕ). encode n (written (now (a .text)) p n 0 (decode n l))) z ∙ ap (λ (x : Head). filledHead (now (a .text)) x (now (a .state))) (sym h)
 
--- src/lib.rt:45:1
 returns-2 : tie.Need-returns-2
 unfolding filled
 returns-2 c = let a = c .before .before .before .before .before .args in ap (λ (x : Head). filledHead (now (a .text)) x (now (a .state))) (sym (c .enum-told .given .1) ∙ c .before .before .read-head .ensures)

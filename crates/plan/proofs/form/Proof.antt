@@ -1,5 +1,5 @@
 -- `plan::form` meets its contract.
-use mathlib.Core.Path.{_≡_, sym, _∙_}
+use mathlib.Core.Path.{_≡_, sym, _∙_, refl}
 use Prim.Native.Nat.{_≤_, _-_}
 use lib.ListN.{length}
 use denote.Ref.{now}
@@ -12,19 +12,15 @@ use borrow.Author.Needs.{needs}
 use native.Mathlib.Omega.{arith}
 use Rattle.plan.proofs.form.Statement.{statement}
 use Rattle.plan.proofs.form.Tie as tie
-use Rattle.plan.proofs.form.Reads as reads
-use Rattle.plan.proofs.form.Lts as lts
-use Rattle.plan.proofs.both.Reads as both-reads
-use Rattle.plan.proofs.read_turn.Reads as read-turn-reads
 
 abbrev Inv-loop : tie.InvT-loop
-Inv-loop text at n graph₀ p₀ i₀ ok₀ graph p i ok = (i ≤ n) × (passOf n ok i graph (streams text p (n - i)) ≡ passOf n true 0 graph₀ (streams text at n))
+Inv-loop text at n graph₀ p₀ i₀ ok₀ graph p i ok = (i ≤ n) × (passOf n ok i graph (streams text p (n - i)) ≡ passOf n true 0 graph₀ (streams text at n)) × (length graph ≡ length graph₀)
 
 abbrev μ-loop : tie.MeasureT-loop
 μ-loop text at n graph₀ p₀ i₀ ok₀ graph p i ok = n - i
 
 loop-holds : tie.Need-loop-holds Inv-loop μ-loop
-loop-holds c = (omega arith, simp sub-zero)
+loop-holds c = (omega arith, simp sub-zero, refl)
 
 read-turn-requires : tie.Need-read-turn-requires Inv-loop μ-loop
 read-turn-requires c κs = omega arith
@@ -42,19 +38,28 @@ loop-less : tie.Need-loop-less Inv-loop μ-loop
 loop-less c = omega arith
 
 loop-again : tie.Need-loop-again Inv-loop μ-loop
-loop-again c = (omega arith, rw (c .both .ensures) (pass-go (now (c .before .before .before .before .before .before .before .before .before .args .text)) (c .before .before .before .before .before .before .before .before .before .args .n) (c .before .before .before .before .before .before .before .loop .ok) (c .before .before .before .before .before .before .before .loop .i) (c .before .before .before .before .before .before .before .loop .graph) (c .before .before .before .before .before .before .before .loop .p) (omega arith) (c .before .before .kept .given .0 .0) (c .before .before .kept .given .0 .1 .0) (c .before .before .before .before .read-turn .last .1 .1 .0) (sym (c .before .before .before .before .read-turn .ensures .0) ∙ c .before .before .kept .given .1) (c .before .before .before .before .read-turn .ensures .1)) ∙ c .before .before .before .before .before .before .before .loop .inv .1)
+loop-again c = (omega arith, rw (c .both .ensures) (pass-go (now (c .before .before .before .before .before .before .before .before .before .before .before .before .args .text)) (c .before .before .before .before .before .before .before .before .before .before .before .before .args .n) (c .before .before .before .before .before .before .before .before .before .loop .ok) (c .before .before .before .before .before .before .before .before .before .loop .i) (c .before .before .before .before .before .before .before .before .before .loop .graph) (c .before .before .before .before .before .before .before .before .before .loop .p) (omega arith) (c .before .before .kept .given .0 .0) (c .before .before .kept .given .0 .1 .0) (c .before .before .before .before .before .before .read-turn .last .1 .1 .0) (sym (c .before .before .before .before .before .before .read-turn .ensures .0) ∙ c .before .before .kept .given .1) (c .before .before .before .before .before .before .read-turn .ensures .1)) ∙ c .before .before .before .before .before .before .before .before .before .loop .inv .1, c .before .before .before .before .before .before .read-turn .kept .1 .1 .0 ∙ c .before .before .before .before .before .before .before .before .before .loop .inv .2)
 
 enum-known-r : tie.Need-enum-known-r Inv-loop μ-loop
 enum-known-r c = search needs
 
+same-length : tie.Need-same-length Inv-loop μ-loop
+same-length c = c .before .before .before .before .before .read-turn .kept .1 .1 .0 ∙ c .before .before .before .before .before .before .before .before .loop .inv .2
+
 returns : tie.Need-returns Inv-loop μ-loop
-returns c = answer-halted (length (now (c .before .before .before .before .before .before .before .before .args .text))) (c .before .before .before .read-turn .last .1 .1 .0) _ (c .before .r .given .0 .0) (sym (c .before .before .before .before .before .before .loop .inv .1) ∙ pass-halt (now (c .before .before .before .before .before .before .before .before .args .text)) (c .before .before .before .before .before .before .before .before .args .n) (c .before .before .before .before .before .before .loop .ok) (c .before .before .before .before .before .before .loop .i) (c .before .before .before .before .before .before .loop .graph) (c .before .before .before .before .before .before .loop .p) (omega arith) (c .before .r .given .0 .0) (sym (c .before .before .before .read-turn .ensures .0) ∙ c .before .r .given .1))
+returns c = answer-halted (length (now (c .before .before .before .before .before .before .before .before .before .before .before .args .text))) (c .before .before .before .before .before .read-turn .last .1 .1 .0) _ (c .before .r .given .0 .0) (sym (c .before .before .before .before .before .before .before .before .loop .inv .1) ∙ pass-halt (now (c .before .before .before .before .before .before .before .before .before .before .before .args .text)) (c .before .before .before .before .before .before .before .before .before .before .before .args .n) (c .before .before .before .before .before .before .before .before .loop .ok) (c .before .before .before .before .before .before .before .before .loop .i) (c .before .before .before .before .before .before .before .before .loop .graph) (c .before .before .before .before .before .before .before .before .loop .p) (omega arith) (c .before .r .given .0 .0) (sym (c .before .before .before .before .before .read-turn .ensures .0) ∙ c .before .r .given .1))
+
+same-length-2 : tie.Need-same-length-2 Inv-loop μ-loop
+same-length-2 c = c .before .before .loop .inv .2
 
 returns-2 : tie.Need-returns-2 Inv-loop μ-loop
-returns-2 c = answer-formed (length (now (c .before .before .before .before .args .text))) (c .before .before .loop .graph) _ (c .before .before .loop .ok) (c .before .before .loop .p) (sym (c .before .before .loop .inv .1) ∙ pass-end (now (c .before .before .before .before .args .text)) (c .before .before .before .before .args .n) (c .before .before .loop .ok) (c .before .before .loop .i) (c .before .before .loop .graph) (c .before .before .loop .p) (omega arith)) (c .if1 .taken)
+returns-2 c = answer-formed (length (now (c .before .before .before .before .before .args .text))) (c .before .before .loop .graph) _ (c .before .before .loop .ok) (c .before .before .loop .p) (sym (c .before .before .loop .inv .1) ∙ pass-end (now (c .before .before .before .before .before .args .text)) (c .before .before .before .before .before .args .n) (c .before .before .loop .ok) (c .before .before .loop .i) (c .before .before .loop .graph) (c .before .before .loop .p) (omega arith)) (c .if1 .taken)
+
+same-length-3 : tie.Need-same-length-3 Inv-loop μ-loop
+same-length-3 c = c .before .before .loop .inv .2
 
 returns-3 : tie.Need-returns-3 Inv-loop μ-loop
-returns-3 c = answer-left-over (length (now (c .before .before .before .before .args .text))) (c .before .before .loop .graph) _ (c .before .before .loop .ok) (c .before .before .loop .p) (sym (c .before .before .loop .inv .1) ∙ pass-end (now (c .before .before .before .before .args .text)) (c .before .before .before .before .args .n) (c .before .before .loop .ok) (c .before .before .loop .i) (c .before .before .loop .graph) (c .before .before .loop .p) (omega arith)) (c .if1 .left)
+returns-3 c = answer-left-over (length (now (c .before .before .before .before .before .args .text))) (c .before .before .loop .graph) _ (c .before .before .loop .ok) (c .before .before .loop .p) (sym (c .before .before .loop .inv .1) ∙ pass-end (now (c .before .before .before .before .before .args .text)) (c .before .before .before .before .before .args .n) (c .before .before .loop .ok) (c .before .before .loop .i) (c .before .before .loop .graph) (c .before .before .loop .p) (omega arith)) (c .if1 .left)
 
 pub form-spec : {M : Type 1} → statement M
 form-spec =
@@ -70,6 +75,9 @@ form-spec =
     loop-less
     loop-again
     enum-known-r
+    same-length
     returns
+    same-length-2
     returns-2
+    same-length-3
     returns-3)

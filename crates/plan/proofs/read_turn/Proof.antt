@@ -5,10 +5,6 @@ use Rattle.plan.specs.Pass.{turn}
 use borrow.Author.Needs.{needs}
 use Rattle.plan.proofs.read_turn.Statement.{statement}
 use Rattle.plan.proofs.read_turn.Tie as tie
-use Rattle.plan.proofs.read_turn.Reads as reads
-use Rattle.plan.proofs.read_turn.Lts as lts
-use Rattle.plan.proofs.note_stream.Reads as note-stream-reads
-use Rattle.text.proofs.read_stream.Reads as read-stream-reads
 
 read-stream-requires : tie.Need-read-stream-requires
 read-stream-requires c κs = search needs
@@ -22,9 +18,12 @@ note-stream-requires c κs = search needs
 enum-known-r : tie.Need-enum-known-r
 enum-known-r c = search needs
 
+same-length : tie.Need-same-length
+same-length c = search needs
+
 returns : tie.Need-returns
 unfolding turn
-returns c = (rw (sym (c .before .before .before .before .before .read-stream .ensures) ∙ c .before .before .before .f .given .1, c .note-stream .ensures .0), rw (sym (c .before .before .before .before .before .read-stream .ensures) ∙ c .before .before .before .f .given .1) (c .note-stream .ensures .1))
+returns c = (rw (sym (c .before .before .before .before .before .before .before .read-stream .ensures) ∙ c .before .before .before .before .before .f .given .1, c .before .before .note-stream .ensures .0), rw (sym (c .before .before .before .before .before .before .before .read-stream .ensures) ∙ c .before .before .before .before .before .f .given .1) (c .before .before .note-stream .ensures .1))
 
 returns-2 : tie.Need-returns-2
 unfolding turn
@@ -38,5 +37,6 @@ read-turn-spec =
     enum-known-f
     note-stream-requires
     enum-known-r
+    same-length
     returns
     returns-2)

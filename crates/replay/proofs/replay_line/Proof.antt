@@ -1,55 +1,39 @@
 use mathlib.Core.Path.{refl, sym, subst, _∙_}
-use Prim.Native.Nat.{_-_}
+use Prim.Native.Nat.{_-_, ℕ}
 use denote.Ref.{now}
 use Rattle.trace.proofs.Ends.{line-ends}
 use mathlib.Core.List.{List}
-use Prim.Native.Nat.{ℕ}
 use Rattle.replay.specs.Played.{Settles}
 use borrow.Author.Needs.{needs}
 use Rattle.replay.proofs.replay_line.Statement.{statement}
 use Rattle.replay.proofs.replay_line.Tie as tie
-use Rattle.replay.proofs.replay_line.Reads as reads
-use Rattle.replay.proofs.replay_line.Lts as lts
-use Rattle.replay.proofs.offer.Reads as offer-reads
-use Rattle.replay.proofs.print_refused.Reads as print-refused-reads
-use Rattle.replay.proofs.settle.Reads as settle-reads
-use Rattle.trace.proofs.read.Reads as read-reads
 
--- src/main.rt:79:35
 read-requires : tie.Need-read-requires
 read-requires c κs = search needs
 
--- src/main.rt:79:20
 enum-known-found : tie.Need-enum-known-found
 enum-known-found c = search needs
 
--- src/main.rt:80:9
 enum-told : tie.Need-enum-told
 enum-told c = search needs
 
--- src/main.rt:80:9
 print-refused-requires : tie.Need-print-refused-requires
 print-refused-requires c κs = search needs
 
--- src/main.rt:81:9
 returns : tie.Need-returns
 returns c = (tt, (sym (c .before .before .before .read .ensures) ∙ c .before .enum-told .given .1, refl))
 
--- src/main.rt:83:5
 offer-requires : tie.Need-offer-requires
 offer-requires c κs = search needs
 
--- src/main.rt:84:5
 settle-requires : tie.Need-settle-requires
 settle-requires c κs = search needs
 
--- src/main.rt:75:1
 same-length : tie.Need-same-length
 same-length c = search needs
 
--- src/main.rt:75:1
 returns-2 : tie.Need-returns-2
-returns-2 c = (line-ends (now (c .before .before .before .before .before .before .before .before .before .before .before .before .before .before .args .text)) (c .before .before .before .before .before .before .before .before .before .before .before .before .before .before .args .at) (c .before .before .before .before .before .before .before .before .before .found .given .0 .0) (c .before .before .before .before .before .before .before .before .before .found .given .0 .1 .0) (sym (c .before .before .before .before .before .before .before .before .before .before .before .read .ensures) ∙ c .before .before .before .before .before .before .before .before .before .found .given .1) .inside, (c .before .before .before .before .before .before .before .before .before .found .given .0 .0, sym (c .before .before .before .before .before .before .before .before .before .before .before .read .ensures) ∙ c .before .before .before .before .before .before .before .before .before .found .given .1, subst (λ (z : List ℕ). Settles z (c .before .before .settle .last .0)) (c .before .before .before .before .before .before .offer .ensures) (c .before .before .settle .ensures)))
+returns-2 c = (line-ends (now (c .before .before .before .before .before .before .before .before .before .before .before .before .before .before .args .text)) (c .before .before .before .before .before .before .before .before .before .before .before .before .before .before .args .at) (c .before .before .before .before .before .before .before .before .before .found .given .0 .0) (c .before .before .before .before .before .before .before .before .before .found .given .0 .1 .0) (sym (c .before .before .before .before .before .before .before .before .before .before .before .read .ensures) ∙ c .before .before .before .before .before .before .before .before .before .found .given .1) .inside, (c .before .before .before .before .before .before .before .before .before .found .given .0 .0, sym (c .before .before .before .before .before .before .before .before .before .before .before .read .ensures) ∙ c .before .before .before .before .before .before .before .before .before .found .given .1, subst (λ (z : List ℕ). Settles (c .before .before .before .before .before .before .before .before .before .before .before .before .before .before .args .n) z (c .before .before .settle .last .0)) (c .before .before .before .before .before .before .offer .ensures) (c .before .before .settle .ensures)))
 
 pub replay-line-spec : {M : Type 1} → statement M
 replay-line-spec =

@@ -18,10 +18,10 @@ use Rattle.replay.proofs.ready.Reads as ready-reads
 use Rattle.replay.proofs.replay_line.Reads as replay-line-reads
 
 abbrev Inv-loop : tie.InvT-loop
-Inv-loop fd state₀ buffer₀ from₀ end₀ lines₀ state buffer from end lines = (from ≤ end) × (end ≤ length buffer) × (4096 ≡ length buffer) × (length state ≡ length state₀) × ((rs : List Record) × Offered state₀ rs state)
+Inv-loop fd state₀ n buffer₀ from₀ end₀ lines₀ state buffer from end lines = (from ≤ end) × (end ≤ length buffer) × (4096 ≡ length buffer) × (length state ≡ length state₀) × ((rs : List Record) × Offered n state₀ rs state)
 
 abbrev μ-loop : tie.MeasureT-loop
-μ-loop fd state₀ buffer₀ from₀ end₀ lines₀ state buffer from end lines = lines
+μ-loop fd state₀ n buffer₀ from₀ end₀ lines₀ state buffer from end lines = lines
 
 -- src/main.rt:111:22
 buffer-requires : tie.Need-buffer-requires Inv-loop μ-loop
@@ -85,7 +85,7 @@ loop-less c = omega arith
 
 -- src/main.rt:115:5
 loop-again : tie.Need-loop-again Inv-loop μ-loop
-loop-again c = let w : c .before .next .given .0 .0 ≤ length (take (c .before .before .before .before .before .before .before .before .before .before .ready .result .end) (c .before .before .before .before .before .before .before .before .before .before .ready .last .1 .0)) = rw (c .before .next .given .1) at (c .before .before .before .before .before .replay-line .ensures .0) in let l = length-take-le (c .before .before .before .before .before .before .before .before .before .before .ready .result .end) (c .before .before .before .before .before .before .before .before .before .before .ready .last .1 .0) (omega arith) in (omega arith, c .before .before .before .before .before .before .before .before .before .before .ready .ensures .0 .1, c .before .before .before .before .before .before .before .before .before .before .before .before .before .loop .inv .2 ∙ sym (c .before .before .before .before .before .before .before .before .before .before .ready .kept .1 .0), c .before .before .before .before .before .replay-line .kept .0 ∙ c .before .before .before .before .before .before .before .before .before .before .before .before .before .loop .inv .3, let f : Follows (take (c .before .before .before .before .before .before .before .before .before .before .ready .result .end) (c .before .before .before .before .before .before .before .before .before .before .ready .last .1 .0)) (c .before .before .before .before .before .before .before .before .before .before .ready .result .from) (c .before .before .before .before .before .before .before .before .before .before .before .before .before .loop .state) (Line (c .before .next .given .0 .0)) (c .before .before .before .before .before .replay-line .last .0) = rw (c .before .next .given .1) at (c .before .before .before .before .before .replay-line .ensures .1) in Order.offered-more (c .before .before .before .before .before .before .before .before .before .before .before .before .before .loop .inv .4) (f .0) (f .2))
+loop-again c = let w : c .before .next .given .0 .0 ≤ length (take (c .before .before .before .before .before .before .before .before .before .before .ready .result .end) (c .before .before .before .before .before .before .before .before .before .before .ready .last .1 .0)) = rw (c .before .next .given .1) at (c .before .before .before .before .before .replay-line .ensures .0) in let l = length-take-le (c .before .before .before .before .before .before .before .before .before .before .ready .result .end) (c .before .before .before .before .before .before .before .before .before .before .ready .last .1 .0) (omega arith) in (omega arith, c .before .before .before .before .before .before .before .before .before .before .ready .ensures .0 .1, c .before .before .before .before .before .before .before .before .before .before .before .before .before .loop .inv .2 ∙ sym (c .before .before .before .before .before .before .before .before .before .before .ready .kept .1 .0), c .before .before .before .before .before .replay-line .kept .0 ∙ c .before .before .before .before .before .before .before .before .before .before .before .before .before .loop .inv .3, let f : Follows (c .before .before .before .before .before .before .before .before .before .before .before .before .before .before .before .before .args .n) (take (c .before .before .before .before .before .before .before .before .before .before .ready .result .end) (c .before .before .before .before .before .before .before .before .before .before .ready .last .1 .0)) (c .before .before .before .before .before .before .before .before .before .before .ready .result .from) (c .before .before .before .before .before .before .before .before .before .before .before .before .before .loop .state) (Line (c .before .next .given .0 .0)) (c .before .before .before .before .before .replay-line .last .0) = rw (c .before .next .given .1) at (c .before .before .before .before .before .replay-line .ensures .1) in Order.offered-more (c .before .before .before .before .before .before .before .before .before .before .before .before .before .loop .inv .4) (f .0) (f .2))
 
 -- src/main.rt:108:1
 same-length-3 : tie.Need-same-length-3 Inv-loop μ-loop

@@ -16,14 +16,14 @@ use Rattle.replay.proofs.print_some.Reads as print-some-reads
 use Rattle.replaying.proofs.is_rest.Reads as is-rest-reads
 
 abbrev Inv-loop : tie.InvT-loop
-Inv-loop state₀ place₀ state place = (length state ≡ length state₀) × Goes start state₀ place state
+Inv-loop state₀ n place₀ state place = (length state ≡ length state₀) × Goes n start state₀ place state
 
 abbrev μ-loop : tie.MeasureT-loop
-μ-loop state₀ place₀ state place = rank place state
+μ-loop state₀ n place₀ state place = rank n place state
 
 -- src/main.rt:69:5
 loop-holds : tie.Need-loop-holds Inv-loop μ-loop
-loop-holds c = (refl, Order.goes-here start (now (c .before .args .state)))
+loop-holds c = (refl, Order.goes-here (c .before .args .n) start (now (c .before .args .state)))
 
 -- src/main.rt:69:12
 is-rest-requires : tie.Need-is-rest-requires Inv-loop μ-loop

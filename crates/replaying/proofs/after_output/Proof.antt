@@ -8,23 +8,20 @@ use native.Mathlib.Omega.{arith}
 use Rattle.replaying.proofs.after_output.Statement.{statement}
 use Rattle.replaying.proofs.after_output.Tie as tie
 
-limit-requires : tie.Need-limit-requires
-limit-requires c κs = search needs
-
 add-if1 : tie.Need-add-if1
 add-if1 c = search needs
 
-add-t7 : tie.Need-add-t7
-add-t7 c = search needs
+add-t8 : tie.Need-add-t8
+add-t8 c = search needs
 
 returns : tie.Need-returns
-returns c = after-next (c .before .before .before .args .stream) (c .before .before .before .args .busy) (omega arith)
+returns c = after-next (c .before .args .n) (c .before .args .stream) (c .before .args .busy) (omega arith)
 
 returns-2 : tie.Need-returns-2
-returns-2 c = ap roundAfter (sym (c .if2 .taken)) ∙ after-last (c .before .before .before .before .args .stream) (c .before .before .before .before .args .busy) (omega arith)
+returns-2 c = ap roundAfter (sym (c .if2 .taken)) ∙ after-last (c .before .before .args .n) (c .before .before .args .stream) (c .before .before .args .busy) (omega arith)
 
 returns-3 : tie.Need-returns-3
-returns-3 c = ap roundAfter (sym (c .if2 .left)) ∙ after-last (c .before .before .before .before .args .stream) (c .before .before .before .before .args .busy) (omega arith)
+returns-3 c = ap roundAfter (sym (c .if2 .left)) ∙ after-last (c .before .before .args .n) (c .before .before .args .stream) (c .before .before .args .busy) (omega arith)
 
 pub after-output-spec : {M : Type 1} → statement M
-after-output-spec = tie.close (tie.spec limit-requires add-if1 add-t7 returns returns-2 returns-3)
+after-output-spec = tie.close (tie.spec add-if1 add-t8 returns returns-2 returns-3)

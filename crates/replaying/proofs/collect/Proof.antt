@@ -28,7 +28,7 @@ same-length-2 : tie.Need-same-length-2
 same-length-2 c = search needs
 
 returns : tie.Need-returns
-returns c = let f : SFits w64 (c .before .before .before .before .before .before .before .tessla-collect .last .1 .1 .1 .0) = record { sfits = rw (c .before .before .before .before .before .before .before .tessla-collect .ensures .1 .1 .0) (collect-is-value (now (c .before .before .before .before .before .before .before .before .before .before .before .before .before .args .state)) (λ j. omega (arith, c .before .before .before .before .before .before .before .before .before .before .before .before .slice-known .given j)) (c .before .before .before .before .before .before .before .before .before .before .before .before .before .args .stream)) } in rw (collected-event (c .before .before .before .before .before .before .before .before .before .before .before .before .before .args .stream) (c .before .before .before .before .before .before .before .before .before .before .before .before .before .args .busy) (reply (collecting (c .before .before .before .before .before .before .before .before .before .before .before .before .before .args .stream)) (now (c .before .before .before .before .before .before .before .before .before .before .before .before .before .args .state))) (sym (c .before .before .before .before .before .before .before .tessla-collect .ensures .0) ∙ c .before .before .before .before .if1 .taken)) (record { place = refl; put = rw (sym (c .before .before .before .before .before .before .before .tessla-collect .ensures .1 .0), sym (c .before .before .before .before .before .before .before .tessla-collect .ensures .1 .1 .0)) (rw (toZ-ofZ f) at (c .before .before .put-event .ensures)); state = c .before .before .before .before .before .before .before .tessla-collect .ensures .1 .1 .1 })
+returns c = let f : SFits w64 (c .before .before .before .before .before .before .before .tessla-collect .last .1 .1 .1 .0) = record { sfits = rw (c .before .before .before .before .before .before .before .tessla-collect .ensures .1 .1 .0) (collect-is-value (now (c .before .before .before .before .before .before .before .before .before .before .before .before .before .args .state)) (λ j. omega (arith, c .before .before .before .before .before .before .before .before .before .before .before .before .slice-known .given j)) (c .before .before .before .before .before .before .before .before .before .before .before .before .before .args .stream)) } in rw (collected-event (c .before .before .before .before .before .before .before .before .before .before .before .before .before .args .n) (c .before .before .before .before .before .before .before .before .before .before .before .before .before .args .stream) (c .before .before .before .before .before .before .before .before .before .before .before .before .before .args .busy) (reply (collecting (c .before .before .before .before .before .before .before .before .before .before .before .before .before .args .stream)) (now (c .before .before .before .before .before .before .before .before .before .before .before .before .before .args .state))) (sym (c .before .before .before .before .before .before .before .tessla-collect .ensures .0) ∙ c .before .before .before .before .if1 .taken)) (record { place = refl; put = rw (sym (c .before .before .before .before .before .before .before .tessla-collect .ensures .1 .0), sym (c .before .before .before .before .before .before .before .tessla-collect .ensures .1 .1 .0)) (rw (toZ-ofZ f) at (c .before .before .put-event .ensures)); state = c .before .before .before .before .before .before .before .tessla-collect .ensures .1 .1 .1 })
 
 after-output-requires : tie.Need-after-output-requires
 after-output-requires c κs = search needs
@@ -37,7 +37,7 @@ same-length-3 : tie.Need-same-length-3
 same-length-3 c = search needs
 
 returns-2 : tie.Need-returns-2
-returns-2 c = rw (collected-none (c .before .before .before .before .before .before .before .before .before .before .args .stream) (c .before .before .before .before .before .before .before .before .before .before .args .busy) (reply (collecting (c .before .before .before .before .before .before .before .before .before .before .args .stream)) (now (c .before .before .before .before .before .before .before .before .before .before .args .state))) (λ e. c .before .if1 .left (c .before .before .before .before .tessla-collect .ensures .0 ∙ e))) (record { place = c .after-output .ensures; put = put-none _ _; state = c .before .before .before .before .tessla-collect .ensures .1 .1 .1 })
+returns-2 c = rw (collected-none (c .before .before .before .before .before .before .before .before .before .before .args .n) (c .before .before .before .before .before .before .before .before .before .before .args .stream) (c .before .before .before .before .before .before .before .before .before .before .args .busy) (reply (collecting (c .before .before .before .before .before .before .before .before .before .before .args .stream)) (now (c .before .before .before .before .before .before .before .before .before .before .args .state))) (λ e. c .before .if1 .left (c .before .before .before .before .tessla-collect .ensures .0 ∙ e))) (record { place = c .after-output .ensures; put = put-none _ _; state = c .before .before .before .before .tessla-collect .ensures .1 .1 .1 })
 
 pub collect-spec : {M : Type 1} → statement M
 collect-spec =

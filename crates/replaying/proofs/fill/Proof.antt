@@ -17,10 +17,10 @@ use Rattle.replaying.proofs.fill.Statement.{statement}
 use Rattle.replaying.proofs.fill.Tie as tie
 
 abbrev Inv-loop : tie.InvT-loop
-Inv-loop state₀ out₀ p₀ end₀ state out p end = (end ≤ length out) × (length out ≡ length out₀) × (length state ≡ length state₀) × Bytes state × Prints p₀ state₀ (take end out) p state × ((rank p state < rank p₀ state₀) ⊎ ((end ≡ 0) × (p ≡ p₀) × (state ≡ state₀)))
+Inv-loop state₀ n out₀ p₀ end₀ state out p end = (end ≤ length out) × (length out ≡ length out₀) × (length state ≡ length state₀) × Bytes state × Prints n p₀ state₀ (take end out) p state × ((rank n p state < rank n p₀ state₀) ⊎ ((end ≡ 0) × (p ≡ p₀) × (state ≡ state₀)))
 
 abbrev μ-loop : tie.MeasureT-loop
-μ-loop state₀ out₀ p₀ end₀ state out p end = rank p state
+μ-loop state₀ n out₀ p₀ end₀ state out p end = rank n p state
 
 loop-holds : tie.Need-loop-holds Inv-loop μ-loop
 loop-holds c = (omega arith, refl, refl, λ j. omega (arith, c .before .slice-known .given j), here, inr (refl, refl, refl))
@@ -44,10 +44,10 @@ turn-requires : tie.Need-turn-requires Inv-loop μ-loop
 turn-requires c κs = omega arith
 
 loop-less : tie.Need-loop-less Inv-loop μ-loop
-loop-less c = turn-nearer (c .before .before .before .before .before .before .before .before .before .before .loop .p) (c .before .before .before .before .before .before .before .before .before .before .loop .state) (c .before .before .before .before .before .before .before .before .before .before .loop .inv .3) (sym (c .before .before .before .before .before .before .before .before .is-rest .ensures) ∙ c .before .before .before .before .before .before .before .if1 .left) (c .before .before .before .before .turn .ensures)
+loop-less c = turn-nearer (c .before .before .before .before .before .before .before .before .before .before .before .before .before .args .n) (c .before .before .before .before .before .before .before .before .before .before .loop .p) (c .before .before .before .before .before .before .before .before .before .before .loop .state) (c .before .before .before .before .before .before .before .before .before .before .loop .inv .3) (sym (c .before .before .before .before .before .before .before .before .is-rest .ensures) ∙ c .before .before .before .before .before .before .before .if1 .left) (c .before .before .before .before .turn .ensures)
 
 loop-again : tie.Need-loop-again Inv-loop μ-loop
-loop-again c = let f = turn-fits (c .before .before .before .before .before .before .before .before .before .before .loop .p) (c .before .before .before .before .before .before .before .before .before .before .loop .state) (c .before .before .before .before .turn .ensures) (omega arith) in let n = turn-nearer (c .before .before .before .before .before .before .before .before .before .before .loop .p) (c .before .before .before .before .before .before .before .before .before .before .loop .state) (c .before .before .before .before .before .before .before .before .before .before .loop .inv .3) (sym (c .before .before .before .before .before .before .before .before .is-rest .ensures) ∙ c .before .before .before .before .before .before .before .if1 .left) (c .before .before .before .before .turn .ensures) in (f .0, f .1 ∙ c .before .before .before .before .before .before .before .before .before .before .loop .inv .1, c .before .before .before .before .turn .kept .0 ∙ c .before .before .before .before .before .before .before .before .before .before .loop .inv .2, λ j. omega (arith, c .before .before .slice-known3 .given j), turn-prints (c .before .before .before .before .before .before .before .before .before .before .loop .p) (c .before .before .before .before .before .before .before .before .before .before .loop .state) (c .before .before .before .before .turn .ensures) (omega arith) (c .before .before .before .before .before .before .before .before .before .before .loop .inv .4), inl (further (c .before .before .before .before .before .before .before .before .before .before .loop .inv .5) n))
+loop-again c = let f = turn-fits (c .before .before .before .before .before .before .before .before .before .before .before .before .before .args .n) (c .before .before .before .before .before .before .before .before .before .before .loop .p) (c .before .before .before .before .before .before .before .before .before .before .loop .state) (c .before .before .before .before .turn .ensures) (omega arith) in let n = turn-nearer (c .before .before .before .before .before .before .before .before .before .before .before .before .before .args .n) (c .before .before .before .before .before .before .before .before .before .before .loop .p) (c .before .before .before .before .before .before .before .before .before .before .loop .state) (c .before .before .before .before .before .before .before .before .before .before .loop .inv .3) (sym (c .before .before .before .before .before .before .before .before .is-rest .ensures) ∙ c .before .before .before .before .before .before .before .if1 .left) (c .before .before .before .before .turn .ensures) in (f .0, f .1 ∙ c .before .before .before .before .before .before .before .before .before .before .loop .inv .1, c .before .before .before .before .turn .kept .0 ∙ c .before .before .before .before .before .before .before .before .before .before .loop .inv .2, λ j. omega (arith, c .before .before .slice-known3 .given j), turn-prints (c .before .before .before .before .before .before .before .before .before .before .before .before .before .args .n) (c .before .before .before .before .before .before .before .before .before .before .loop .p) (c .before .before .before .before .before .before .before .before .before .before .loop .state) (c .before .before .before .before .turn .ensures) (omega arith) (c .before .before .before .before .before .before .before .before .before .before .loop .inv .4), inl (further (c .before .before .before .before .before .before .before .before .before .before .before .before .before .args .n) (c .before .before .before .before .before .before .before .before .before .before .loop .inv .5) n))
 
 same-length-3 : tie.Need-same-length-3 Inv-loop μ-loop
 same-length-3 c = c .before .loop .inv .2

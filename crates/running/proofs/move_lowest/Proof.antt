@@ -27,7 +27,7 @@ loop-holds c = (omega arith, refl, λ j h. absurd (omega arith))
 
 -- src/lib.rt:20:12
 move-one-requires : tie.Need-move-one-requires Inv-loop μ-loop
-move-one-requires c κs = let a = c .before .before .before .before .args in let s = now (a .state) in let l = c .before .before .loop in let rf = In.room-for s (λ j. omega (arith, c .before .before .before .slice-known .given j)) (a .n) (c .before .before .before .before .pre) (In.few s (λ j. omega (arith, c .before .before .before .slice-known .given j)) (a .n) (c .before .before .before .before .pre)) in (rw (ap length (l .inv .1)) rf, omega arith)
+move-one-requires c κs = let a = c .before .before .before .before .args in let s = now (a .state) in let l = c .before .before .loop in let rf = In.room-for s (λ j. omega (arith, c .before .before .before .slice-known .given j)) (a .n) (c .before .before .before .before .pre) in (rw (ap length (l .inv .1)) rf, omega arith)
 
 -- src/lib.rt:21:13
 same-length : tie.Need-same-length Inv-loop μ-loop

@@ -36,7 +36,7 @@ same-length c = let a = c .before .before .before .before .before .before .befor
 
 -- src/lib.rt:37:13
 returns : tie.Need-returns Inv-loop μ-loop
-returns c = let a = c .before .before .before .before .before .before .before .before .args in let s₀ = now (a .state) in let l = c .before .before .before .before .before .before .loop in let q : ltb (lowest (stateIn (l .state))) (a .n) ≡ false = sym (c .before .before .before .move-lowest .ensures .0) ∙ not-true (c .before .before .before .move-lowest .result) (c .if1 .taken) in Turns.run-ended (a .most) (l .made) (a .n) s₀ (l .state) (c .before .before .before .move-lowest .last .0) (l .inv .2) (l .inv .3) (l .inv .4) (c .before .before .before .move-lowest .ensures .1) q
+returns c = let a = c .before .before .before .before .before .before .before .before .args in let s₀ = now (a .state) in let l = c .before .before .before .before .before .before .loop in let q : ltb (lowest (stateIn (l .state))) (a .n) ≡ false = sym (c .before .before .before .move-lowest .ensures .0) ∙ not-true (c .before .before .before .move-lowest .result) (c .if1 .taken) in Turns.run-ended (a .most) (l .made) (a .n) s₀ (l .state) (c .before .before .before .move-lowest .last .0) (l .inv .2) (l .inv .3) (l .inv .4) (c .before .before .before .move-lowest .ensures .1) q (l .inv .1)
 
 -- src/lib.rt:39:9
 add-made : tie.Need-add-made Inv-loop μ-loop
@@ -56,7 +56,7 @@ same-length-2 c = c .before .loop .inv .1
 
 -- src/lib.rt:29:1
 returns-2 : tie.Need-returns-2 Inv-loop μ-loop
-returns-2 c = let a = c .before .before .before .args in let s₀ = now (a .state) in let l = c .before .loop in Turns.run-done (a .most) (l .made) (a .n) s₀ (l .state) (l .inv .2) (l .inv .3) (l .inv .4) (omega arith) (omega arith)
+returns-2 c = let a = c .before .before .before .args in let s₀ = now (a .state) in let l = c .before .loop in Turns.run-done (a .most) (l .made) (a .n) s₀ (l .state) (l .inv .2) (l .inv .3) (l .inv .4) (omega arith) (omega arith) (l .inv .1)
 
 pub run-spec : {M : Type 1} → statement M
 run-spec =

@@ -14,10 +14,10 @@ fits-requires : tie.Need-fits-requires
 fits-requires c κs = search needs
 
 returns : tie.Need-returns
-returns c = rw (sym (ap countFits (c .before .before .new .ensures)) ∙ sym (c .before .fits2 .ensures) ∙ not-true (c .before .fits2 .result) (c .if1 .taken))
+returns c = rw (sym (ap (countFits (c .before .before .before .args .most)) (c .before .before .new .ensures)) ∙ sym (c .before .fits2 .ensures) ∙ not-true (c .before .fits2 .result) (c .if1 .taken))
 
 returns-2 : tie.Need-returns-2
-returns-2 c = rw (sym (ap countFits (c .before .before .new .ensures)) ∙ sym (c .before .fits2 .ensures) ∙ not-false (c .before .fits2 .result) (c .if1 .left))
+returns-2 c = rw (sym (ap (countFits (c .before .before .before .args .most)) (c .before .before .new .ensures)) ∙ sym (c .before .fits2 .ensures) ∙ not-false (c .before .fits2 .result) (c .if1 .left))
 
 pub count-spec : {M : Type 1} → statement M
 count-spec = tie.close (tie.spec new-requires fits-requires returns returns-2)

@@ -1,57 +1,57 @@
-use Prim.Native.Nat.{_-_}
-use mathlib.Core.Path.{sym, _∙_}
-use borrow.Author.Tests.{eq-eqb, ne-eqb}
+-- `valid::kept_ok` meets its contract.
+use mathlib.Core.Path.{_≡_, sym, ap, _∙_}
+use mathlib.Core.Bool.{true, false}
 use denote.Ref.{now}
 use Rattle.layout.specs.Record.{decRaw, num, opF}
+use Rattle.operators.specs.Operators.{groupOf, isLast, isDelay}
+use Rattle.operators.proofs.Arms.{neither}
 use Rattle.valid.specs.Valid.{keptOk}
 use borrow.Author.Needs.{needs}
-use native.Mathlib.Omega.{arith}
 use Rattle.valid.proofs.kept_ok.Statement.{statement}
 use Rattle.valid.proofs.kept_ok.Tie as tie
-use Rattle.valid.proofs.kept_ok.Reads as reads
-use Rattle.valid.proofs.kept_ok.Lts as lts
-use Rattle.layout.proofs.byte_at.Reads as byte-at-reads
-use Rattle.valid.proofs.delay_ok.Reads as delay-ok-reads
-use Rattle.valid.proofs.last_ok.Reads as last-ok-reads
-use Rattle.valid.proofs.none_ok.Reads as none-ok-reads
 
--- src/lib.rt:212:9
 byte-at-requires : tie.Need-byte-at-requires
 byte-at-requires c κs = search needs
 
--- src/lib.rt:214:15
+group-of-requires : tie.Need-group-of-requires
+group-of-requires c κs = search needs
+
+enum-told : tie.Need-enum-told
+enum-told c = search needs
+
 last-ok-requires : tie.Need-last-ok-requires
 last-ok-requires c κs = search needs
 
--- src/lib.rt:215:15
+enum-told-2 : tie.Need-enum-told-2
+enum-told-2 c = search needs
+
 delay-ok-requires : tie.Need-delay-ok-requires
 delay-ok-requires c κs = search needs
 
--- src/lib.rt:216:14
 none-ok-requires : tie.Need-none-ok-requires
 none-ok-requires c κs = search needs
 
--- src/lib.rt:208:1
 returns : tie.Need-returns
 unfolding keptOk
-returns c = let a = c .before .before .before .before .args in let p = now (a .r) in let r = decRaw p in c .last-ok .ensures ∙ sym (rw (eq-eqb (num opF r) 18 (omega (arith, c .before .match .keys1))))
+returns c = let r = decRaw (now (c .before .before .before .before .before .before .args .r)) in let l : isLast (groupOf (num opF r)) ≡ true = ap isLast (sym (c .before .before .before .group-of .ensures ∙ ap groupOf (c .before .before .before .before .byte-at .ensures .0)) ∙ c .before .enum-told .given .1) in c .last-ok .ensures ∙ sym (rw l)
 
--- src/lib.rt:208:1
 returns-2 : tie.Need-returns-2
 unfolding keptOk
-returns-2 c = let a = c .before .before .before .before .args in let p = now (a .r) in let r = decRaw p in c .delay-ok .ensures ∙ sym (rw (ne-eqb (num opF r) 18 (λ e. omega (arith, c .before .match .keys2)), eq-eqb (num opF r) 19 (omega (arith, c .before .match .keys2))))
+returns-2 c = let r = decRaw (now (c .before .before .before .before .before .before .args .r)) in let g = sym (c .before .before .before .group-of .ensures ∙ ap groupOf (c .before .before .before .before .byte-at .ensures .0)) ∙ c .before .enum-told2 .given .1 in let l : isLast (groupOf (num opF r)) ≡ false = ap isLast g in let d : isDelay (groupOf (num opF r)) ≡ true = ap isDelay g in c .delay-ok .ensures ∙ sym (rw (l, d))
 
--- src/lib.rt:208:1
 returns-3 : tie.Need-returns-3
 unfolding keptOk
-returns-3 c = let a = c .before .before .before .before .args in let p = now (a .r) in let r = decRaw p in c .none-ok .ensures ∙ sym (rw (ne-eqb (num opF r) 18 (λ e. c .before .match .rest .0 .1 (c .before .before .byte-at .ensures .0 ∙ e)), ne-eqb (num opF r) 19 (λ e. c .before .match .rest .1 (c .before .before .byte-at .ensures .0 ∙ e))))
+returns-3 c = let r = decRaw (now (c .before .before .before .before .before .args .r)) in let l : isLast (groupOf (num opF r)) ≡ false = ap isLast (sym (c .before .before .group-of .ensures ∙ ap groupOf (c .before .before .before .byte-at .ensures .0))) ∙ neither (c .before .before .group-of .result) (c .before .match .keys3) .0 in let d : isDelay (groupOf (num opF r)) ≡ false = ap isDelay (sym (c .before .before .group-of .ensures ∙ ap groupOf (c .before .before .before .byte-at .ensures .0))) ∙ neither (c .before .before .group-of .result) (c .before .match .keys3) .1 in c .none-ok .ensures ∙ sym (rw (l, d))
 
 pub kept-ok-spec : {M : Type 1} → statement M
 kept-ok-spec =
     tie.close
     (tie.spec
     byte-at-requires
+    group-of-requires
+    enum-told
     last-ok-requires
+    enum-told-2
     delay-ok-requires
     none-ok-requires
     returns

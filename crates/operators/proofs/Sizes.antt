@@ -1,0 +1,23 @@
+-- What holds of a state of any size: its streams lie within it, and no size has more than the greatest capacity.
+use Prim.Native.Nat.{ℕ, _*_, _<_, _≤_}
+use mathlib.Core.Path.{_≡_, refl}
+use mathlib.Core.Bool.{Bool, true, false, cond}
+use native.Mathlib.Omega.{arith}
+use lib.Dec.{eqb}
+use borrow.Author.Tests.{eqb-true}
+use Rattle.operators.specs.Limits.{stateLength, streamLimit, mostStreams, capacity}
+
+-- what holds of every size with its capacity holds of 0, and of each size that a state may have
+by-size : (P : ℕ → Type 0) → (size : ℕ) → P 0 → (size ≡ stateLength → P streamLimit) → P (capacity size)
+unfolding capacity
+by-size P size none state = go (eqb size stateLength) refl
+  where
+    go : (b : Bool) → eqb size stateLength ≡ b → P (cond b streamLimit 0)
+    go true e = state (eqb-true size stateLength e)
+    go false e = none
+
+pub capacity-fits : (size : ℕ) → capacity size * 256 ≤ size
+capacity-fits size = by-size (λ (n : ℕ). n * 256 ≤ size) size (omega arith) (λ e. omega arith)
+
+pub capacity-few : (size : ℕ) → capacity size ≤ mostStreams
+capacity-few size = by-size (λ (n : ℕ). n ≤ mostStreams) size (omega arith) (λ e. omega arith)
