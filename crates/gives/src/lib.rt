@@ -111,10 +111,11 @@ fn unit_at(t: u64) -> Found
 
 // What the equation has at t.
 pub fn event_at(l: Look, a: &[u8], b: &[u8], t: u64) -> Found
-    requires { ⌜ (length (now a) ≡ 256) × (length (now b) ≡ 256) × (l .kept .since ≤ t) × (t ≤ horizon) ⌝ }
+    requires { ⌜ (length (now a) ≡ 256) × (length (now b) ≡ 256) × (l .stream .kept .since ≤ t) × (t ≤ horizon) ⌝ }
     ensures { λ r. ⌜ asOption r ≡ givesIn l (now (a .entry)) (now (b .entry)) t ⌝ }
 {
-    let op = l.op;
+    let s = l.stream;
+    let op = s.op;
     match op {
         Op::In => Found::Nothing,
         Op::Nil => Found::Nothing,
@@ -129,11 +130,11 @@ pub fn event_at(l: Look, a: &[u8], b: &[u8], t: u64) -> Found
             table::two_at(g, x, y)
         }
         Op::Last(_, _) => {
-            let k = l.kept;
+            let k = s.kept;
             last_at(k, a, b, t)
         }
         Op::Delay(_, _) => {
-            let k = l.kept;
+            let k = s.kept;
             delay_at(k, a, b, t)
         }
     }
