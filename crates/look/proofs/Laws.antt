@@ -14,7 +14,7 @@ use borrow.Author.Tests.{eq-eqb, ne-eqb}
 use Rattle.meaning.specs.Plan.{Eqn, input, nil, unit, one, two, last, delay}
 use Rattle.meaning.specs.Events.{horizon}
 use Rattle.machine.specs.State.{Kept, Cell, noKept}
-use Rattle.operators.specs.Operators.{Operator, operators, noOperator, eqnOf, numberOf}
+use Rattle.operators.specs.Operators.{groupOf, Operator, operators, noOperator, eqnOf, numberOf}
 use Rattle.operators.proofs.Laws.{last-number, delay-number, number-back}
 use Rattle.layout.specs.Record.{Raw, num, opF, aF, bF, outF, kF, flagF, priorFlagF, boundF, keptF, valueF, priorF}
 use Rattle.cells.specs.View.{ofCell}
@@ -88,7 +88,7 @@ module _ (r : Raw) where
   stored e q h = number-only (num aF r) (num bF r) (toZ w64 (num kF r)) (num opF r) (numberOf e) (ap numberOf (sym look-eqn ∙ sym q)) h
 
   pub kept-last : (x y : ℕ) → last x y ≡ lookOf r .eqn → lookOf r .kept ≡ record { prev = optional (num flagF r) (num keptF r); since = 0; value = none; prior = none }
-  unfolding keptOf numberOf
+  unfolding keptOf numberOf groupOf
   kept-last x y q =
       let e : num opF r ≡ 18 = stored (last x y) q (λ w. omega arith) in
       let z : min 0 (lookOf r .bound) ≡ 0 = omega arith in

@@ -18,6 +18,7 @@ use Rattle.machine.specs.Reach.{view, valueAt}
 use Rattle.machine.specs.Step.{later, absorb}
 use Rattle.machine.proofs.Window.{past-le}
 use Rattle.le.proofs.RoundTrip.{All}
+use Rattle.operators.specs.Operators.{groupOf, isLast, isDelay}
 use Rattle.layout.specs.Record.{Slot, Raw, num, withNum, opF, countF, flagF, priorFlagF, keptF, valueF, priorF}
 use Rattle.layout.proofs.Laws.{RawOk, SlotOk, num-small, num-ok}
 use Rattle.cells.specs.View.{flagOf, bitsOf}
