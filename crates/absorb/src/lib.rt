@@ -9,10 +9,10 @@ ghost use Rattle.machine.specs.State.{Cell};
 ghost use Rattle.machine.specs.Step as machine;
 ghost use Rattle.layout.specs.Record.{encRaw, decRaw};
 ghost use Rattle.cells.specs.View.{flagOf, bitsOf};
-ghost use Rattle.held.specs.Found.{asOption};
+ghost use Rattle.queue.specs.Found.{asOption};
 ghost use Rattle.look.specs.Look.{lookOf, equation, keptIn, argOf};
 ghost use Rattle.absorb.specs.Keep.{movedCell, movedOf, lastKept, valueKept, priorKept, delayKept, keptRow};
-use held::Found;
+use queue::Found;
 use look::Kept;
 use look::Look;
 
@@ -29,7 +29,7 @@ fn absorb_last(l: Look, a: &[u8]) -> Kept
 {
     let k = l.kept;
     let kept = k.prev;
-    let x = held::latest_before(a, l.bound);
+    let x = queue::latest_before(a, l.bound);
     let prev = table::or_else(x, kept);
     let value = k.value;
     let prior = k.prior;
@@ -47,8 +47,8 @@ fn latest_point(l: Look, o: &[u8], b: &[u8]) -> u64
     ensures { λ r. ⌜ r ≡ machine.later (movedOf l (now (o .entry))) (argOf (l .bbound) (now (b .entry))) ⌝ }
 {
     let k = l.kept;
-    let y = held::past_latest(b, l.bound);
-    let z = held::past_latest(o, l.bound);
+    let y = queue::past_latest(b, l.bound);
+    let z = queue::past_latest(o, l.bound);
     larger(k.since, larger(y, z))
 }
 
@@ -60,7 +60,7 @@ fn absorb_delay(l: Look, o: &[u8], a: &[u8], b: &[u8]) -> Kept
     let k = l.kept;
     let z = latest_point(l, o, b);
     let prev = k.prev;
-    let prior = held::find(a, gives::before(l.bound));
+    let prior = queue::find(a, gives::before(l.bound));
     if z == 0 {
         return Kept {
             prev: prev,

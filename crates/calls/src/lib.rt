@@ -88,7 +88,7 @@ fn waiting_slot(r: &[u8]) -> usize
     requires { ⌜ length (now r) ≡ 256 ⌝ }
     ensures { λ x. ⌜ (x ≡ waitingSlot (decRaw (now (r .entry)))) × (x ≤ 16) ⌝ }
 {
-    step::leading(r, step::held(r), layout::word_at(r, 2))
+    queue::first_from(r, queue::count(r), layout::word_at(r, 2))
 }
 
 fn collect_row(r: &[u8]) -> u32
@@ -99,7 +99,7 @@ fn collect_row(r: &[u8]) -> u32
     if out == 0 {
         return 13;
     }
-    if waiting_slot(r) < step::held(r) {
+    if waiting_slot(r) < queue::count(r) {
         return 0;
     }
     14

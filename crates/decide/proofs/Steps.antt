@@ -14,7 +14,7 @@ use Rattle.machine.specs.State.{Cell}
 use Rattle.machine.specs.Reach as machine
 use Rattle.operators.specs.Operators.{numberOf}
 use Rattle.layout.specs.Record.{Slot, noSlot}
-use Rattle.held.proofs.Turns.{left, left-none, left-more}
+use Rattle.queue.proofs.Turns.{left, left-none, left-more}
 use Rattle.decide.specs.Search.{pick, stamps, dueAt, test, candidateOf, nearer, search}
 use Rattle.look.proofs.Groups.{is-last, is-delay, is-other}
 use Rattle.decide.proofs.Sparse.{pick-le}

@@ -157,7 +157,7 @@ fn move_event(state: &mut [u8], n: usize, i: usize, t: u32, v: u64)
 {
     let at = i * 256;
     let end = at + 256;
-    step::push(&mut state[at..end], t, v);
+    queue::append(&mut state[at..end], t, v);
     absorb_row(state, n, i);
     step::tell_all(state, n, i as u64, t, v);
     release_all(state, n, i);

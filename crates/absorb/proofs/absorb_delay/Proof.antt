@@ -1,7 +1,7 @@
 use mathlib.Core.Path.{ap, _∙_}
 use denote.Ref.{now}
 use Rattle.meaning.specs.Events.{found}
-use Rattle.held.specs.Found.{asOption}
+use Rattle.queue.specs.Found.{asOption}
 use Rattle.look.specs.Look.{argOf}
 use Rattle.absorb.specs.Keep.{movedOf}
 use Rattle.absorb.proofs.Laws as law
@@ -13,7 +13,7 @@ use Rattle.absorb.proofs.absorb_delay.Lts as lts
 use Rattle.absorb.proofs.latest_point.Reads as latest-point-reads
 use Rattle.gives.proofs.before.Reads as before-reads
 use Rattle.gives.proofs.set_value.Reads as set-value-reads
-use Rattle.held.proofs.find.Reads as find-reads
+use Rattle.queue.proofs.find.Reads as find-reads
 
 -- src/lib.rt:61:9
 latest-point-requires : tie.Need-latest-point-requires

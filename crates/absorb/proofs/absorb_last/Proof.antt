@@ -2,13 +2,13 @@ use mathlib.Core.Path.{ap, _∙_}
 use mathlib.Core.Option.{Option}
 use lib.IntN.{ℤ}
 use Rattle.meaning.specs.Events.{orElse}
-use Rattle.held.specs.Found.{asOption}
+use Rattle.queue.specs.Found.{asOption}
 use borrow.Author.Needs.{needs}
 use Rattle.absorb.proofs.absorb_last.Statement.{statement}
 use Rattle.absorb.proofs.absorb_last.Tie as tie
 use Rattle.absorb.proofs.absorb_last.Reads as reads
 use Rattle.absorb.proofs.absorb_last.Lts as lts
-use Rattle.held.proofs.latest_before.Reads as latest-before-reads
+use Rattle.queue.proofs.latest_before.Reads as latest-before-reads
 use Rattle.table.proofs.or_else.Reads as or-else-reads
 
 -- src/lib.rt:32:9

@@ -5,7 +5,7 @@ use Rattle.absorb.proofs.latest_point.Tie as tie
 use Rattle.absorb.proofs.latest_point.Reads as reads
 use Rattle.absorb.proofs.latest_point.Lts as lts
 use Rattle.absorb.proofs.larger.Reads as larger-reads
-use Rattle.held.proofs.past_latest.Reads as past-latest-reads
+use Rattle.queue.proofs.past_latest.Reads as past-latest-reads
 
 -- src/lib.rt:50:9
 past-latest-requires : tie.Need-past-latest-requires

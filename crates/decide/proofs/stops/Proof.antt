@@ -13,7 +13,7 @@ use Rattle.decide.proofs.stops.Reads as reads
 use Rattle.decide.proofs.stops.Lts as lts
 use Rattle.gives.proofs.is_some.Reads as is-some-reads
 use Rattle.gives.proofs.point.Reads as point-reads
-use Rattle.held.proofs.find.Reads as find-reads
+use Rattle.queue.proofs.find.Reads as find-reads
 
 -- src/lib.rt:34:17
 returns : tie.Need-returns

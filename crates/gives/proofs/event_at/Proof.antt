@@ -12,7 +12,7 @@ use Rattle.gives.proofs.event_at.Lts as lts
 use Rattle.gives.proofs.delay_at.Reads as delay-at-reads
 use Rattle.gives.proofs.last_at.Reads as last-at-reads
 use Rattle.gives.proofs.unit_at.Reads as unit-at-reads
-use Rattle.held.proofs.find.Reads as find-reads
+use Rattle.queue.proofs.find.Reads as find-reads
 use Rattle.table.proofs.one_at.Reads as one-at-reads
 use Rattle.table.proofs.two_at.Reads as two-at-reads
 

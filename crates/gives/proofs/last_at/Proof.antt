@@ -6,14 +6,14 @@ use Rattle.meaning.specs.Events.{found, orElse}
 use Rattle.meaning.specs.Table.{latest, last-at}
 use Rattle.layout.specs.Record.{decRaw}
 use Rattle.cells.specs.Back.{heldOf}
-use Rattle.held.specs.Found.{asOption}
+use Rattle.queue.specs.Found.{asOption}
 use borrow.Author.Needs.{needs}
 use Rattle.gives.proofs.last_at.Statement.{statement}
 use Rattle.gives.proofs.last_at.Tie as tie
 use Rattle.gives.proofs.last_at.Reads as reads
 use Rattle.gives.proofs.last_at.Lts as lts
-use Rattle.held.proofs.find.Reads as find-reads
-use Rattle.held.proofs.latest_before.Reads as latest-before-reads
+use Rattle.queue.proofs.find.Reads as find-reads
+use Rattle.queue.proofs.latest_before.Reads as latest-before-reads
 use Rattle.table.proofs.or_else.Reads as or-else-reads
 
 -- src/lib.rt:80:9

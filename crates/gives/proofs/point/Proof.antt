@@ -5,7 +5,7 @@ use Rattle.gives.proofs.point.Statement.{statement}
 use Rattle.gives.proofs.point.Tie as tie
 use Rattle.gives.proofs.point.Reads as reads
 use Rattle.gives.proofs.point.Lts as lts
-use Rattle.held.proofs.past_latest.Reads as past-latest-reads
+use Rattle.queue.proofs.past_latest.Reads as past-latest-reads
 
 -- src/lib.rt:43:9
 past-latest-requires : tie.Need-past-latest-requires

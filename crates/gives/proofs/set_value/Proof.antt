@@ -3,7 +3,7 @@ use denote.Ref.{now}
 use Rattle.meaning.specs.Events.{found}
 use Rattle.layout.specs.Record.{decRaw}
 use Rattle.cells.specs.Back.{heldOf}
-use Rattle.held.specs.Found.{asOption}
+use Rattle.queue.specs.Found.{asOption}
 use Rattle.gives.proofs.Laws as law
 use borrow.Author.Needs.{needs}
 use Rattle.gives.proofs.set_value.Statement.{statement}
@@ -11,7 +11,7 @@ use Rattle.gives.proofs.set_value.Tie as tie
 use Rattle.gives.proofs.set_value.Reads as reads
 use Rattle.gives.proofs.set_value.Lts as lts
 use Rattle.gives.proofs.before.Reads as before-reads
-use Rattle.held.proofs.find.Reads as find-reads
+use Rattle.queue.proofs.find.Reads as find-reads
 use Rattle.table.proofs.or_else.Reads as or-else-reads
 
 -- src/lib.rt:28:9

@@ -12,35 +12,27 @@ use Rattle.step.proofs.reads.Reads as reads
 use Rattle.step.proofs.reads.Lts as lts
 use Rattle.layout.proofs.byte_at.Reads as byte-at-reads
 
--- src/lib.rt:30:9
 byte-at-requires : tie.Need-byte-at-requires
 byte-at-requires c κs = search needs
 
--- src/lib.rt:32:9
 returns : tie.Need-returns
 returns c = let a = c .before .before .before .args in let p = now (a .r) in let r = decRaw p in sym (Leaves.reads-low (a .s) r (omega arith))
 
--- src/lib.rt:35:9
 returns-2 : tie.Need-returns-2
 returns-2 c = let a = c .before .before .before .before .args in let p = now (a .r) in let r = decRaw p in sym (Leaves.reads-high (a .s) r (omega arith))
 
--- src/lib.rt:37:9
 byte-at-requires-2 : tie.Need-byte-at-requires-2
 byte-at-requires-2 c κs = search needs
 
--- src/lib.rt:39:9
 returns-3 : tie.Need-returns-3
 returns-3 c = let a = c .before .before .before .before .before .before .args in let p = now (a .r) in let r = decRaw p in sym (Leaves.reads-a (a .s) r (omega arith) (omega arith) (omega arith))
 
--- src/lib.rt:42:9
 returns-4 : tie.Need-returns-4
 returns-4 c = let a = c .before .before .before .before .before .before .before .args in let p = now (a .r) in let r = decRaw p in sym (Leaves.reads-one (a .s) r (omega arith) (omega arith) (λ e. c .before .if3 .left (c .before .before .byte-at2 .ensures .0 ∙ e)) (omega arith))
 
--- src/lib.rt:44:9
 byte-at-requires-3 : tie.Need-byte-at-requires-3
 byte-at-requires-3 c κs = search needs
 
--- src/lib.rt:26:1
 returns-5 : tie.Need-returns-5
 returns-5 c = let a = c .before .before .before .before .before .before .before .before .args in let p = now (a .r) in let r = decRaw p in ap (λ x. eqb x (a .s)) (c .byte-at3 .ensures .0) ∙ sym (Leaves.reads-b (a .s) r (omega arith) (omega arith) (λ e. c .before .before .if3 .left (c .before .before .before .byte-at2 .ensures .0 ∙ e)) (omega arith))
 

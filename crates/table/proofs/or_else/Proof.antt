@@ -1,6 +1,6 @@
 use mathlib.Core.Path.{ap, _∙_}
 use mathlib.Core.Option.{some}
-use Rattle.held.specs.Found.{asOption}
+use Rattle.queue.specs.Found.{asOption}
 use Rattle.table.proofs.Rows
 use borrow.Author.Needs.{needs}
 use Rattle.table.proofs.or_else.Statement.{statement}

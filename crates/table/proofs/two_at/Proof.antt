@@ -1,5 +1,5 @@
 use mathlib.Core.Path.{_∙_}
-use Rattle.held.specs.Found.{asOption}
+use Rattle.queue.specs.Found.{asOption}
 use Rattle.table.proofs.Rows
 use borrow.Author.Needs.{needs}
 use Rattle.table.proofs.two_at.Statement.{statement}
