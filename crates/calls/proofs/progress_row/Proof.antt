@@ -14,30 +14,24 @@ use Rattle.calls.proofs.progress_row.Lts as lts
 use Rattle.layout.proofs.byte_at.Reads as byte-at-reads
 use Rattle.layout.proofs.word_at.Reads as word-at-reads
 
--- src/lib.rt:48:9
 byte-at-requires : tie.Need-byte-at-requires
 byte-at-requires c κs = search needs
 
--- src/lib.rt:50:9
 returns : tie.Need-returns
 unfolding progressRow
 returns c = let a = c .before .before .before .args in let p = now (a .r) in let r = decRaw p in sym (rw (ne-eqb (num opF r) 1 (λ e. c .if1 .taken (c .before .byte-at .ensures .0 ∙ e))))
 
--- src/lib.rt:53:9
 returns-2 : tie.Need-returns-2
 unfolding progressRow
 returns-2 c = let a = c .before .before .before .before .args in let p = now (a .r) in let r = decRaw p in sym (rw (eq-eqb (num opF r) 1 (omega arith), lt-ltb horizon (a .y) (omega arith)))
 
--- src/lib.rt:55:9
 word-at-requires : tie.Need-word-at-requires
 word-at-requires c κs = search needs
 
--- src/lib.rt:57:9
 returns-3 : tie.Need-returns-3
 unfolding progressRow
 returns-3 c = let a = c .before .before .before .before .before .before .args in let p = now (a .r) in let r = decRaw p in sym (rw (eq-eqb (num opF r) 1 (omega arith), le-ltb horizon (a .y) (omega arith), lt-ltb (a .y) (num boundF r) (omega arith)))
 
--- src/lib.rt:44:1
 returns-4 : tie.Need-returns-4
 unfolding progressRow
 returns-4 c = let a = c .before .before .before .before .before .before .args in let p = now (a .r) in let r = decRaw p in sym (rw (eq-eqb (num opF r) 1 (omega arith), le-ltb horizon (a .y) (omega arith), le-ltb (a .y) (num boundF r) (omega arith)))

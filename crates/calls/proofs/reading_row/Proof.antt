@@ -14,34 +14,27 @@ use Rattle.calls.proofs.reading_row.Lts as lts
 use Rattle.layout.proofs.byte_at.Reads as byte-at-reads
 use Rattle.layout.proofs.word_at.Reads as word-at-reads
 
--- src/lib.rt:15:9
 byte-at-requires : tie.Need-byte-at-requires
 byte-at-requires c κs = search needs
 
--- src/lib.rt:17:9
 returns : tie.Need-returns
 unfolding readingRow
 returns c = let a = c .before .before .before .args in let p = now (a .r) in let r = decRaw p in sym (rw (ne-eqb (num opF r) 1 (λ e. c .if1 .taken (c .before .byte-at .ensures .0 ∙ e))))
 
--- src/lib.rt:19:9
 word-at-requires : tie.Need-word-at-requires
 word-at-requires c κs = search needs
 
--- src/lib.rt:21:9
 returns-2 : tie.Need-returns-2
 unfolding readingRow
 returns-2 c = let a = c .before .before .before .before .before .args in let p = now (a .r) in let r = decRaw p in sym (rw (eq-eqb (num opF r) 1 (omega arith), lt-ltb (a .t) (num boundF r) (omega arith)))
 
--- src/lib.rt:23:9
 byte-at-requires-2 : tie.Need-byte-at-requires-2
 byte-at-requires-2 c κs = search needs
 
--- src/lib.rt:25:9
 returns-3 : tie.Need-returns-3
 unfolding readingRow
 returns-3 c = let a = c .before .before .before .before .before .before .before .args in let p = now (a .r) in let r = decRaw p in sym (rw (eq-eqb (num opF r) 1 (omega arith), le-ltb (a .t) (num boundF r) (omega arith), le-leb room (num countF r) (omega arith)))
 
--- src/lib.rt:11:1
 returns-4 : tie.Need-returns-4
 unfolding readingRow
 returns-4 c = let a = c .before .before .before .before .before .before .before .args in let p = now (a .r) in let r = decRaw p in sym (rw (eq-eqb (num opF r) 1 (omega arith), le-ltb (a .t) (num boundF r) (omega arith), lt-leb room (num countF r) (omega arith)))
