@@ -9,11 +9,11 @@ ghost use Rattle.machine.specs.State.{Cell};
 ghost use Rattle.machine.specs.Step as machine;
 ghost use Rattle.layout.specs.Record.{encRaw, decRaw};
 ghost use Rattle.cells.specs.View.{flagOf, bitsOf};
-ghost use Rattle.held.specs.Found.{asOption};
+ghost use Rattle.queue.specs.Found.{asOption};
 ghost use Rattle.look.specs.Look.{lookOf, equation, keptIn};
 ghost use Rattle.gives.specs.Near.{holding};
 ghost use Rattle.absorb.specs.Keep.{movedCell, movedOf, valueKept, delayKept, keptRow};
-use held::Found;
+use queue::Found;
 use look::Kept;
 use look::Op;
 
@@ -23,7 +23,7 @@ fn absorb_last(k: Kept, y: u64, a: &[u8]) -> Kept
     ensures { λ r. ⌜ ((es : List Event) (b : Cell) → keptIn r ≡ machine.absorb (last 0 0) (movedCell y es (keptIn k)) (holding (now (a .entry))) b) ⌝ }
 {
     let kept = k.prev;
-    let x = held::latest_before(a, y);
+    let x = queue::latest_before(a, y);
     let prev = table::or_else(x, kept);
     let value = k.value;
     let prior = k.prior;
@@ -40,8 +40,8 @@ fn latest_point(k: Kept, y: u64, o: &[u8], b: &[u8]) -> u64
     requires { ⌜ (length (now o) ≡ 256) × (length (now b) ≡ 256) ⌝ }
     ensures { λ r. ⌜ r ≡ machine.later (movedOf k y (now (o .entry))) (holding (now (b .entry))) ⌝ }
 {
-    let reset = held::past_latest(b, y);
-    let own = held::past_latest(o, y);
+    let reset = queue::past_latest(b, y);
+    let own = queue::past_latest(o, y);
     look::larger(k.since, look::larger(reset, own))
 }
 
@@ -52,7 +52,7 @@ fn absorb_delay(k: Kept, y: u64, o: &[u8], a: &[u8], b: &[u8]) -> Kept
 {
     let z = latest_point(k, y, o, b);
     let prev = k.prev;
-    let prior = held::find(a, gives::before(y));
+    let prior = queue::find(a, gives::before(y));
     if z == 0 {
         return Kept {
             prev: prev,

@@ -13,7 +13,7 @@ use Rattle.meaning.specs.Events.{has}
 use Rattle.machine.specs.State.{Cell}
 use Rattle.machine.specs.Reach as machine
 use Rattle.layout.specs.Record.{Slot, noSlot}
-use Rattle.held.proofs.Turns.{left, left-none, left-more}
+use Rattle.queue.proofs.Turns.{left, left-none, left-more}
 use Rattle.decide.specs.Search.{pick, stamps, dueAt, test, candidateOf, nearer, search}
 use Rattle.decide.proofs.Sparse.{pick-le}
 

@@ -11,7 +11,7 @@ ghost use Rattle.look.specs.Look.{lookOf, equation, ownOf, argCell, argOf, Soun
 ghost use Rattle.gives.specs.Near.{keeping, holding};
 ghost use Rattle.decide.specs.Search.{dueAt};
 ghost use Rattle.decide.specs.Near.{testIn, nearerIn, candidateIn, searchIn, reachIn, firstIn, nextIn, toNext, knownTo};
-use held::Found;
+use queue::Found;
 use limits::Bound;
 use look::Kept;
 use look::Look;
@@ -41,7 +41,7 @@ fn stops(l: Look, b: &[u8], t: u64) -> bool
             if t <= l.abound {
                 return false;
             }
-            let y = held::find(b, t);
+            let y = queue::find(b, t);
             gives::is_some(y)
         }
         Op::Delay(_, _) => {
@@ -120,7 +120,7 @@ fn scan(give: bool, l: Look, a: &[u8], b: &[u8], q: &[u8], hi: u64) -> u64
     requires { ⌜ Within l × (length (now a) ≡ 256) × (length (now b) ≡ 256) × (length (now q) ≡ 256) × (hi ≤ horizon) ⌝ }
     ensures { λ r. ⌜ (r ≡ searchIn give l (now (a .entry)) (now (b .entry)) hi (heldOf (decRaw (now (q .entry))))) × (r ≤ hi) ⌝ }
 {
-    let n = step::held(q);
+    let n = queue::count(q);
     let mut best = hi;
     let mut i = 0;
     while i < n {

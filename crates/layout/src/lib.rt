@@ -50,7 +50,7 @@ pub const PRIOR: usize = 5;
 pub const REST: usize = 6;
 
 // Record i of a state.
-pub fn record(state: &[u8], i: usize) -> &[u8]
+pub fn row_at(state: &[u8], i: usize) -> &[u8]
     requires { ⌜ i * 256 + 256 ≤ length (now state) ⌝ }
     ensures { λ r. ⌜ (now r ≡ part (now (state .entry)) (i * 256) 256) × (length (now r) ≡ 256) ⌝ }
 {

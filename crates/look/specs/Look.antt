@@ -8,7 +8,7 @@ use Rattle.meaning.specs.Events.{Event, horizon}
 use Rattle.machine.specs.State.{Kept, Cell, noKept}
 use Rattle.layout.specs.Record.{Raw, decRaw}
 use Rattle.cells.specs.Back.{toCell, heldOf}
-use Rattle.held.specs.Found.{asOption}
+use Rattle.queue.specs.Found.{asOption}
 use Rattle.table.specs.Named.{unary, binary}
 use Rattle.look.specs.declared.Op.{Op}
 use Rattle.look.specs.declared.Op.the-variants.{In, Nil, Unit, One, Two, Last, Delay}

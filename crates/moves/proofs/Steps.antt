@@ -21,8 +21,10 @@ use Rattle.cells.specs.Back.{heldOf}
 use Rattle.look.proofs.Laws.{keeps}
 use Rattle.absorb.specs.Keep.{movedCell, keptRow}
 use Rattle.absorb.proofs.Laws.{row-none}
-use Rattle.step.specs.Step.{pushed, toldRow, leastRow, waitingRow, below, released, releasedRow}
-use Rattle.step.proofs.Leaves.{push-ok, told-ok}
+use Rattle.queue.specs.Queue.{pushed, below, released}
+use Rattle.step.specs.Step.{toldRow, leastRow, waitingRow, releasedRow}
+use Rattle.queue.proofs.Drops.{push-ok}
+use Rattle.step.proofs.Leaves.{told-ok}
 use Rattle.moves.specs.Move.{argIn, ownIn, otherIn, keptRaw, absorbedRaw, releasedArgs, releasedAll, silentRaw, eventRaw}
 use Rattle.moves.proofs.Fits.{KeptFits, look-holds, look-kept, absorb-fits, kept-ok}
 

@@ -14,7 +14,8 @@ use Rattle.layout.specs.Record.{Raws, num, withNum, rowAt, change, changeAll, c
 use Rattle.cells.specs.Back.{heldOf}
 use Rattle.look.specs.Look.{lookOf, ownCell}
 use Rattle.absorb.specs.Keep.{movedCell, keptRow}
-use Rattle.step.specs.Step.{pushed, toldRow, releasedRow}
+use Rattle.queue.specs.Queue.{pushed}
+use Rattle.step.specs.Step.{toldRow, releasedRow}
 
 -- an argument's record, of n; one that is not there is read as the first
 abbrev pub argIn : ℕ → ℕ → ℕ

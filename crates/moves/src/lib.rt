@@ -192,7 +192,7 @@ fn move_event(state: &mut [u8], n: usize, i: usize, s: Stream, t: u32, v: u64)
     let at = i * 256;
     let end = at + 256;
     let op = s.op;
-    step::push(&mut state[at..end], t, v);
+    queue::append(&mut state[at..end], t, v);
     absorb_row(state, n, i, s, t as u64 + 1);
     step::tell_all(state, n, i as u64, t, v);
     release_all(state, n, i, op);

@@ -30,7 +30,8 @@ use Rattle.look.specs.Look.{lookOf}
 use Rattle.look.proofs.Laws.{look-cell}
 use Rattle.absorb.specs.Keep.{movedCell, keptRow}
 use Rattle.absorb.proofs.Laws.{absorb-near, kept-cell}
-use Rattle.step.specs.Step.{pushed, toldRow, releasedRow}
+use Rattle.queue.specs.Queue.{pushed}
+use Rattle.step.specs.Step.{toldRow, releasedRow}
 use Rattle.moves.specs.Move.{argIn, ownIn, otherIn, aheadRaw, boundRaw, canRaw, keptRaw, absorbedRaw, releasedArgs, releasedAll, silentRaw, eventRaw, stepRaw, movedRaw}
 use Rattle.refine.proofs.Queues.{bound-of, silent-is, push-of}
 use Rattle.refine.proofs.Whole.{row-of, change-of, tell-of, release-row-of}

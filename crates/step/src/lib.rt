@@ -4,24 +4,9 @@ ghost use Prim.Native.Nat.{_*_, _+_, _≤_, _<_, min, max};
 ghost use lib.ListN.{length};
 ghost use Rattle.layout.specs.Record as layout;
 ghost use Rattle.layout.specs.Record.{encRaw, decRaw, encode, decode, change, changeAll};
-ghost use Rattle.step.specs.Step.{pushed, readsRow, toldLast, toldValue, toldPrior, toldSince, toldDelay, toldRow, leastRow, waitingRow, below, released, releasedRow, offered};
+ghost use Rattle.step.specs.Step.{readsRow, toldLast, toldValue, toldPrior, toldSince, toldDelay, toldRow, leastRow, waitingRow, releasedRow, offered};
 use limits::Bound;
-use limits::Queue;
 use operators::Group;
-
-// Puts the event (t, v) after the held ones of a record, and its bound past it. A full record stays as it is.
-pub fn push(r: &mut [u8], t: u32, v: u64)
-    requires { ⌜ length (now r) ≡ 256 ⌝ }
-    ensures { λ _. ⌜ now (r .exit) ≡ encRaw (pushed t v (decRaw (now (r .entry)))) ⌝ }
-{
-    let n = layout::byte_at(r, 4);
-    if n as usize >= Queue::ROOM {
-        return;
-    }
-    layout::put_slot(r, n as usize, t as u64, v);
-    layout::put_byte(r, 4, n + 1);
-    layout::put_word(r, 1, t as u64 + 1);
-}
 
 // Whether a record reads stream s.
 pub fn reads(r: &[u8], s: u64) -> bool
@@ -195,48 +180,6 @@ fn waiting(r: &[u8], least: u64) -> u64
     least
 }
 
-// How many of the first n slots, one after the other, lie below w.
-pub fn leading(r: &[u8], n: usize, w: u64) -> usize
-    requires { ⌜ (length (now r) ≡ 256) × (n ≤ 16) ⌝ }
-    ensures { λ x. ⌜ (x ≡ below w n (decRaw (now (r .entry)) .slots)) × (x ≤ n) ⌝ }
-{
-    let mut i = 0;
-    while i < n {
-        if w <= layout::stamp_at(r, i) {
-            return i;
-        }
-        i += 1;
-    }
-    n
-}
-
-// How many events a record holds: never more than there is room for.
-pub fn held(r: &[u8]) -> usize
-    requires { ⌜ length (now r) ≡ 256 ⌝ }
-    ensures { λ x. ⌜ (x ≡ min (layout.num 4 (decRaw (now (r .entry)))) 16) × (x ≤ 16) ⌝ }
-{
-    let n = layout::byte_at(r, 4) as usize;
-    if n < Queue::ROOM {
-        return n;
-    }
-    Queue::ROOM
-}
-
-// Lets the held events below w go.
-pub fn release(r: &mut [u8], w: u64)
-    requires { ⌜ length (now r) ≡ 256 ⌝ }
-    ensures { λ _. ⌜ now (r .exit) ≡ encRaw (released w (decRaw (now (r .entry)))) ⌝ }
-{
-    let n = layout::byte_at(r, 4);
-    let m = held(r);
-    let k = leading(r, m, w);
-    if k == 0 {
-        return;
-    }
-    layout::drop_slots(r, k, m);
-    layout::put_byte(r, 4, n - k as u64);
-}
-
 // Lets go what nobody waits for of stream i.
 pub fn release_row(state: &mut [u8], n: usize, i: usize)
     requires { ⌜ (n * 256 ≤ length (now state)) × (i < n) ⌝ }
@@ -251,7 +194,7 @@ pub fn release_row(state: &mut [u8], n: usize, i: usize)
     let first = layout::stamp_at(&state[at..end], 0);
     let least = least_reader(state, n, i as u64, first);
     let w = waiting(&state[at..end], least);
-    release(&mut state[at..end], w);
+    queue::drop_below(&mut state[at..end], w);
 }
 
 // Appends the event (t, v) to stream i, tells its readers, and lets go what nobody waits for.
@@ -261,7 +204,7 @@ pub fn offer(state: &mut [u8], n: usize, i: usize, t: u32, v: u64)
 {
     let at = i * 256;
     let end = at + 256;
-    push(&mut state[at..end], t, v);
+    queue::append(&mut state[at..end], t, v);
     tell_all(state, n, i as u64, t, v);
     release_row(state, n, i);
 }

@@ -1,7 +1,7 @@
 use mathlib.Core.Path.{ap, _∙_}
 use denote.Ref.{now}
 use Rattle.meaning.specs.Events.{found}
-use Rattle.held.specs.Found.{asOption}
+use Rattle.queue.specs.Found.{asOption}
 use Rattle.gives.specs.Near.{holding}
 use Rattle.absorb.specs.Keep.{movedOf}
 use Rattle.absorb.proofs.Laws as law

@@ -2,7 +2,7 @@ use mathlib.Core.Path.{ap, _∙_}
 use mathlib.Core.Option.{Option}
 use lib.IntN.{ℤ}
 use Rattle.meaning.specs.Events.{orElse}
-use Rattle.held.specs.Found.{asOption}
+use Rattle.queue.specs.Found.{asOption}
 use borrow.Author.Needs.{needs}
 use Rattle.absorb.proofs.absorb_last.Statement.{statement}
 use Rattle.absorb.proofs.absorb_last.Tie as tie

@@ -2,8 +2,8 @@ use mathlib.Core.Path.{sym, ap, _∙_}
 use mir.Syntax.{w64}
 use mir.Val.{ofZ}
 use Rattle.cells.specs.View.{bitsOf}
-use Rattle.held.specs.declared.Found.{Found}
-use Rattle.held.specs.Found.{asOption}
+use Rattle.queue.specs.declared.Found.{Found}
+use Rattle.queue.specs.Found.{asOption}
 use Rattle.table.proofs.Rows.{back}
 use borrow.Author.Needs.{needs}
 use Rattle.absorb.proofs.bits_of.Statement.{statement}

@@ -1,7 +1,7 @@
 use mathlib.Core.Path.{ap, _∙_}
 use denote.Ref.{now}
 use Rattle.machine.specs.Reach as machine
-use Rattle.held.specs.Found.{asOption}
+use Rattle.queue.specs.Found.{asOption}
 use Rattle.table.proofs.Rows.{back}
 use Rattle.look.specs.Look.{equation, ownOf, argOf}
 use Rattle.decide.proofs.Searches as law

@@ -3,7 +3,7 @@ use mathlib.Core.Path.{_≡_, refl, sym, ap, _∙_}
 use denote.Ref.{now}
 use Rattle.layout.specs.Record.{decRaw}
 use Rattle.layout.proofs.Slots.{slots-many}
-use Rattle.held.proofs.Turns.{left, left-all}
+use Rattle.queue.proofs.Turns.{left, left-all}
 use Rattle.look.specs.Look.{equation, ownOf, argOf}
 use Rattle.decide.specs.Near.{searchIn}
 use Rattle.decide.proofs.Steps as step

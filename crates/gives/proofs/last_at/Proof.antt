@@ -6,7 +6,7 @@ use Rattle.meaning.specs.Events.{found, orElse}
 use Rattle.meaning.specs.Table.{latest, last-at}
 use Rattle.layout.specs.Record.{decRaw}
 use Rattle.cells.specs.Back.{heldOf}
-use Rattle.held.specs.Found.{asOption}
+use Rattle.queue.specs.Found.{asOption}
 use borrow.Author.Needs.{needs}
 use Rattle.gives.proofs.last_at.Statement.{statement}
 use Rattle.gives.proofs.last_at.Tie as tie

@@ -3,7 +3,7 @@ use denote.Ref.{now}
 use Rattle.meaning.specs.Events.{found}
 use Rattle.layout.specs.Record.{decRaw}
 use Rattle.cells.specs.Back.{heldOf}
-use Rattle.held.specs.Found.{asOption}
+use Rattle.queue.specs.Found.{asOption}
 use Rattle.gives.proofs.Laws as law
 use borrow.Author.Needs.{needs}
 use Rattle.gives.proofs.set_value.Statement.{statement}

@@ -1,8 +1,8 @@
 use mathlib.Core.Path.{sym, ap, _∙_}
 use lib.IntN.{pos}
 use lib.Signed.{ltZ}
-use Rattle.held.specs.declared.Found.{Found}
-use Rattle.held.specs.Found.{asOption}
+use Rattle.queue.specs.declared.Found.{Found}
+use Rattle.queue.specs.Found.{asOption}
 use Rattle.table.proofs.Rows.{back}
 use Rattle.gives.specs.Near.{size}
 use Rattle.gives.proofs.Laws as law

@@ -4,7 +4,7 @@ use denote.Ref.{now}
 use Rattle.layout.specs.Record.{decode}
 use Rattle.layout.proofs.Laws.{lent}
 use Rattle.look.specs.Look.{equation, keptIn}
-use Rattle.step.specs.Step.{pushed}
+use Rattle.queue.specs.Queue.{pushed}
 use Rattle.moves.proofs.Steps
 use borrow.Author.Needs.{needs}
 use native.Mathlib.Omega.{arith}

@@ -4,8 +4,8 @@ use mathlib.Core.Bool.{cond}
 use mathlib.Core.Option.{Option, none, some}
 use lib.Dec.{ltb}
 use lib.IntN.{ℤ}
-use Rattle.held.specs.declared.Found.{Found}
-use Rattle.held.specs.declared.Found.the-variants.{Value, Nothing}
+use Rattle.queue.specs.declared.Found.{Found}
+use Rattle.queue.specs.declared.Found.the-variants.{Value, Nothing}
 
 abbrev pub asOption : Found → Option ℤ
 asOption (Value v) = some v

@@ -3,10 +3,10 @@ use denote.Ref.{now}
 use Rattle.layout.proofs.Laws.{record-part}
 use borrow.Author.Needs.{needs}
 use native.Mathlib.Omega.{arith}
-use Rattle.layout.proofs.record.Statement.{statement}
-use Rattle.layout.proofs.record.Tie as tie
-use Rattle.layout.proofs.record.Reads as reads
-use Rattle.layout.proofs.record.Lts as lts
+use Rattle.layout.proofs.row_at.Statement.{statement}
+use Rattle.layout.proofs.row_at.Tie as tie
+use Rattle.layout.proofs.row_at.Reads as reads
+use Rattle.layout.proofs.row_at.Lts as lts
 
 mul-at : tie.Need-mul-at
 mul-at c = search needs
@@ -26,6 +26,6 @@ part-result-end c = search needs
 returns : tie.Need-returns
 returns c = let a = c .before .args in record-part (now (a .state)) (a .i) (a .i * 256 + 256 - a .i * 256) (omega arith) (omega arith)
 
-pub record-spec : {M : Type 1} → statement M
-record-spec =
+pub row-at-spec : {M : Type 1} → statement M
+row-at-spec =
     tie.close (tie.spec mul-at add-end sub-result part-result-start part-result-end returns)

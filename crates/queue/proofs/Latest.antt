@@ -13,7 +13,7 @@ use Rattle.meaning.specs.Table.{latest}
 use Rattle.meaning.proofs.Tests.{Is, yes!, no!, look}
 use Rattle.machine.specs.Reach.{pastLatest}
 use Rattle.machine.proofs.Window.{past-le, past-max, past-hit, past-is}
-use Rattle.held.specs.Found.{passed}
+use Rattle.queue.specs.Found.{passed}
 
 -- the stream of one event more
 found-cases : (P : Option ℤ → Type 0) (e : Event) (es : List Event) (t : ℕ) → (e .stamp ≡ t → P (some (e .value))) → ((e .stamp ≡ t → ⊥) → P (found es t)) → P (found (e ∷ es) t)

@@ -14,8 +14,8 @@ use Rattle.cells.specs.Back.{eventOf, heldOf}
 use Rattle.meaning.specs.Events.{Event, found}
 use Rattle.machine.specs.State.{room}
 use Rattle.machine.specs.Reach.{pastLatest}
-use Rattle.held.specs.Found.{passed}
-use Rattle.held.proofs.Latest.{past-cons, past-none}
+use Rattle.queue.specs.Found.{passed}
+use Rattle.queue.proofs.Latest.{past-cons, past-none}
 
 -- the events in the slots from i on, of n
 abbrev pub left : List Slot → ℕ → ℕ → List Event
