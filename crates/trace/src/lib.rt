@@ -49,7 +49,7 @@ fn stamp_after(text: &[u8], stream: u32, at: usize) -> Line
     let Found::Number(t, p) = lines::whole(text, at, 10) else {
         return Line::Bad;
     };
-    if t < Bound::horizon() {
+    if t < Bound::HORIZON {
         return value_after(text, stream, t as u32, p);
     }
     Line::Bad
