@@ -13,7 +13,7 @@ fn reading_row(r: &[u8], t: u32) -> u32
     requires { ⌜ length (now r) ≡ 256 ⌝ }
     ensures { λ x. ⌜ x ≡ readingRow (decRaw (now (r .entry))) t ⌝ }
 {
-    let op = layout::byte_at(r, 0);
+    let op = layout::byte_at(r, layout::OP);
     if !operators::is_in(operators::group_of(op)) {
         return 7;
     }
@@ -44,7 +44,7 @@ fn progress_row(r: &[u8], y: u64) -> u32
     requires { ⌜ length (now r) ≡ 256 ⌝ }
     ensures { λ x. ⌜ x ≡ progressRow (decRaw (now (r .entry))) y ⌝ }
 {
-    let op = layout::byte_at(r, 0);
+    let op = layout::byte_at(r, layout::OP);
     if !operators::is_in(operators::group_of(op)) {
         return 7;
     }

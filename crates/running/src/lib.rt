@@ -124,8 +124,8 @@ pub fn is_equation(state: &[u8], n: usize, stream: u32) -> bool
     if n <= i {
         return false;
     }
-    let at = i * 256;
-    let end = at + 256;
-    let op = layout::byte_at(&state[at..end], 0);
+    let at = i * layout::RECORD;
+    let end = at + layout::RECORD;
+    let op = layout::byte_at(&state[at..end], layout::OP);
     !operators::is_in(operators::group_of(op))
 }

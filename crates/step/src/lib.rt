@@ -13,18 +13,18 @@ pub fn reads(r: &[u8], s: u64) -> bool
     requires { ⌜ length (now r) ≡ 256 ⌝ }
     ensures { λ x. ⌜ x ≡ readsRow s (decRaw (now (r .entry))) ⌝ }
 {
-    let g = operators::group_of(layout::byte_at(r, 0));
+    let g = operators::group_of(layout::byte_at(r, layout::OP));
     if !operators::takes_first(g) {
         return false;
     }
-    let a = layout::byte_at(r, 1);
+    let a = layout::byte_at(r, layout::A);
     if a == s {
         return true;
     }
     if !operators::takes_second(g) {
         return false;
     }
-    let b = layout::byte_at(r, 2);
+    let b = layout::byte_at(r, layout::B);
     b == s
 }
 
@@ -33,12 +33,12 @@ fn tell_last(r: &mut [u8], s: u64, v: u64)
     requires { ⌜ length (now r) ≡ 256 ⌝ }
     ensures { λ _. ⌜ now (r .exit) ≡ encRaw (toldLast s v (decRaw (now (r .entry)))) ⌝ }
 {
-    let a = layout::byte_at(r, 1);
+    let a = layout::byte_at(r, layout::A);
     if a != s {
         return;
     }
-    layout::put_byte(r, 5, 1);
-    layout::put_word(r, 3, v);
+    layout::put_byte(r, layout::FLAG, 1);
+    layout::put_word(r, layout::KEPT, v);
 }
 
 // A delay keeps its first argument's event at its latest set point.
@@ -46,16 +46,16 @@ fn tell_value(r: &mut [u8], s: u64, t: u32, v: u64)
     requires { ⌜ length (now r) ≡ 256 ⌝ }
     ensures { λ _. ⌜ now (r .exit) ≡ encRaw (toldValue s t v (decRaw (now (r .entry)))) ⌝ }
 {
-    let a = layout::byte_at(r, 1);
+    let a = layout::byte_at(r, layout::A);
     if a != s {
         return;
     }
-    let since = layout::word_at(r, 3);
+    let since = layout::word_at(r, layout::KEPT);
     if since != t as u64 + 1 {
         return;
     }
-    layout::put_byte(r, 5, 1);
-    layout::put_word(r, 4, v);
+    layout::put_byte(r, layout::FLAG, 1);
+    layout::put_word(r, layout::VALUE, v);
 }
 
 // A delay keeps its first argument's event just below its bound.
@@ -63,16 +63,16 @@ fn tell_prior(r: &mut [u8], s: u64, t: u32, v: u64)
     requires { ⌜ length (now r) ≡ 256 ⌝ }
     ensures { λ _. ⌜ now (r .exit) ≡ encRaw (toldPrior s t v (decRaw (now (r .entry)))) ⌝ }
 {
-    let a = layout::byte_at(r, 1);
+    let a = layout::byte_at(r, layout::A);
     if a != s {
         return;
     }
-    let bound = layout::word_at(r, 1);
+    let bound = layout::word_at(r, layout::BOUND);
     if bound != t as u64 + 1 {
         return;
     }
-    layout::put_byte(r, 6, 1);
-    layout::put_word(r, 5, v);
+    layout::put_byte(r, layout::PRIOR_FLAG, 1);
+    layout::put_word(r, layout::PRIOR, v);
 }
 
 // A delay has a new set point, just below its bound: its first argument's event there is its prior.
@@ -80,19 +80,19 @@ fn tell_since(r: &mut [u8], s: u64, t: u32)
     requires { ⌜ length (now r) ≡ 256 ⌝ }
     ensures { λ _. ⌜ now (r .exit) ≡ encRaw (toldSince s t (decRaw (now (r .entry)))) ⌝ }
 {
-    let b = layout::byte_at(r, 2);
+    let b = layout::byte_at(r, layout::B);
     if b != s {
         return;
     }
-    let bound = layout::word_at(r, 1);
+    let bound = layout::word_at(r, layout::BOUND);
     if bound != t as u64 + 1 {
         return;
     }
-    let has = layout::byte_at(r, 6);
-    let v = layout::word_at(r, 5);
-    layout::put_byte(r, 5, has);
-    layout::put_word(r, 4, v);
-    layout::put_word(r, 3, t as u64 + 1);
+    let has = layout::byte_at(r, layout::PRIOR_FLAG);
+    let v = layout::word_at(r, layout::PRIOR);
+    layout::put_byte(r, layout::FLAG, has);
+    layout::put_word(r, layout::VALUE, v);
+    layout::put_word(r, layout::KEPT, t as u64 + 1);
 }
 
 fn tell_delay(r: &mut [u8], s: u64, t: u32, v: u64)
@@ -109,15 +109,15 @@ fn tell(r: &mut [u8], s: u64, t: u32, v: u64)
     requires { ⌜ length (now r) ≡ 256 ⌝ }
     ensures { λ _. ⌜ now (r .exit) ≡ encRaw (toldRow s t v (decRaw (now (r .entry)))) ⌝ }
 {
-    let op = layout::byte_at(r, 0);
+    let op = layout::byte_at(r, layout::OP);
     match operators::group_of(op) {
         Group::Last => {
-            if (t as u64) < layout::word_at(r, 1) {
+            if (t as u64) < layout::word_at(r, layout::BOUND) {
                 tell_last(r, s, v);
             }
         }
         Group::Delay => {
-            if (t as u64) < layout::word_at(r, 1) {
+            if (t as u64) < layout::word_at(r, layout::BOUND) {
                 tell_delay(r, s, t, v);
             }
         }
@@ -132,8 +132,8 @@ pub fn tell_all(state: &mut [u8], n: usize, s: u64, t: u32, v: u64)
 {
     let mut i = 0;
     while i < n {
-        let at = i * 256;
-        let end = at + 256;
+        let at = i * layout::RECORD;
+        let end = at + layout::RECORD;
         tell(&mut state[at..end], s, t, v);
         i += 1;
     }
@@ -149,10 +149,10 @@ fn least_reader(state: &[u8], n: usize, s: u64, floor: u64) -> u64
     let mut i = n;
     while 0 < i {
         i -= 1;
-        let at = i * 256;
-        let end = at + 256;
+        let at = i * layout::RECORD;
+        let end = at + layout::RECORD;
         if reads(&state[at..end], s) {
-            let bound = layout::word_at(&state[at..end], 1);
+            let bound = layout::word_at(&state[at..end], layout::BOUND);
             if bound <= floor {
                 return bound;
             }
@@ -169,11 +169,11 @@ fn waiting(r: &[u8], least: u64) -> u64
     requires { ⌜ length (now r) ≡ 256 ⌝ }
     ensures { λ x. ⌜ x ≡ waitingRow least (decRaw (now (r .entry))) ⌝ }
 {
-    let out = layout::byte_at(r, 3);
+    let out = layout::byte_at(r, layout::OUT);
     if out == 0 {
         return least;
     }
-    let next = layout::word_at(r, 2);
+    let next = layout::word_at(r, layout::NEXT);
     if next < least {
         return next;
     }
@@ -185,9 +185,9 @@ pub fn release_row(state: &mut [u8], n: usize, i: usize)
     requires { ⌜ (n * 256 ≤ length (now state)) × (i < n) ⌝ }
     ensures { λ _. ⌜ now (state .exit) ≡ encode n (releasedRow i (decode n (now (state .entry)))) ⌝ }
 {
-    let at = i * 256;
-    let end = at + 256;
-    let count = layout::byte_at(&state[at..end], 4);
+    let at = i * layout::RECORD;
+    let end = at + layout::RECORD;
+    let count = layout::byte_at(&state[at..end], layout::COUNT);
     if count == 0 {
         return;
     }
@@ -202,8 +202,8 @@ pub fn offer(state: &mut [u8], n: usize, i: usize, t: u32, v: u64)
     requires { ⌜ (n * 256 ≤ length (now state)) × (i < n) ⌝ }
     ensures { λ _. ⌜ now (state .exit) ≡ encode n (offered i t v (decode n (now (state .entry)))) ⌝ }
 {
-    let at = i * 256;
-    let end = at + 256;
+    let at = i * layout::RECORD;
+    let end = at + layout::RECORD;
     queue::append(&mut state[at..end], t, v);
     tell_all(state, n, i as u64, t, v);
     release_row(state, n, i);
