@@ -22,7 +22,7 @@ fn reading_row(r: &[u8], t: u32) -> u32
         return 8;
     }
     let count = layout::byte_at(r, layout::COUNT);
-    if Queue::ROOM as u64 <= count {
+    if Queue::new(count).is_full() {
         return 9;
     }
     0
@@ -48,7 +48,7 @@ fn progress_row(r: &[u8], y: u64) -> u32
     if !operators::is_in(operators::group_of(op)) {
         return 7;
     }
-    if Bound::HORIZON < y {
+    if !Bound::new(y).fits() {
         return 10;
     }
     let bound = layout::word_at(r, layout::BOUND);
