@@ -111,6 +111,7 @@ fn keep_row(state: &mut [u8], n: usize, i: usize, op: Op, k: Kept, y: u64)
 }
 
 // Brings what stream i keeps up to date: a last or a delay, the others keep nothing.
+// The operator is made anew in its arm: so the others do not store it for the call.
 fn absorb_row(state: &mut [u8], n: usize, i: usize, op: Op, k: Kept, y: u64)
     requires { ⌜ (n * 256 ≤ length (now state)) × (i < n) ⌝ }
     ensures { λ _. ⌜ now (state .exit) ≡ encode n (absorbedRaw n i (equation op) (keptIn k) y (decode n (now (state .entry)))) ⌝ }
@@ -208,7 +209,7 @@ fn bound_after(next: Next, held: u64) -> u64
     }
 }
 
-// Makes the move of stream i, that kept k, that finds this.
+// Makes the move that finds this, of stream i, that kept k: an event comes in if there is room, else the bound goes on alone.
 fn make(state: &mut [u8], n: usize, i: usize, op: Op, k: Kept, next: Next, held: u64)
     requires { ⌜ (n * 256 ≤ length (now state)) × (i < n) × (knownTo next ≤ horizon) × (keptIn k ≡ ownIn i (decode n (now state)) .kept) ⌝ }
     ensures { λ _. ⌜ now (state .exit) ≡ encode n (stepRaw n i (equation op) (keptIn k) (toNext next) held (decode n (now (state .entry)))) ⌝ }
@@ -227,7 +228,7 @@ fn make(state: &mut [u8], n: usize, i: usize, op: Op, k: Kept, next: Next, held:
 }
 
 // Moves stream i, if it can: an input cannot, and no equation whose bound would stay.
-// The stream is rebuilt once: what it keeps is read only where the bounds let it move.
+// The stream is rebuilt once: its bound is cut to the horizon, and what it keeps is read, only where the bounds let it move.
 pub fn move_one(state: &mut [u8], n: usize, i: usize) -> bool
     requires { ⌜ (n * 256 ≤ length (now state)) × (i < n) ⌝ }
     ensures can { λ r. ⌜ r ≡ canRaw n i (decode n (now (state .entry))) ⌝ }
