@@ -127,7 +127,7 @@ fn keep_delay(r: &mut [u8], k: Kept)
     let value_bits = bits_of(value);
     let has_prior = flag_of(prior);
     let prior_bits = bits_of(prior);
-    layout::put_word(r, 3, k.since);
+    layout::put_word(r, layout::KEPT, k.since);
     keep_value(r, 5, 4, has_value, value_bits);
     keep_value(r, 6, 5, has_prior, prior_bits);
 }

@@ -63,11 +63,11 @@ fn unary_at(r: &[u8], n: u64) -> Unary
     match n {
         4 => Unary::Time,
         5 => {
-            let k = num::of_bits(layout::word_at(r, 0));
+            let k = num::of_bits(layout::word_at(r, layout::K));
             Unary::Set(k)
         }
         6 => {
-            let k = num::of_bits(layout::word_at(r, 0));
+            let k = num::of_bits(layout::word_at(r, layout::K));
             Unary::Plus(k)
         }
         _ => Unary::Neg,
@@ -151,7 +151,7 @@ pub fn bound_of(r: &[u8]) -> u64
     requires { ⌜ length (now r) ≡ 256 ⌝ }
     ensures { λ x. ⌜ (x ≡ lookOf (decRaw (now (r .entry))) .bound) × (x ≤ horizon) ⌝ }
 {
-    smaller(layout::word_at(r, 1), Bound::HORIZON)
+    smaller(layout::word_at(r, layout::BOUND), Bound::HORIZON)
 }
 
 // The operator of a record: ranges of the stored number choose the group, and only what the group uses is read.
@@ -159,29 +159,29 @@ pub fn operator_at(r: &[u8]) -> Op
     requires { ⌜ length (now r) ≡ 256 ⌝ }
     ensures { λ x. ⌜ equation x ≡ lookOf (decRaw (now (r .entry))) .eqn ⌝ }
 {
-    let n = layout::byte_at(r, 0);
+    let n = layout::byte_at(r, layout::OP);
     match n {
         1 => Op::In,
         3 => Op::Unit,
         4..=7 => {
             let f = unary_at(r, n);
-            let a = layout::byte_at(r, 1);
+            let a = layout::byte_at(r, layout::A);
             Op::One(f, a as u8)
         }
         8..=17 => {
             let g = binary_of(n);
-            let a = layout::byte_at(r, 1);
-            let b = layout::byte_at(r, 2);
+            let a = layout::byte_at(r, layout::A);
+            let b = layout::byte_at(r, layout::B);
             Op::Two(g, a as u8, b as u8)
         }
         18 => {
-            let a = layout::byte_at(r, 1);
-            let b = layout::byte_at(r, 2);
+            let a = layout::byte_at(r, layout::A);
+            let b = layout::byte_at(r, layout::B);
             Op::Last(a as u8, b as u8)
         }
         19 => {
-            let a = layout::byte_at(r, 1);
-            let b = layout::byte_at(r, 2);
+            let a = layout::byte_at(r, layout::A);
+            let b = layout::byte_at(r, layout::B);
             Op::Delay(a as u8, b as u8)
         }
         _ => Op::Nil,
@@ -217,7 +217,7 @@ fn kept_at(r: &[u8], op: Op, bound: u64) -> Kept
 {
     match op {
         Op::Last(_, _) => {
-            let prev = optional(layout::byte_at(r, 5), layout::word_at(r, 3));
+            let prev = optional(layout::byte_at(r, layout::FLAG), layout::word_at(r, layout::KEPT));
             Kept {
                 prev: prev,
                 since: 0,
@@ -226,9 +226,9 @@ fn kept_at(r: &[u8], op: Op, bound: u64) -> Kept
             }
         }
         Op::Delay(_, _) => {
-            let since = smaller(layout::word_at(r, 3), bound);
-            let value = optional(layout::byte_at(r, 5), layout::word_at(r, 4));
-            let prior = optional(layout::byte_at(r, 6), layout::word_at(r, 5));
+            let since = smaller(layout::word_at(r, layout::KEPT), bound);
+            let value = optional(layout::byte_at(r, layout::FLAG), layout::word_at(r, layout::VALUE));
+            let prior = optional(layout::byte_at(r, layout::PRIOR_FLAG), layout::word_at(r, layout::PRIOR));
             Kept {
                 prev: Found::Nothing,
                 since: since,
@@ -249,7 +249,7 @@ pub fn complete(r: &[u8], op: Op, bound: u64) -> Stream
     requires { ⌜ (length (now r) ≡ 256) × (equation op ≡ lookOf (decRaw (now r)) .eqn) × (bound ≡ lookOf (decRaw (now r)) .bound) ⌝ }
     ensures { λ s. ⌜ Is s (decRaw (now (r .entry))) ⌝ }
 {
-    let out = layout::byte_at(r, 3) != 0;
+    let out = layout::byte_at(r, layout::OUT) != 0;
     let kept = kept_at(r, op, bound);
     Stream {
         op: op,

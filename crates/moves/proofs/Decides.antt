@@ -32,22 +32,26 @@ limit-own (two g _ _) o a b k = refl
 limit-own (last _ _) o a b k = refl
 limit-own (delay _ _) o a b k = refl
 
--- ---- an argument that is not ahead, with its bound x as it was read
+-- ---- an argument that is not ahead: its bound x and the stream's bound y as they are stored
 
-pub other-low : (n a : ℕ) (st : Raws) (x : ℕ) → x ≡ num boundF (rowAt st (argIn n a)) → otherIn n a st .bound ≤ x
+pub other-low : (n a : ℕ) (st : Raws) (x : ℕ) → x ≡ num boundF (rowAt st (argIn n a)) → otherIn n a st .bound ≤ min x horizon
 other-low n a st x q = let h = look-bound (rowAt st (argIn n a)) in omega arith
 
-pub low-first : (a b x y : ℕ) → a ≤ x → x ≤ y → min a b ≤ y
+pub low-first : (a b x y : ℕ) → a ≤ min x horizon → x ≤ y → min a b ≤ min y horizon
 low-first a b x y h k = omega arith
 
-pub low-second : (a b x y : ℕ) → b ≤ x → x ≤ y → min a b ≤ y
+pub low-second : (a b x y : ℕ) → b ≤ min x horizon → x ≤ y → min a b ≤ min y horizon
 low-second a b x y h k = omega arith
 
-pub low-reset : (b x y : ℕ) → b ≤ x → x < y → min (suc b) horizon ≤ y
+pub low-reset : (b x y : ℕ) → b ≤ min x horizon → x < y → min (suc b) horizon ≤ min y horizon
 low-reset b x y h k = omega arith
 
-pub low : (a x y : ℕ) → a ≤ x → x ≤ y → a ≤ y
+pub low : (a x y : ℕ) → a ≤ min x horizon → x ≤ y → a ≤ min y horizon
 low a x y h k = omega arith
+
+-- none to wait for, and known to the end
+pub low-end : (y : ℕ) → y ≡ horizon → horizon ≤ min y horizon
+low-end y q = omega arith
 
 -- ---- the decision
 

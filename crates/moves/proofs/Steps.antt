@@ -7,10 +7,11 @@ use native.Mathlib.Omega.{arith}
 use lib.Dec.{ltb, lit<}
 use lib.ListN.{length, set}
 use lib.Seq.{set-getD}
-use borrow.Author.Tests.{ltb-true}
+use borrow.Author.Tests.{ltb-true, le-leb}
 use Rattle.meaning.specs.Plan.{Eqn, reads}
 use Rattle.meaning.specs.Events.{horizon}
 use Rattle.machine.specs.State.{room, Kept}
+use Rattle.machine.specs.Reach.{Next, event, silent}
 use Rattle.machine.specs.Step.{absorb}
 use Rattle.meaning.specs.Plan.{argA, argB}
 use Rattle.le.specs.Bytes.{Bytes}
@@ -25,7 +26,7 @@ use Rattle.queue.specs.Queue.{pushed, below, released}
 use Rattle.step.specs.Step.{toldRow, leastRow, waitingRow, releasedRow}
 use Rattle.queue.proofs.Drops.{push-ok}
 use Rattle.step.proofs.Leaves.{told-ok}
-use Rattle.moves.specs.Move.{argIn, ownIn, otherIn, keptRaw, absorbedRaw, releasedArgs, releasedAll, silentRaw, eventRaw}
+use Rattle.moves.specs.Move.{argIn, ownIn, otherIn, keptRaw, absorbedRaw, releasedArgs, boundRaw, releasedAll, silentRaw, eventRaw, stepRaw}
 use Rattle.moves.proofs.Fits.{KeptFits, look-holds, look-kept, absorb-fits, kept-ok}
 
 -- ---- an equation that keeps nothing
@@ -132,3 +133,9 @@ module _ (n : ℕ) (i : ℕ) (hi : i < n) where
         let p₂ = whole-then n s s₁ s₂ (change i (pushed t v)) (absorbedRaw n i e k (t + 1)) e₁ ok₁ e₂ in
         let p₃ = whole-then n s s₂ s₃ (λ x. absorbedRaw n i e k (t + 1) (change i (pushed t v) x)) (changeAll (toldRow i t v)) p₂ ok₂ e₃ in
         whole-then n s s₃ s₄ (λ x. changeAll (toldRow i t v) (absorbedRaw n i e k (t + 1) (change i (pushed t v) x))) (releasedAll n i e) p₃ ok₃ e₄
+
+-- ---- a full stream only shifts its bound
+
+pub step-full : (n i : ℕ) (e : Eqn) (k : Kept) (x : Next) (held : ℕ) (st : Raws) → room ≤ held → silentRaw n i e k (boundRaw x held) st ≡ stepRaw n i e k x held st
+step-full n i e k (silent r) held st h = refl
+step-full n i e k (event t v) held st h = rw (le-leb room held h)

@@ -2,7 +2,7 @@
 ghost use mathlib.Core.Path.{_≡_};
 ghost use mathlib.Core.Bool.{true, cond};
 ghost use mathlib.Core.List.{[], _∷_};
-ghost use Prim.Native.Nat.{_*_, _+_, _≤_, _<_};
+ghost use Prim.Native.Nat.{_*_, _+_, _≤_, _<_, min};
 ghost use lib.ListN.{length};
 ghost use Rattle.meaning.specs.Plan.{reads};
 ghost use Rattle.meaning.specs.Events.{horizon};
@@ -36,22 +36,22 @@ fn bound_of(state: &[u8], n: usize, a: u8) -> u64
     requires { ⌜ (n * 256 ≤ length (now state)) × (0 < n) ⌝ }
     ensures { λ x. ⌜ x ≡ num boundF (rowAt (decode n (now (state .entry))) (argIn n a)) ⌝ }
 {
-    let at = argument(n, a) * 256;
-    let end = at + 256;
-    layout::word_at(&state[at..end], 1)
+    let at = argument(n, a) * layout::RECORD;
+    let end = at + layout::RECORD;
+    layout::word_at(&state[at..end], layout::BOUND)
 }
 
-// Whether the bounds alone say that a stream with this operator and bound cannot move: it is an input, an argument that
-// it waits for is not ahead of it, or it has none and is known to the end.
+// Whether the bounds alone, as they are stored, say that a stream with this operator cannot move: it is an input, an
+// argument that it waits for is not ahead of it, or it has none and is known to the end.
 // Most streams that a run looks at cannot move, and end here.
 fn stuck(state: &[u8], n: usize, op: Op, bound: u64) -> bool
     requires { ⌜ (n * 256 ≤ length (now state)) × (0 < n) ⌝ }
-    ensures { λ r. ⌜ (r ≡ true → limitRaw n (equation op) bound (decode n (now (state .entry))) ≤ bound) ⌝ }
+    ensures { λ r. ⌜ (r ≡ true → limitRaw n (equation op) (min bound horizon) (decode n (now (state .entry))) ≤ min bound horizon) ⌝ }
 {
     match op {
         Op::In => true,
-        Op::Nil => Bound::HORIZON <= bound,
-        Op::Unit => Bound::HORIZON <= bound,
+        Op::Nil => bound == Bound::HORIZON,
+        Op::Unit => bound == Bound::HORIZON,
         Op::One(_, a) => bound_of(state, n, a) <= bound,
         Op::Two(_, a, b) => {
             if bound_of(state, n, a) <= bound {
@@ -71,26 +71,24 @@ fn ahead(state: &[u8], n: usize, s: Stream) -> Next
     ensures known { λ r. ⌜ knownTo r ≤ horizon ⌝ }
 {
     let op = s.op;
-    let a = argument(n, look::first(op)) * 256;
-    let a_end = a + 256;
-    let b = argument(n, look::second(op)) * 256;
-    let b_end = b + 256;
+    let a = argument(n, look::first(op)) * layout::RECORD;
+    let a_end = a + layout::RECORD;
+    let b = argument(n, look::second(op)) * layout::RECORD;
+    let b_end = b + layout::RECORD;
     decide::find_next(s, &state[a..a_end], &state[b..b_end])
 }
 
-// What stream i, looked at as s, keeps once its bound is y: brought up to date from the held events.
-fn kept(state: &[u8], n: usize, i: usize, s: Stream, y: u64) -> Kept
+// What stream i, with this operator, that kept k, keeps once its bound is y: brought up to date from the held events.
+fn kept(state: &[u8], n: usize, i: usize, op: Op, k: Kept, y: u64) -> Kept
     requires { ⌜ (n * 256 ≤ length (now state)) × (i < n) ⌝ }
-    ensures { λ k. ⌜ keptIn k ≡ keptRaw n i (equation (s .op)) (keptIn (s .kept)) y (decode n (now (state .entry))) ⌝ }
+    ensures { λ r. ⌜ keptIn r ≡ keptRaw n i (equation op) (keptIn k) y (decode n (now (state .entry))) ⌝ }
 {
-    let at = i * 256;
-    let end = at + 256;
-    let op = s.op;
-    let k = s.kept;
-    let a = argument(n, look::first(op)) * 256;
-    let a_end = a + 256;
-    let b = argument(n, look::second(op)) * 256;
-    let b_end = b + 256;
+    let at = i * layout::RECORD;
+    let end = at + layout::RECORD;
+    let a = argument(n, look::first(op)) * layout::RECORD;
+    let a_end = a + layout::RECORD;
+    let b = argument(n, look::second(op)) * layout::RECORD;
+    let b_end = b + layout::RECORD;
     absorb::absorbed(
         op,
         k,
@@ -102,31 +100,30 @@ fn kept(state: &[u8], n: usize, i: usize, s: Stream, y: u64) -> Kept
 }
 
 // Brings what stream i, a last or a delay, keeps up to date.
-fn keep_row(state: &mut [u8], n: usize, i: usize, s: Stream, y: u64)
+fn keep_row(state: &mut [u8], n: usize, i: usize, op: Op, k: Kept, y: u64)
     requires { ⌜ (n * 256 ≤ length (now state)) × (i < n) ⌝ }
-    ensures { λ _. ⌜ now (state .exit) ≡ encode n (absorbedRaw n i (equation (s .op)) (keptIn (s .kept)) y (decode n (now (state .entry)))) ⌝ }
+    ensures { λ _. ⌜ now (state .exit) ≡ encode n (absorbedRaw n i (equation op) (keptIn k) y (decode n (now (state .entry)))) ⌝ }
 {
-    let at = i * 256;
-    let end = at + 256;
-    let op = s.op;
-    let k = kept(state, n, i, s, y);
-    absorb::keep(&mut state[at..end], op, k);
+    let at = i * layout::RECORD;
+    let end = at + layout::RECORD;
+    let new = kept(state, n, i, op, k, y);
+    absorb::keep(&mut state[at..end], op, new);
 }
 
 // Brings what stream i keeps up to date: a last or a delay, the others keep nothing.
-fn absorb_row(state: &mut [u8], n: usize, i: usize, s: Stream, y: u64)
+// The operator is made anew in its arm: so the others do not store it for the call.
+fn absorb_row(state: &mut [u8], n: usize, i: usize, op: Op, k: Kept, y: u64)
     requires { ⌜ (n * 256 ≤ length (now state)) × (i < n) ⌝ }
-    ensures { λ _. ⌜ now (state .exit) ≡ encode n (absorbedRaw n i (equation (s .op)) (keptIn (s .kept)) y (decode n (now (state .entry)))) ⌝ }
+    ensures { λ _. ⌜ now (state .exit) ≡ encode n (absorbedRaw n i (equation op) (keptIn k) y (decode n (now (state .entry)))) ⌝ }
 {
-    let op = s.op;
     match op {
         Op::In => {}
         Op::Nil => {}
         Op::Unit => {}
         Op::One(_, _) => {}
         Op::Two(_, _, _) => {}
-        Op::Last(_, _) => keep_row(state, n, i, s, y),
-        Op::Delay(_, _) => keep_row(state, n, i, s, y),
+        Op::Last(a, b) => keep_row(state, n, i, Op::Last(a, b), k, y),
+        Op::Delay(a, b) => keep_row(state, n, i, Op::Delay(a, b), k, y),
     }
 }
 
@@ -173,27 +170,25 @@ fn release_all(state: &mut [u8], n: usize, i: usize, op: Op)
     release_args(state, n, op);
 }
 
-// The bound of stream i, looked at as s, goes to y, and no event comes in.
-fn move_silent(state: &mut [u8], n: usize, i: usize, s: Stream, y: u64)
-    requires { ⌜ (n * 256 ≤ length (now state)) × (i < n) × (y ≤ horizon) × (keptIn (s .kept) ≡ ownIn i (decode n (now state)) .kept) ⌝ }
-    ensures { λ _. ⌜ now (state .exit) ≡ encode n (silentRaw n i (equation (s .op)) (keptIn (s .kept)) y (decode n (now (state .entry)))) ⌝ }
+// The bound of stream i, that kept k, goes to y, and no event comes in.
+fn move_silent(state: &mut [u8], n: usize, i: usize, op: Op, k: Kept, y: u64)
+    requires { ⌜ (n * 256 ≤ length (now state)) × (i < n) × (y ≤ horizon) × (keptIn k ≡ ownIn i (decode n (now state)) .kept) ⌝ }
+    ensures { λ _. ⌜ now (state .exit) ≡ encode n (silentRaw n i (equation op) (keptIn k) y (decode n (now (state .entry)))) ⌝ }
 {
-    let op = s.op;
     calls::progress(state, n, i, y);
-    absorb_row(state, n, i, s, y);
+    absorb_row(state, n, i, op, k, y);
     release_all(state, n, i, op);
 }
 
-// The event (t, v) comes into stream i, looked at as s.
-fn move_event(state: &mut [u8], n: usize, i: usize, s: Stream, t: u32, v: u64)
-    requires { ⌜ (n * 256 ≤ length (now state)) × (i < n) × (keptIn (s .kept) ≡ ownIn i (decode n (now state)) .kept) ⌝ }
-    ensures { λ _. ⌜ now (state .exit) ≡ encode n (eventRaw n i (equation (s .op)) (keptIn (s .kept)) t v (decode n (now (state .entry)))) ⌝ }
+// The event (t, v) comes into stream i, that kept k.
+fn move_event(state: &mut [u8], n: usize, i: usize, op: Op, k: Kept, t: u32, v: u64)
+    requires { ⌜ (n * 256 ≤ length (now state)) × (i < n) × (keptIn k ≡ ownIn i (decode n (now state)) .kept) ⌝ }
+    ensures { λ _. ⌜ now (state .exit) ≡ encode n (eventRaw n i (equation op) (keptIn k) t v (decode n (now (state .entry)))) ⌝ }
 {
-    let at = i * 256;
-    let end = at + 256;
-    let op = s.op;
+    let at = i * layout::RECORD;
+    let end = at + layout::RECORD;
     queue::append(&mut state[at..end], t, v);
-    absorb_row(state, n, i, s, t as u64 + 1);
+    absorb_row(state, n, i, op, k, t as u64 + 1);
     step::tell_all(state, n, i as u64, t, v);
     release_all(state, n, i, op);
 }
@@ -214,43 +209,46 @@ fn bound_after(next: Next, held: u64) -> u64
     }
 }
 
-// Makes the move of stream i, looked at as s, that finds this.
-fn make(state: &mut [u8], n: usize, i: usize, s: Stream, next: Next, held: u64)
-    requires { ⌜ (n * 256 ≤ length (now state)) × (i < n) × (knownTo next ≤ horizon) × (keptIn (s .kept) ≡ ownIn i (decode n (now state)) .kept) ⌝ }
-    ensures { λ _. ⌜ now (state .exit) ≡ encode n (stepRaw n i (equation (s .op)) (keptIn (s .kept)) (toNext next) held (decode n (now (state .entry)))) ⌝ }
+// Makes the move that finds this, of stream i, that kept k: an event comes in if there is room, else the bound goes on alone.
+fn make(state: &mut [u8], n: usize, i: usize, op: Op, k: Kept, next: Next, held: u64)
+    requires { ⌜ (n * 256 ≤ length (now state)) × (i < n) × (knownTo next ≤ horizon) × (keptIn k ≡ ownIn i (decode n (now state)) .kept) ⌝ }
+    ensures { λ _. ⌜ now (state .exit) ≡ encode n (stepRaw n i (equation op) (keptIn k) (toNext next) held (decode n (now (state .entry)))) ⌝ }
 {
+    let y = bound_after(next, held);
     match next {
-        Next::Silent(r) => move_silent(state, n, i, s, r),
+        Next::Silent(_) => {}
         Next::Event(t, v) => {
-            if Queue::ROOM as u64 <= held {
-                move_silent(state, n, i, s, t as u64);
+            if held < Queue::ROOM as u64 {
+                move_event(state, n, i, op, k, t, num::bits(v));
                 return;
             }
-            move_event(state, n, i, s, t, num::bits(v));
         }
     }
+    move_silent(state, n, i, op, k, y);
 }
 
 // Moves stream i, if it can: an input cannot, and no equation whose bound would stay.
-// The stream is rebuilt once: what it keeps is read only where the bounds let it move.
+// The stream is rebuilt once: its bound is cut to the horizon, and what it keeps is read, only where the bounds let it move.
 pub fn move_one(state: &mut [u8], n: usize, i: usize) -> bool
     requires { ⌜ (n * 256 ≤ length (now state)) × (i < n) ⌝ }
     ensures can { λ r. ⌜ r ≡ canRaw n i (decode n (now (state .entry))) ⌝ }
     ensures moved { λ _. ⌜ now (state .exit) ≡ cond (canRaw n i (decode n (now (state .entry)))) (encode n (movedRaw n i (decode n (now (state .entry))))) (now (state .entry)) ⌝ }
 {
-    let at = i * 256;
-    let end = at + 256;
-    let bound = look::bound_of(&state[at..end]);
+    let at = i * layout::RECORD;
+    let end = at + layout::RECORD;
+    let stored = layout::word_at(&state[at..end], layout::BOUND);
     let op = look::operator_at(&state[at..end]);
-    if stuck(state, n, op, bound) {
+    if stuck(state, n, op, stored) {
         return false;
     }
+    let bound = look::smaller(stored, Bound::HORIZON);
     let s = look::complete(&state[at..end], op, bound);
-    let held = layout::byte_at(&state[at..end], 4);
+    let held = layout::byte_at(&state[at..end], layout::COUNT);
     let next = ahead(state, n, s);
     if bound_after(next, held) == bound {
         return false;
     }
-    make(state, n, i, s, next, held);
+    let k = s.kept;
+    make(state, n, i, op, k, next, held);
     true
 }

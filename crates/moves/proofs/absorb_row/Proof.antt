@@ -1,10 +1,10 @@
-use Prim.Native.Nat.{_-_}
-use mathlib.Core.Path.{ap}
+use mathlib.Core.Path.{sym, ap, _∙_}
 use denote.Ref.{now}
-use Rattle.layout.specs.Record.{decode}
+use Rattle.layout.specs.Record.{encode, decode}
 use Rattle.look.specs.declared.Op.{Op}
 use Rattle.look.specs.Look.{equation, keptIn}
 use Rattle.look.proofs.Laws.{keeps}
+use Rattle.moves.specs.Move.{absorbedRaw}
 use Rattle.moves.proofs.Steps
 use borrow.Author.Needs.{needs}
 use native.Mathlib.Omega.{arith}
@@ -26,44 +26,44 @@ enum-told-4 c = search needs
 enum-told-5 : tie.Need-enum-told-5
 enum-told-5 c = search needs
 
-enum-told-6 : tie.Need-enum-told-6
-enum-told-6 c = search needs
+enum-known-op : tie.Need-enum-known-op
+enum-known-op c = search needs
 
 keep-row-requires : tie.Need-keep-row-requires
 keep-row-requires c κs = search needs
 
-enum-told-7 : tie.Need-enum-told-7
-enum-told-7 c = search needs
+enum-known-op-2 : tie.Need-enum-known-op-2
+enum-known-op-2 c = search needs
 
 keep-row-requires-2 : tie.Need-keep-row-requires-2
 keep-row-requires-2 c κs = search needs
 
 returns : tie.Need-returns
-returns c = let a = c .before .before .before .args in let n = a .n in let s = now (a .state) in let st = decode n s in let e = equation (a .s .op) in Steps.absorb-stays n (a .i) e (keptIn (a .s .kept)) (a .y) s (omega arith) (λ j. omega (arith, c .before .before .slice-known .given j)) (ap (λ (o : Op). keeps (equation o)) (c .enum-told .given .1))
+returns c = let a = c .before .before .before .args in let n = a .n in let s = now (a .state) in let st = decode n s in let e = equation (a .op) in Steps.absorb-stays n (a .i) e (keptIn (a .k)) (a .y) s (omega arith) (λ j. omega (arith, c .before .before .slice-known .given j)) (ap (λ (o : Op). keeps (equation o)) (c .enum-told .given .1))
 
 returns-2 : tie.Need-returns-2
-returns-2 c = let a = c .before .before .before .args in let n = a .n in let s = now (a .state) in let st = decode n s in let e = equation (a .s .op) in Steps.absorb-stays n (a .i) e (keptIn (a .s .kept)) (a .y) s (omega arith) (λ j. omega (arith, c .before .before .slice-known .given j)) (ap (λ (o : Op). keeps (equation o)) (c .enum-told2 .given .1))
+returns-2 c = let a = c .before .before .before .args in let n = a .n in let s = now (a .state) in let st = decode n s in let e = equation (a .op) in Steps.absorb-stays n (a .i) e (keptIn (a .k)) (a .y) s (omega arith) (λ j. omega (arith, c .before .before .slice-known .given j)) (ap (λ (o : Op). keeps (equation o)) (c .enum-told2 .given .1))
 
 returns-3 : tie.Need-returns-3
-returns-3 c = let a = c .before .before .before .args in let n = a .n in let s = now (a .state) in let st = decode n s in let e = equation (a .s .op) in Steps.absorb-stays n (a .i) e (keptIn (a .s .kept)) (a .y) s (omega arith) (λ j. omega (arith, c .before .before .slice-known .given j)) (ap (λ (o : Op). keeps (equation o)) (c .enum-told3 .given .1))
+returns-3 c = let a = c .before .before .before .args in let n = a .n in let s = now (a .state) in let st = decode n s in let e = equation (a .op) in Steps.absorb-stays n (a .i) e (keptIn (a .k)) (a .y) s (omega arith) (λ j. omega (arith, c .before .before .slice-known .given j)) (ap (λ (o : Op). keeps (equation o)) (c .enum-told3 .given .1))
 
 returns-4 : tie.Need-returns-4
-returns-4 c = let a = c .before .before .before .args in let n = a .n in let s = now (a .state) in let st = decode n s in let e = equation (a .s .op) in Steps.absorb-stays n (a .i) e (keptIn (a .s .kept)) (a .y) s (omega arith) (λ j. omega (arith, c .before .before .slice-known .given j)) (ap (λ (o : Op). keeps (equation o)) (c .enum-told4 .given .1))
+returns-4 c = let a = c .before .before .before .args in let n = a .n in let s = now (a .state) in let st = decode n s in let e = equation (a .op) in Steps.absorb-stays n (a .i) e (keptIn (a .k)) (a .y) s (omega arith) (λ j. omega (arith, c .before .before .slice-known .given j)) (ap (λ (o : Op). keeps (equation o)) (c .enum-told4 .given .1))
 
 returns-5 : tie.Need-returns-5
-returns-5 c = let a = c .before .before .before .args in let n = a .n in let s = now (a .state) in let st = decode n s in let e = equation (a .s .op) in Steps.absorb-stays n (a .i) e (keptIn (a .s .kept)) (a .y) s (omega arith) (λ j. omega (arith, c .before .before .slice-known .given j)) (ap (λ (o : Op). keeps (equation o)) (c .enum-told5 .given .1))
+returns-5 c = let a = c .before .before .before .args in let n = a .n in let s = now (a .state) in let st = decode n s in let e = equation (a .op) in Steps.absorb-stays n (a .i) e (keptIn (a .k)) (a .y) s (omega arith) (λ j. omega (arith, c .before .before .slice-known .given j)) (ap (λ (o : Op). keeps (equation o)) (c .enum-told5 .given .1))
 
 same-length : tie.Need-same-length
 same-length c = search needs
 
 returns-6 : tie.Need-returns-6
-returns-6 c = search needs
+returns-6 c = let a = c .before .before .before .before .before .before .before .before .args in let n = a .n in let s = now (a .state) in let st = decode n s in let e = equation (a .op) in c .before .before .keep-row .ensures ∙ ap (λ (o : Op). encode n (absorbedRaw n (a .i) (equation o) (keptIn (a .k)) (a .y) st)) (sym (c .before .before .before .before .before .op .given .1))
 
 same-length-2 : tie.Need-same-length-2
 same-length-2 c = search needs
 
 returns-7 : tie.Need-returns-7
-returns-7 c = search needs
+returns-7 c = let a = c .before .before .before .before .before .before .before .before .args in let n = a .n in let s = now (a .state) in let st = decode n s in let e = equation (a .op) in c .before .before .keep-row2 .ensures ∙ ap (λ (o : Op). encode n (absorbedRaw n (a .i) (equation o) (keptIn (a .k)) (a .y) st)) (sym (c .before .before .before .before .before .op2 .given .1))
 
 pub absorb-row-spec : {M : Type 1} → statement M
 absorb-row-spec =
@@ -74,9 +74,9 @@ absorb-row-spec =
     enum-told-3
     enum-told-4
     enum-told-5
-    enum-told-6
+    enum-known-op
     keep-row-requires
-    enum-told-7
+    enum-known-op-2
     keep-row-requires-2
     returns
     returns-2

@@ -38,7 +38,7 @@ same-length c = search needs
 
 returns : tie.Need-returns
 unfolding absorbedRaw
-returns c = let a = c .before .before .before .before .before .before .before .args in let n = a .n in let s = now (a .state) in let st = decode n s in let e = equation (a .s .op) in let i = a .i in let k = i * 256 + 256 - i * 256 in lent n s (c .before .before .keep .last .0) i k (keptRow e (keptIn (c .before .before .before .before .kept .result))) (omega arith) (omega arith) (λ j. omega (arith, c .before .before .before .before .before .before .slice-known .given j)) (omega arith) (c .before .before .keep .ensures) ∙ ap (λ (x : Kept). encode n (change i (keptRow e x) st)) (c .before .before .before .before .kept .ensures)
+returns c = let a = c .before .before .before .before .before .before .before .args in let n = a .n in let s = now (a .state) in let st = decode n s in let e = equation (a .op) in let i = a .i in let k = i * 256 + 256 - i * 256 in lent n s (c .before .before .keep .last .0) i k (keptRow e (keptIn (c .before .before .before .before .kept .result))) (omega arith) (omega arith) (λ j. omega (arith, c .before .before .before .before .before .before .slice-known .given j)) (omega arith) (c .before .before .keep .ensures) ∙ ap (λ (x : Kept). encode n (change i (keptRow e x) st)) (c .before .before .before .before .kept .ensures)
 
 pub keep-row-spec : {M : Type 1} → statement M
 keep-row-spec =

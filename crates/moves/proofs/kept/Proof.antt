@@ -76,7 +76,7 @@ absorbed-requires : tie.Need-absorbed-requires
 absorbed-requires c κs = search needs
 
 returns : tie.Need-returns
-returns c = let a = c .before .before .before .before .before .before .before .before .before .before .args in let n = a .n in let s = now (a .state) in let st = decode n s in let e = equation (a .s .op) in let i = a .i in let k = i * 256 + 256 - i * 256 in let mid : rowAt st i ≡ decRaw (midOf (i * 256) k s) = row-mid n s i k (omega arith) (omega arith) in let x = c .before .before .before .before .before .before .argument .result in let kx = x * 256 + 256 - x * 256 in let z = c .before .before .before .before .argument2 .result in let kz = z * 256 + 256 - z * 256 in let ma : rowAt st (argIn n (argA e)) ≡ decRaw (midOf (x * 256) kx s) = ap (rowAt st) (sym (c .before .before .before .before .before .before .argument .ensures .0 ∙ ap (argIn n) (c .before .before .before .before .before .before .before .first .ensures))) ∙ row-mid n s x kx (omega arith) (omega arith) in let mb : rowAt st (argIn n (argB e)) ≡ decRaw (midOf (z * 256) kz s) = ap (rowAt st) (sym (c .before .before .before .before .argument2 .ensures .0 ∙ ap (argIn n) (c .before .before .before .before .before .second .ensures))) ∙ row-mid n s z kz (omega arith) (omega arith) in c .absorbed .ensures ∙ sym (λ j. absorb e (movedCell (a .y) (heldOf (mid j)) (keptIn (a .s .kept))) (lookOf (ma j)) (lookOf (mb j)))
+returns c = let a = c .before .before .before .before .before .before .before .before .before .args in let n = a .n in let s = now (a .state) in let st = decode n s in let e = equation (a .op) in let i = a .i in let k = i * 256 + 256 - i * 256 in let mid : rowAt st i ≡ decRaw (midOf (i * 256) k s) = row-mid n s i k (omega arith) (omega arith) in let x = c .before .before .before .before .before .before .argument .result in let kx = x * 256 + 256 - x * 256 in let z = c .before .before .before .before .argument2 .result in let kz = z * 256 + 256 - z * 256 in let ma : rowAt st (argIn n (argA e)) ≡ decRaw (midOf (x * 256) kx s) = ap (rowAt st) (sym (c .before .before .before .before .before .before .argument .ensures .0 ∙ ap (argIn n) (c .before .before .before .before .before .before .before .first .ensures))) ∙ row-mid n s x kx (omega arith) (omega arith) in let mb : rowAt st (argIn n (argB e)) ≡ decRaw (midOf (z * 256) kz s) = ap (rowAt st) (sym (c .before .before .before .before .argument2 .ensures .0 ∙ ap (argIn n) (c .before .before .before .before .before .second .ensures))) ∙ row-mid n s z kz (omega arith) (omega arith) in c .absorbed .ensures ∙ sym (λ j. absorb e (movedCell (a .y) (heldOf (mid j)) (keptIn (a .k))) (lookOf (ma j)) (lookOf (mb j)))
 
 pub kept-spec : {M : Type 1} → statement M
 kept-spec =

@@ -45,7 +45,7 @@ same-length : tie.Need-same-length
 same-length c = search needs
 
 returns : tie.Need-returns
-returns c = let a = c .before .before .before .before .before .before .before .before .before .before .before .before .before .before .before .before .before .args in let n = a .n in let s = now (a .state) in let st = decode n s in let e = equation (a .s .op) in let i = a .i in let k = i * 256 + 256 - i * 256 in Steps.event-is n i (omega arith) s (λ j. omega (arith, c .before .before .before .before .before .before .before .before .before .before .before .before .before .before .before .before .slice-known .given j)) e (keptIn (a .s .kept)) (c .before .before .before .before .before .before .before .before .before .before .before .before .before .before .before .before .before .pre .2) (a .t) (a .v) (putMid (i * 256) k s (c .before .before .before .before .before .before .before .before .before .before .before .before .before .before .append .last .0)) (c .before .before .before .before .before .before .before .before .before .before .absorb-row .last .0) (c .before .before .before .before .before .before .tell-all .last .0) (c .before .before .release-all .last .0) (omega arith) (omega arith) (lent n s (c .before .before .before .before .before .before .before .before .before .before .before .before .before .before .append .last .0) i k (pushed (a .t) (a .v)) (omega arith) (omega arith) (λ j. omega (arith, c .before .before .before .before .before .before .before .before .before .before .before .before .before .before .before .before .slice-known .given j)) (omega arith) (c .before .before .before .before .before .before .before .before .before .before .before .before .before .before .append .ensures)) (c .before .before .before .before .before .before .before .before .before .before .absorb-row .ensures) (c .before .before .before .before .before .before .tell-all .ensures) (c .before .before .release-all .ensures)
+returns c = let a = c .before .before .before .before .before .before .before .before .before .before .before .before .before .before .before .before .before .args in let n = a .n in let s = now (a .state) in let st = decode n s in let e = equation (a .op) in let i = a .i in let k = i * 256 + 256 - i * 256 in Steps.event-is n i (omega arith) s (λ j. omega (arith, c .before .before .before .before .before .before .before .before .before .before .before .before .before .before .before .before .slice-known .given j)) e (keptIn (a .k)) (c .before .before .before .before .before .before .before .before .before .before .before .before .before .before .before .before .before .pre .2) (a .t) (a .v) (putMid (i * 256) k s (c .before .before .before .before .before .before .before .before .before .before .before .before .before .before .append .last .0)) (c .before .before .before .before .before .before .before .before .before .before .absorb-row .last .0) (c .before .before .before .before .before .before .tell-all .last .0) (c .before .before .release-all .last .0) (omega arith) (omega arith) (lent n s (c .before .before .before .before .before .before .before .before .before .before .before .before .before .before .append .last .0) i k (pushed (a .t) (a .v)) (omega arith) (omega arith) (λ j. omega (arith, c .before .before .before .before .before .before .before .before .before .before .before .before .before .before .before .before .slice-known .given j)) (omega arith) (c .before .before .before .before .before .before .before .before .before .before .before .before .before .before .append .ensures)) (c .before .before .before .before .before .before .before .before .before .before .absorb-row .ensures) (c .before .before .before .before .before .before .tell-all .ensures) (c .before .before .release-all .ensures)
 
 pub move-event-spec : {M : Type 1} → statement M
 move-event-spec =

@@ -1,4 +1,3 @@
-use Prim.Native.Nat.{_-_}
 use denote.Ref.{now}
 use Rattle.layout.specs.Record.{decode}
 use Rattle.look.specs.Look.{equation, keptIn}
@@ -21,7 +20,7 @@ same-length : tie.Need-same-length
 same-length c = search needs
 
 returns : tie.Need-returns
-returns c = let a = c .before .before .before .before .before .before .before .before .before .before .before .before .before .args in let n = a .n in let s = now (a .state) in let st = decode n s in let e = equation (a .s .op) in Steps.silent-is n (a .i) (omega arith) s (λ j. omega (arith, c .before .before .before .before .before .before .before .before .before .before .before .before .slice-known .given j)) e (keptIn (a .s .kept)) (c .before .before .before .before .before .before .before .before .before .before .before .before .before .pre .3) (a .y) (c .before .before .before .before .before .before .before .before .before .before .progress .last .0) (c .before .before .before .before .before .before .absorb-row .last .0) (c .before .before .release-all .last .0) (omega arith) (c .before .before .before .before .before .before .before .before .before .before .progress .ensures) (c .before .before .before .before .before .before .absorb-row .ensures) (c .before .before .release-all .ensures)
+returns c = let a = c .before .before .before .before .before .before .before .before .before .before .before .before .before .args in let n = a .n in let s = now (a .state) in let st = decode n s in let e = equation (a .op) in Steps.silent-is n (a .i) (omega arith) s (λ j. omega (arith, c .before .before .before .before .before .before .before .before .before .before .before .before .slice-known .given j)) e (keptIn (a .k)) (c .before .before .before .before .before .before .before .before .before .before .before .before .before .pre .3) (a .y) (c .before .before .before .before .before .before .before .before .before .before .progress .last .0) (c .before .before .before .before .before .before .absorb-row .last .0) (c .before .before .release-all .last .0) (omega arith) (c .before .before .before .before .before .before .before .before .before .before .progress .ensures) (c .before .before .before .before .before .before .absorb-row .ensures) (c .before .before .release-all .ensures)
 
 pub move-silent-spec : {M : Type 1} → statement M
 move-silent-spec =
