@@ -13,9 +13,9 @@ ghost use Rattle.queue.specs.Found.{asOption};
 ghost use Rattle.look.specs.Look.{lookOf, equation, keptIn};
 ghost use Rattle.gives.specs.Near.{holding};
 ghost use Rattle.absorb.specs.Keep.{movedCell, movedOf, valueKept, delayKept, keptRow};
-use queue::Found;
 use look::Kept;
 use look::Op;
+use queue::Found;
 
 // last: the first argument's latest event below the bound y, held or kept.
 fn absorb_last(k: Kept, y: u64, a: &[u8]) -> Kept

@@ -1,6 +1,6 @@
 // The offers' and collect's refusals and steps, on the bytes of n records.
 ghost use mathlib.Core.Path.{_≡_};
-ghost use Prim.Native.Nat.{_*_, _+_, _≤_, _<_, _^_};
+ghost use Prim.Native.Nat.{_*_, _+_, _≤_, _<_};
 ghost use lib.ListN.{length};
 ghost use Rattle.machine.specs.State.{room};
 ghost use Rattle.layout.specs.Record as layout;

@@ -11,12 +11,12 @@ ghost use Rattle.look.specs.Look.{lookOf, equation, ownOf, argCell, argOf, Soun
 ghost use Rattle.gives.specs.Near.{keeping, holding};
 ghost use Rattle.decide.specs.Search.{dueAt};
 ghost use Rattle.decide.specs.Near.{testIn, nearerIn, candidateIn, searchIn, reachIn, firstIn, nextIn, toNext, knownTo};
-use queue::Found;
 use limits::Bound;
 use look::Kept;
 use look::Look;
 use look::Op;
 use look::Stream;
+use queue::Found;
 
 // What a move finds: an event, or silence up to a bound.
 pub enum Next {

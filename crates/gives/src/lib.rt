@@ -9,10 +9,10 @@ ghost use Rattle.layout.specs.Record.{decRaw};
 ghost use Rattle.cells.specs.Back.{heldOf};
 ghost use Rattle.queue.specs.Found.{asOption};
 ghost use Rattle.gives.specs.Near.{keeping, holding, size, givesIn};
-use queue::Found;
 use look::Kept;
 use look::Look;
 use look::Op;
+use queue::Found;
 
 // One less, and 0 of 0.
 pub fn before(z: u64) -> u64

@@ -10,6 +10,7 @@ ghost use Rattle.layout.specs.Record.{encRaw, decRaw, num, withNum, slot
 pub const RECORD: usize = 256;
 // How many its head has, and each slot behind it.
 pub const HEAD: usize = 64;
+
 pub const SLOT: usize = 12;
 // Where the first slot's value lies, behind its stamp.
 const FIRST_VALUE: usize = HEAD + 4;
@@ -20,6 +21,7 @@ const FIRST_VALUE: usize = HEAD + 4;
 pub const OP: usize = 0;
 // The arguments.
 pub const A: usize = 1;
+
 pub const B: usize = 2;
 // 1 of an output.
 pub const OUT: usize = 3;

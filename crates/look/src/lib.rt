@@ -15,8 +15,8 @@ ghost use Rattle.cells.specs.Back as cells;
 ghost use Rattle.queue.specs.Found.{asOption};
 ghost use Rattle.table.specs.Named.{unary, calculation, binary};
 ghost use Rattle.look.specs.Look.{lookOf, equation, keptIn, Sound, Is, Within};
-use queue::Found;
 use limits::Bound;
+use queue::Found;
 use table::Binary;
 use table::Calc;
 use table::Unary;
@@ -217,7 +217,10 @@ fn kept_at(r: &[u8], op: Op, bound: u64) -> Kept
 {
     match op {
         Op::Last(_, _) => {
-            let prev = optional(layout::byte_at(r, layout::FLAG), layout::word_at(r, layout::KEPT));
+            let prev = optional(
+                layout::byte_at(r, layout::FLAG),
+                layout::word_at(r, layout::KEPT),
+            );
             Kept {
                 prev: prev,
                 since: 0,
@@ -227,8 +230,14 @@ fn kept_at(r: &[u8], op: Op, bound: u64) -> Kept
         }
         Op::Delay(_, _) => {
             let since = smaller(layout::word_at(r, layout::KEPT), bound);
-            let value = optional(layout::byte_at(r, layout::FLAG), layout::word_at(r, layout::VALUE));
-            let prior = optional(layout::byte_at(r, layout::PRIOR_FLAG), layout::word_at(r, layout::PRIOR));
+            let value = optional(
+                layout::byte_at(r, layout::FLAG),
+                layout::word_at(r, layout::VALUE),
+            );
+            let prior = optional(
+                layout::byte_at(r, layout::PRIOR_FLAG),
+                layout::word_at(r, layout::PRIOR),
+            );
             Kept {
                 prev: Found::Nothing,
                 since: since,

@@ -1,5 +1,5 @@
 -- What is brought up to date keeps within the widths of the record's fields.
-use Prim.Native.Nat.{ℕ, zero, suc, pred, _-_, _^_, _<_, _≤_, min}
+use Prim.Native.Nat.{ℕ, zero, suc, pred, _^_, _<_, _≤_, min}
 use mathlib.Core.Bool.{Bool, true, false, cond}
 use mathlib.Core.Option.{Option, none, some}
 use mathlib.Core.List.{List, [], _∷_, map}

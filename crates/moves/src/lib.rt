@@ -8,7 +8,7 @@ ghost use Rattle.meaning.specs.Plan.{reads};
 ghost use Rattle.meaning.specs.Events.{horizon};
 ghost use Rattle.machine.specs.Reach.{decide};
 ghost use Rattle.meaning.specs.Plan.{argA, argB};
-ghost use Rattle.layout.specs.Record.{num, encode, decode, rowAt, countF, boundF};
+ghost use Rattle.layout.specs.Record.{num, encode, decode, rowAt, boundF};
 ghost use Rattle.look.specs.Look.{equation, keptIn, ownOf, Sound};
 ghost use Rattle.decide.specs.Near.{toNext, knownTo};
 ghost use Rattle.moves.specs.Move.{argIn, ownIn, otherIn, limitRaw, boundRaw, canRaw, keptRaw, absorbedRaw, releasedArgs, releasedAll, silentRaw, eventRaw, stepRaw, movedRaw};

@@ -34,16 +34,16 @@ module _ (t v : ℕ) (r : Raw) where
 pub push-ok : (v : ℕ) → v < 2 ^ 64 → (t : ℕ) → t < 2 ^ 32 → (r : Raw) → RawOk r → RawOk (pushed t v r)
 unfolding pushed
 push-ok v hv t ht r ok = go (ltb (num countF r) room) refl
-    where
-      full : Raw
-      full = withNum boundF (t + 1) (withNum countF (num countF r + 1) (withSlot (num countF r) t v r))
+  where
+    full : Raw
+    full = withNum boundF (t + 1) (withNum countF (num countF r + 1) (withSlot (num countF r) t v r))
 
-      go : (b : Bool) → ltb (num countF r) room ≡ b → RawOk (cond b full r)
-      go false e = ok
-      go true e =
-          let h : num countF r < room = ltb-true (num countF r) room e in
-          stored-ok boundF countF (t + 1) (num countF r + 1) (withSlot (num countF r) t v r) (omega arith) (omega arith)
-          (slot-ok r (num countF r) (record { stamp = t; value = v }) ok (omega arith, omega (arith, hv)))
+    go : (b : Bool) → ltb (num countF r) room ≡ b → RawOk (cond b full r)
+    go false e = ok
+    go true e =
+        let h : num countF r < room = ltb-true (num countF r) room e in
+        stored-ok boundF countF (t + 1) (num countF r + 1) (withSlot (num countF r) t v r) (omega arith) (omega arith)
+        (slot-ok r (num countF r) (record { stamp = t; value = v }) ok (omega arith, omega (arith, hv)))
 
 -- ---- the leading slots below w
 
@@ -109,4 +109,3 @@ pub release-floor : (f w w′ : ℕ) (r : Raw) → f ≡ slotAt 0 r .stamp → m
 unfolding released
 release-floor f w w′ r e q =
     ap (λ (k : ℕ). withNum countF (num countF r - k) (dropped k (min (num countF r) room) r)) (below-floor f w w′ (min (num countF r) room) (r .slots) e q)
-

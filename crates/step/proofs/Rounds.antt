@@ -1,19 +1,16 @@
 -- The loops' turns, and the steps of the whole buffer one after the other.
-use Prim.Native.Nat.{ℕ, zero, suc, _+_, _*_, _-_, _^_, _<_, _≤_, min, max}
+use Prim.Native.Nat.{ℕ, zero, suc, _*_, _-_, _^_, _<_, _≤_, min, max}
 use mathlib.Core.Path.{_≡_, refl, sym, ap, ap₂, _∙_}
 use mathlib.Core.List.{List, [], _∷_}
 use mathlib.Core.Bool.{Bool, true, false, cond}
 use native.Mathlib.Omega.{arith}
-use native.Mathlib.Decide.{decLt}
-use lib.Dec.{ltb, eqb}
+use lib.Dec.{eqb}
 use lib.ListN.{length, getD, set, drop, drop-of-length-le}
 use lib.Seq.{drop-cons, set-getD}
-use borrow.Author.Tests.{lt-ltb, le-ltb}
 use borrow.Rule.Slice.PartMut.{midOf}
 use Rattle.meaning.specs.Events.{horizon}
-use Rattle.machine.specs.State.{room}
 use Rattle.le.specs.Bytes.{Bytes}
-use Rattle.layout.specs.Record.{Slot, Raw, Raws, noSlot, noRaw, num, decRaw, encode, decode, rowAt, change, changeAll, withNum, dropped, slotAt, outF, countF, boundF, nextF}
+use Rattle.layout.specs.Record.{Raw, Raws, noRaw, num, decRaw, encode, decode, rowAt, change, changeAll, slotAt, outF, countF, boundF, nextF}
 use Rattle.layout.proofs.Laws.{rows-many, row-mid, raws-ok, row-ok, change-ok, changeAll-ok, whole-then}
 use Rattle.step.specs.Step.{readsRow, toldRow, lowered, leastRow, waitingRow, releasedRow, offered}
 use Rattle.queue.specs.Queue.{pushed, released}

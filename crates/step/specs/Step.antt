@@ -1,10 +1,9 @@
 -- The steps of the calls on raw records: total functions of numbers and slots.
-use Prim.Native.Nat.{ℕ, zero, suc, _+_, _-_, min}
+use Prim.Native.Nat.{ℕ, _+_, min}
 use mathlib.Core.List.{List, [], _∷_, map}
 use mathlib.Core.Bool.{Bool, cond}
 use lib.Dec.{ltb, eqb}
 use Rattle.meaning.specs.Events.{horizon}
-use Rattle.machine.specs.State.{room}
 use Rattle.machine.specs.Step.{anyOf}
 use Rattle.operators.specs.Operators.{groupOf, isLast, isDelay, argumentsOf}
 use Rattle.queue.specs.Queue.{pushed, released}

@@ -1,9 +1,9 @@
 // One step on bytes: an event appended, the readers told, and what nobody waits for let go.
 ghost use mathlib.Core.Path.{_≡_};
-ghost use Prim.Native.Nat.{_*_, _+_, _≤_, _<_, min, max};
+ghost use Prim.Native.Nat.{_*_, _+_, _≤_, _<_, max};
 ghost use lib.ListN.{length};
 ghost use Rattle.layout.specs.Record as layout;
-ghost use Rattle.layout.specs.Record.{encRaw, decRaw, encode, decode, change, changeAll};
+ghost use Rattle.layout.specs.Record.{encRaw, decRaw, encode, decode, changeAll};
 ghost use Rattle.step.specs.Step.{readsRow, toldLast, toldValue, toldPrior, toldSince, toldDelay, toldRow, leastRow, waitingRow, releasedRow, offered};
 use limits::Bound;
 use operators::Group;

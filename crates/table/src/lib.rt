@@ -6,8 +6,8 @@ ghost use Rattle.meaning.specs.Events.{horizon, orElse};
 ghost use Rattle.meaning.specs.Table.{one-at, two-at, calculated, valueOf};
 ghost use Rattle.queue.specs.Found.{asOption};
 ghost use Rattle.table.specs.Named.{unary, calculation, binary};
-use queue::Found;
 use num::Answer;
+use queue::Found;
 
 // The operators of one argument, with their value.
 pub enum Unary {

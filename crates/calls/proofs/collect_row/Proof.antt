@@ -1,4 +1,4 @@
-use Prim.Native.Nat.{_-_, min}
+use Prim.Native.Nat.{min}
 use mathlib.Core.Path.{sym, _∙_}
 use borrow.Author.Tests.{lt-ltb, le-ltb, eq-eqb, ne-eqb}
 use denote.Ref.{now}

@@ -1,4 +1,3 @@
-use Prim.Native.Nat.{_-_}
 use denote.Ref.{now}
 use Rattle.le.proofs.Laws.{shift-three}
 use borrow.Author.Needs.{needs}

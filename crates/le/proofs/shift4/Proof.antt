@@ -1,6 +1,6 @@
-use Prim.Native.Nat.{_+_, _-_}
+use Prim.Native.Nat.{_+_}
 use Rattle.le.proofs.Laws.{shift-four}
-use Prim.Native.Nat.{_+_, _-_}
+use Prim.Native.Nat.{_+_}
 use lib.ListN.{length-set}
 use denote.Ref.{now}
 use Rattle.le.proofs.Laws.{shift-four}

@@ -1,11 +1,8 @@
 use Prim.Native.Nat.{ℕ}
-use mathlib.Core.Path.{_≡_, sym, ap, _∙_}
-use lib.IntN.{ℤ}
+use mathlib.Core.Path.{sym, ap, _∙_}
 use mir.Syntax.{w64}
 use mir.Val.{toZ}
-use mir.Facts.{toZ-ofZ}
 use denote.Ref.{now}
-use Rattle.meaning.specs.Plan.{set, plus, one}
 use Rattle.operators.specs.Operators.{eqnOf}
 use Rattle.layout.specs.Record.{decRaw, num, aF, bF, kF}
 use Rattle.look.proofs.Laws as law

@@ -7,8 +7,7 @@ use mir.Facts.{toZ-ofZ}
 use denote.Ref.{now}
 use Rattle.meaning.specs.Plan.{set, plus, one}
 use Rattle.operators.specs.Operators.{eqnOf}
-use Rattle.layout.specs.Record.{decRaw, num, aF, bF, kF}
-use Rattle.look.proofs.Laws as law
+use Rattle.layout.specs.Record.{decRaw, num, kF}
 use borrow.Author.Needs.{needs}
 use native.Mathlib.Omega.{arith}
 use Rattle.look.proofs.unary_at.Statement.{statement}

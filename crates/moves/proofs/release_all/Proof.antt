@@ -1,4 +1,3 @@
-use Prim.Native.Nat.{_-_}
 use denote.Ref.{now}
 use Rattle.look.specs.Look.{equation}
 use Rattle.moves.proofs.Steps

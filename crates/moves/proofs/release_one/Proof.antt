@@ -1,4 +1,3 @@
-use Prim.Native.Nat.{_-_}
 use denote.Ref.{now}
 use Rattle.moves.proofs.Steps
 use borrow.Author.Needs.{needs}

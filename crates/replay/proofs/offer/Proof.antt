@@ -1,7 +1,6 @@
 use Rattle.replaying.specs.Replay.{callOf}
 use Rattle.engine.specs.Reply.{reply}
 use mathlib.Core.Path.{sym}
-use Prim.Native.Nat.{_-_}
 use denote.Ref.{now}
 use lib.Seq.{length-take-le}
 use Rattle.decimal.proofs.Puts.{put-length}

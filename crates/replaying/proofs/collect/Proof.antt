@@ -1,6 +1,5 @@
 -- `replaying::collect` meets its contract.
 use mathlib.Core.Path.{refl, sym, _∙_}
-use Prim.Native.Nat.{_-_}
 use mir.Val.{SFits}
 use Rattle.machine.specs.Calls.{collecting}
 use Rattle.decimal.proofs.Puts.{put-none}

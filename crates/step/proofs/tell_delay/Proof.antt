@@ -1,4 +1,3 @@
-use Prim.Native.Nat.{_-_}
 use denote.Ref.{now}
 use Rattle.layout.specs.Record.{decRaw}
 use Rattle.step.specs.Step.{toldValue, toldPrior, toldSince, toldDelay}
