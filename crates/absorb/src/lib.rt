@@ -1,6 +1,6 @@
 // A moved stream's own kept data: brought up to date from the held events, and stored in its record.
 ghost use mathlib.Core.Path.{_≡_};
-ghost use Prim.Native.Nat.{max, _≤_};
+ghost use Prim.Native.Nat.{_+_, _≤_, _<_};
 ghost use mathlib.Core.List.{List};
 ghost use lib.ListN.{length};
 ghost use Rattle.meaning.specs.Plan.{last, delay};
@@ -9,28 +9,21 @@ ghost use Rattle.machine.specs.State.{Cell};
 ghost use Rattle.machine.specs.Step as machine;
 ghost use Rattle.layout.specs.Record.{encRaw, decRaw};
 ghost use Rattle.cells.specs.View.{flagOf, bitsOf};
-ghost use Rattle.held.specs.Found.{asOption};
-ghost use Rattle.look.specs.Look.{lookOf, equation, keptIn, argOf};
-ghost use Rattle.absorb.specs.Keep.{movedCell, movedOf, lastKept, valueKept, priorKept, delayKept, keptRow};
-use held::Found;
+ghost use Rattle.queue.specs.Found.{asOption};
+ghost use Rattle.look.specs.Look.{lookOf, equation, keptIn};
+ghost use Rattle.gives.specs.Near.{holding};
+ghost use Rattle.absorb.specs.Keep.{movedCell, movedOf, valueKept, delayKept, keptRow};
 use look::Kept;
-use look::Look;
-use operators::Group;
+use look::Op;
+use queue::Found;
 
-fn larger(x: u64, y: u64) -> u64
-    ensures { λ r. ⌜ r ≡ max x y ⌝ }
-{
-    if x < y { y } else { x }
-}
-
-// last: the first argument's latest event below the bound, held or kept.
-fn absorb_last(l: Look, a: &[u8]) -> Kept
+// last: the first argument's latest event below the bound y, held or kept.
+fn absorb_last(k: Kept, y: u64, a: &[u8]) -> Kept
     requires { ⌜ length (now a) ≡ 256 ⌝ }
-    ensures { λ r. ⌜ ((es : List Event) (b : Cell) → keptIn r ≡ machine.absorb (last 0 0) (movedCell (equation (l .op)) (l .bound) es (keptIn (l .kept))) (argOf (l .abound) (now (a .entry))) b) ⌝ }
+    ensures { λ r. ⌜ ((es : List Event) (b : Cell) → keptIn r ≡ machine.absorb (last 0 0) (movedCell y es (keptIn k)) (holding (now (a .entry))) b) ⌝ }
 {
-    let k = l.kept;
     let kept = k.prev;
-    let x = held::latest_before(a, l.bound);
+    let x = queue::latest_before(a, y);
     let prev = table::or_else(x, kept);
     let value = k.value;
     let prior = k.prior;
@@ -42,26 +35,24 @@ fn absorb_last(l: Look, a: &[u8]) -> Kept
     }
 }
 
-// delay: one past the latest set point below the bound: kept, an event of b, or one of its own.
-fn latest_point(l: Look, o: &[u8], b: &[u8]) -> u64
+// delay: one past the latest set point below the bound y: kept, an event of b, or one of its own.
+fn latest_point(k: Kept, y: u64, o: &[u8], b: &[u8]) -> u64
     requires { ⌜ (length (now o) ≡ 256) × (length (now b) ≡ 256) ⌝ }
-    ensures { λ r. ⌜ r ≡ machine.later (movedOf l (now (o .entry))) (argOf (l .bbound) (now (b .entry))) ⌝ }
+    ensures { λ r. ⌜ r ≡ machine.later (movedOf k y (now (o .entry))) (holding (now (b .entry))) ⌝ }
 {
-    let k = l.kept;
-    let y = held::past_latest(b, l.bound);
-    let z = held::past_latest(o, l.bound);
-    larger(k.since, larger(y, z))
+    let reset = queue::past_latest(b, y);
+    let own = queue::past_latest(o, y);
+    look::larger(k.since, look::larger(reset, own))
 }
 
-// delay: its latest set point, the first argument's event there, and that just below the bound.
-fn absorb_delay(l: Look, o: &[u8], a: &[u8], b: &[u8]) -> Kept
+// delay: its latest set point, the first argument's event there, and that just below the bound y.
+fn absorb_delay(k: Kept, y: u64, o: &[u8], a: &[u8], b: &[u8]) -> Kept
     requires { ⌜ (length (now o) ≡ 256) × (length (now a) ≡ 256) × (length (now b) ≡ 256) ⌝ }
-    ensures { λ r. ⌜ keptIn r ≡ machine.absorb (delay 0 0) (movedOf l (now (o .entry))) (argOf (l .abound) (now (a .entry))) (argOf (l .bbound) (now (b .entry))) ⌝ }
+    ensures { λ r. ⌜ keptIn r ≡ machine.absorb (delay 0 0) (movedOf k y (now (o .entry))) (holding (now (a .entry))) (holding (now (b .entry))) ⌝ }
 {
-    let k = l.kept;
-    let z = latest_point(l, o, b);
+    let z = latest_point(k, y, o, b);
     let prev = k.prev;
-    let prior = held::find(a, gives::before(l.bound));
+    let prior = queue::find(a, gives::before(y));
     if z == 0 {
         return Kept {
             prev: prev,
@@ -79,17 +70,20 @@ fn absorb_delay(l: Look, o: &[u8], a: &[u8], b: &[u8]) -> Kept
     }
 }
 
-// What the stream in o keeps, brought up to date from its arguments' held events in a and b, and its own.
-pub fn absorbed(o: &[u8], a: &[u8], b: &[u8]) -> Kept
+// What a stream with this operator, that kept k, keeps once its bound is y: brought up to date from its arguments' held
+// events in a and b, and its own in o.
+pub fn absorbed(op: Op, k: Kept, y: u64, o: &[u8], a: &[u8], b: &[u8]) -> Kept
     requires { ⌜ (length (now o) ≡ 256) × (length (now a) ≡ 256) × (length (now b) ≡ 256) ⌝ }
-    ensures { λ k. ⌜ keptIn k ≡ machine.absorb (lookOf (decRaw (now (o .entry))) .eqn) (lookOf (decRaw (now (o .entry)))) (lookOf (decRaw (now (a .entry)))) (lookOf (decRaw (now (b .entry)))) ⌝ }
+    ensures { λ r. ⌜ keptIn r ≡ machine.absorb (equation op) (movedOf k y (now (o .entry))) (lookOf (decRaw (now (a .entry)))) (lookOf (decRaw (now (b .entry)))) ⌝ }
 {
-    let l = look::look_at(o, a, b);
-    let number = l.number;
-    match number {
-        18 => absorb_last(l, a),
-        19 => absorb_delay(l, o, a, b),
-        _ => l.kept,
+    match op {
+        Op::In => k,
+        Op::Nil => k,
+        Op::Unit => k,
+        Op::One(_, _) => k,
+        Op::Two(_, _, _) => k,
+        Op::Last(_, _) => absorb_last(k, y, a),
+        Op::Delay(_, _) => absorb_delay(k, y, o, a, b),
     }
 }
 
@@ -113,38 +107,19 @@ fn bits_of(x: Found) -> u64
     }
 }
 
-// Stores the value that a last keeps.
-fn keep_last(r: &mut [u8], has: u64, bits: u64)
-    requires { ⌜ (length (now r) ≡ 256) × (has ≤ 1) ⌝ }
-    ensures { λ _. ⌜ now (r .exit) ≡ encRaw (lastKept has bits (decRaw (now (r .entry)))) ⌝ }
+// Stores a value that may be absent: whether it is there in byte f, its bits in word w.
+fn keep_value(r: &mut [u8], f: usize, w: usize, has: u64, bits: u64)
+    requires { ⌜ (length (now r) ≡ 256) × (f < 8) × (w < 7) × (has ≤ 1) ⌝ }
+    ensures { λ _. ⌜ now (r .exit) ≡ encRaw (valueKept f (8 + w) has bits (decRaw (now (r .entry)))) ⌝ }
 {
-    layout::put_byte(r, 5, has);
-    layout::put_word(r, 3, bits);
-}
-
-// Stores a delay's value.
-fn keep_value(r: &mut [u8], has: u64, bits: u64)
-    requires { ⌜ (length (now r) ≡ 256) × (has ≤ 1) ⌝ }
-    ensures { λ _. ⌜ now (r .exit) ≡ encRaw (valueKept has bits (decRaw (now (r .entry)))) ⌝ }
-{
-    layout::put_byte(r, 5, has);
-    layout::put_word(r, 4, bits);
-}
-
-// Stores a delay's prior.
-fn keep_prior(r: &mut [u8], has: u64, bits: u64)
-    requires { ⌜ (length (now r) ≡ 256) × (has ≤ 1) ⌝ }
-    ensures { λ _. ⌜ now (r .exit) ≡ encRaw (priorKept has bits (decRaw (now (r .entry)))) ⌝ }
-{
-    layout::put_byte(r, 6, has);
-    layout::put_word(r, 5, bits);
+    layout::put_byte(r, f, has);
+    layout::put_word(r, w, bits);
 }
 
 // Stores what a delay keeps.
 fn keep_delay(r: &mut [u8], k: Kept)
     requires { ⌜ length (now r) ≡ 256 ⌝ }
-    ensures stored { λ _. ⌜ now (r .exit) ≡ encRaw (delayKept (keptIn k) (decRaw (now (r .entry)))) ⌝ }
-    ensures back { λ _. ⌜ decRaw (now (r .exit)) ≡ delayKept (keptIn k) (decRaw (now (r .entry))) ⌝ }
+    ensures { λ _. ⌜ now (r .exit) ≡ encRaw (delayKept (keptIn k) (decRaw (now (r .entry)))) ⌝ }
 {
     let value = k.value;
     let prior = k.prior;
@@ -152,26 +127,28 @@ fn keep_delay(r: &mut [u8], k: Kept)
     let value_bits = bits_of(value);
     let has_prior = flag_of(prior);
     let prior_bits = bits_of(prior);
-    layout::put_word(r, 3, k.since);
-    keep_value(r, has_value, value_bits);
-    keep_prior(r, has_prior, prior_bits);
+    layout::put_word(r, layout::KEPT, k.since);
+    keep_value(r, 5, 4, has_value, value_bits);
+    keep_value(r, 6, 5, has_prior, prior_bits);
 }
 
-// Stores what a last or a delay keeps in its record; other records stay as they are.
-pub fn keep(r: &mut [u8], k: Kept)
+// Stores what a last or a delay keeps in its record; those of other operators stay as they are.
+pub fn keep(r: &mut [u8], op: Op, k: Kept)
     requires { ⌜ length (now r) ≡ 256 ⌝ }
-    ensures stored { λ _. ⌜ now (r .exit) ≡ encRaw (keptRow (keptIn k) (decRaw (now (r .entry)))) ⌝ }
-    ensures back { λ _. ⌜ decRaw (now (r .exit)) ≡ keptRow (keptIn k) (decRaw (now (r .entry))) ⌝ }
+    ensures { λ _. ⌜ now (r .exit) ≡ encRaw (keptRow (equation op) (keptIn k) (decRaw (now (r .entry)))) ⌝ }
 {
-    let op = layout::byte_at(r, 0);
-    match operators::group_of(op) {
-        Group::Last => {
+    match op {
+        Op::In => {}
+        Op::Nil => {}
+        Op::Unit => {}
+        Op::One(_, _) => {}
+        Op::Two(_, _, _) => {}
+        Op::Last(_, _) => {
             let prev = k.prev;
             let has = flag_of(prev);
             let bits = bits_of(prev);
-            keep_last(r, has, bits);
+            keep_value(r, 5, 3, has, bits);
         }
-        Group::Delay => keep_delay(r, k),
-        _ => {}
+        Op::Delay(_, _) => keep_delay(r, k),
     }
 }

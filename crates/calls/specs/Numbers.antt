@@ -6,7 +6,8 @@ use Rattle.meaning.specs.Events.{horizon}
 use Rattle.machine.specs.State.{room}
 use Rattle.operators.specs.Operators.{groupOf, isIn}
 use Rattle.layout.specs.Record.{Raw, Raws, num, withNum, slotAt, rowAt, change, opF, outF, countF, boundF, nextF}
-use Rattle.step.specs.Step.{below, releasedRow}
+use Rattle.queue.specs.Queue.{below}
+use Rattle.step.specs.Step.{releasedRow}
 
 -- of the stream's own record: 7 not in, 8 stamp below the bound, 9 already 16 held
 unfoldable pub readingRow : Raw → ℕ → ℕ

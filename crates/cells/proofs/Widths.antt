@@ -1,5 +1,5 @@
 -- A sound cell's record keeps within its widths, and is read back as the cell.
-use Prim.Native.Nat.{ℕ, zero, suc, _-_, _^_, _<_, _≤_, min}
+use Prim.Native.Nat.{ℕ, zero, suc, _^_, _<_, _≤_, min}
 use mathlib.Core.Path.{_≡_, refl, sym, ap, ap₂, _∙_}
 use mathlib.Core.List.{List, [], _∷_, map}
 use mathlib.Core.Bool.{Bool, true, false, not}

@@ -1,5 +1,5 @@
 -- The searches of the code are those of the machine, group by group of operators.
-use Prim.Native.Nat.{ℕ, suc, _+_, _-_, _<_, _≤_, max, min}
+use Prim.Native.Nat.{ℕ, suc, _-_, _<_, _≤_, max}
 use mathlib.Core.Path.{_≡_, refl, sym, ap, ap₂, _∙_}
 use mathlib.Core.Bool.{Bool, true, false, cond, _&&_}
 use mathlib.Core.Option.{Option, none, some}
@@ -8,15 +8,13 @@ use native.Mathlib.Omega.{arith}
 use lib.Dec.{leb, ltb}
 use lib.IntN.{ℤ}
 use borrow.Author.Tests.{lt-ltb, le-ltb}
-use Rattle.meaning.specs.Plan.{Eqn, input, nil, unit, one, two, last, delay}
-use Rattle.meaning.specs.Events.{has, horizon}
+use Rattle.meaning.specs.Plan.{Unary, Binary, Eqn, input, nil, unit, one, two, last, delay}
+use Rattle.meaning.specs.Events.{has}
 use Rattle.machine.specs.State.{Cell}
 use Rattle.machine.specs.Reach.{least, limit, stops, gives, reach, first, event, silent, nextOf, decide}
 use Rattle.machine.proofs.Search.{least-ge}
-use Rattle.operators.specs.Operators.{numberOf}
 use Rattle.look.specs.Look.{ownCell, argCell}
 use Rattle.decide.specs.Search.{pick, stamps, dueAt, wanted, halts, test, candidateOf, search}
-use Rattle.look.proofs.Groups.{is-input, is-unit, is-plain, is-one, is-two, is-last, is-delay, is-other}
 use Rattle.decide.proofs.Sparse.{first-pick, reach-pick}
 
 -- ---- lists of candidates
@@ -39,27 +37,6 @@ unfolding least
 least-none f lo n e = rw e
 
 module _ (o a b : Cell) where
-  -- ---- the limit
-
-  pub limit-input : (e : Eqn) → numberOf e ≡ 1 → o .bound ≡ limit e o a b
-  limit-input e q = is-input (λ e. o .bound ≡ limit e o a b) refl e q
-
-  pub limit-one : (e : Eqn) → 4 ≤ numberOf e → numberOf e < 8 → a .bound ≡ limit e o a b
-  limit-one e p q = is-one (λ e. a .bound ≡ limit e o a b) (λ f x. refl) e p q
-
-  pub limit-two : (e : Eqn) → 8 ≤ numberOf e → numberOf e < 18 → min (a .bound) (b .bound) ≡ limit e o a b
-  limit-two e p q = is-two (λ e. min (a .bound) (b .bound) ≡ limit e o a b) (λ g x y. refl) e p q
-
-  pub limit-last : (e : Eqn) → numberOf e ≡ 18 → b .bound ≡ limit e o a b
-  limit-last e q = is-last (λ e. b .bound ≡ limit e o a b) (λ x y. refl) e q
-
-  pub limit-delay : (e : Eqn) → numberOf e ≡ 19 → min (b .bound + 1) horizon ≡ limit e o a b
-  limit-delay e q = let w : b .bound + 1 ≡ suc (b .bound) = omega arith in is-delay (λ e. min (b .bound + 1) horizon ≡ limit e o a b) (λ x y. rw w) e q
-
-  pub limit-plain : (e : Eqn) → (numberOf e ≡ 1 → ⊥) → numberOf e < 4 → horizon ≡ limit e o a b
-  unfolding numberOf
-  limit-plain e p q = is-plain (λ e. (numberOf e ≡ 1 → ⊥) → horizon ≡ limit e o a b) (λ h. absurd (h refl)) (λ h. refl) (λ h. refl) e q p
-
   -- ---- no argument ahead: the equation stays
   reach-stays : (e : Eqn) → limit e o a b ≤ o .bound → reach e o a b ≡ o .bound
   unfolding reach
@@ -77,74 +54,49 @@ module _ (o a b : Cell) where
 
   -- ---- the reach
 
-  abbrev top : Eqn → ℕ
+  abbrev pub top : Eqn → ℕ
   top e = max (o .bound) (limit e o a b)
 
-  abbrev Ends : Eqn → ℕ → List ℕ → Type 0
+  abbrev pub Ends : Eqn → ℕ → List ℕ → Type 0
   Ends e hi cs = hi ≡ top e → pick (test false e o a b) (o .bound) hi cs ≡ reach e o a b
 
-  ends : (e : Eqn) (hi : ℕ) → Ends e hi (halts e o a b)
+  -- where there is no candidate, and in general
+  pub ends : (e : Eqn) (hi : ℕ) → Ends e hi (halts e o a b)
   unfolding test
   ends e hi q = ap (λ (h : ℕ). pick (stops e o a b) (o .bound) h (halts e o a b)) q ∙ sym (reach-pick e o a b)
 
-  pub reach-last : (e : Eqn) (hi : ℕ) → numberOf e ≡ 18 → Ends e hi (map (candidateOf false e o a) (stamps (b .held)))
-  reach-last e hi =
-      is-last (λ e. Ends e hi (map (candidateOf false e o a) (stamps (b .held))))
-      (λ x y q. ap (pick (test false (last x y) o a b) (o .bound) hi) (each-same (stamps (b .held))) ∙ ends (last x y) hi q)
-      e
+  pub reach-last : (x y hi : ℕ) → Ends (last x y) hi (map (candidateOf false (last x y) o a) (stamps (b .held)))
+  reach-last x y hi q = ap (pick (test false (last x y) o a b) (o .bound) hi) (each-same (stamps (b .held))) ∙ ends (last x y) hi q
 
-  pub reach-delay : (e : Eqn) (hi : ℕ) → numberOf e ≡ 19 → Ends e hi (o .bound ∷ map (candidateOf false e o a) (stamps (b .held)))
-  reach-delay e hi = is-delay (λ e. Ends e hi (o .bound ∷ map (candidateOf false e o a) (stamps (b .held)))) (λ x y q. ends (delay x y) hi q) e
-
-  pub reach-other : (e : Eqn) (hi : ℕ) → (numberOf e ≡ 18 → ⊥) → (numberOf e ≡ 19 → ⊥) → hi ≡ top e → hi ≡ reach e o a b
-  unfolding pick
-  reach-other e hi p q =
-      is-other (λ e. hi ≡ top e → hi ≡ reach e o a b) (ends input hi) (ends nil hi) (ends unit hi) (λ f x. ends (one f x) hi) (λ g x y. ends (two g x y) hi) e p q
+  pub reach-delay : (x y hi : ℕ) → Ends (delay x y) hi (o .bound ∷ map (candidateOf false (delay x y) o a) (stamps (b .held)))
+  reach-delay x y hi = ends (delay x y) hi
 
   -- ---- the first event
 
-  abbrev Finds : Eqn → ℕ → List ℕ → Type 0
+  abbrev pub Finds : Eqn → ℕ → List ℕ → Type 0
   Finds e r cs = r ≡ reach e o a b → pick (test true e o a b) (o .bound) r cs ≡ first e o a b
 
   module _ (since : o .kept .since ≤ o .bound) where
-    finds : (e : Eqn) (r : ℕ) → Finds e r (wanted e o a b)
+    pub finds : (e : Eqn) (r : ℕ) → Finds e r (wanted e o a b)
     unfolding test
     finds e r q = ap (λ (h : ℕ). pick (λ t. has (gives e o a b t)) (o .bound) h (wanted e o a b)) q ∙ sym (first-pick e o a b since)
 
-    pub first-unit : (e : Eqn) (r : ℕ) → numberOf e ≡ 3 → Finds e r (0 ∷ [])
-    first-unit e r q = is-unit (λ e. Finds e r (0 ∷ [])) (finds unit r) e q
+    pub first-one : (f : Unary) (x r : ℕ) → Finds (one f x) r (map (candidateOf true (one f x) o a) (stamps (a .held)))
+    first-one f x r q = ap (pick (test true (one f x) o a b) (o .bound) r) (each-same (stamps (a .held))) ∙ finds (one f x) r q
 
-    pub first-one : (e : Eqn) (r : ℕ) → 4 ≤ numberOf e → numberOf e < 8 → Finds e r (map (candidateOf true e o a) (stamps (a .held)))
-    first-one e r =
-        is-one (λ e. Finds e r (map (candidateOf true e o a) (stamps (a .held))))
-        (λ f x q. ap (pick (test true (one f x) o a b) (o .bound) r) (each-same (stamps (a .held))) ∙ finds (one f x) r q)
-        e
-
-    pub first-two : (e : Eqn) (r : ℕ) → 8 ≤ numberOf e → numberOf e < 18 → r ≡ reach e o a b
-        → search true e o a b (search true e o a b r (b .held)) (a .held) ≡ first e o a b
-    first-two e r =
-        is-two (λ e. r ≡ reach e o a b → search true e o a b (search true e o a b r (b .held)) (a .held) ≡ first e o a b)
-        (λ g x y q. ap₂ (λ (u v : List ℕ). pick (test true (two g x y) o a b) (o .bound) (pick (test true (two g x y) o a b) (o .bound) r v) u) (each-same (stamps (a .held))) (each-same (stamps (b .held)))
+    pub first-two : (g : Binary) (x y r : ℕ) → r ≡ reach (two g x y) o a b → search true (two g x y) o a b (search true (two g x y) o a b r (b .held)) (a .held) ≡ first (two g x y) o a b
+    first-two g x y r q =
+        ap₂ (λ (u v : List ℕ). pick (test true (two g x y) o a b) (o .bound) (pick (test true (two g x y) o a b) (o .bound) r v) u) (each-same (stamps (a .held))) (each-same (stamps (b .held)))
         ∙ pick-append (test true (two g x y) o a b) (o .bound) r (stamps (a .held)) (stamps (b .held))
-        ∙ finds (two g x y) r q)
-        e
+        ∙ finds (two g x y) r q
 
-    pub first-last : (e : Eqn) (r : ℕ) → numberOf e ≡ 18 → Finds e r (map (candidateOf true e o a) (stamps (b .held)))
-    first-last e r =
-        is-last (λ e. Finds e r (map (candidateOf true e o a) (stamps (b .held))))
-        (λ x y q. ap (pick (test true (last x y) o a b) (o .bound) r) (each-same (stamps (b .held))) ∙ finds (last x y) r q)
-        e
+    pub first-last : (x y r : ℕ) → Finds (last x y) r (map (candidateOf true (last x y) o a) (stamps (b .held)))
+    first-last x y r q = ap (pick (test true (last x y) o a b) (o .bound) r) (each-same (stamps (b .held))) ∙ finds (last x y) r q
 
-    pub first-delay : (e : Eqn) (r : ℕ) → numberOf e ≡ 19 → Finds e r (dueAt o a (o .kept .since) ∷ map (candidateOf true e o a) (stamps (b .held)))
-    first-delay e r =
-        is-delay (λ e. Finds e r (dueAt o a (o .kept .since) ∷ map (candidateOf true e o a) (stamps (b .held))))
-        (λ x y q. ap (λ (cs : List ℕ). pick (test true (delay x y) o a b) (o .bound) r (dueAt o a (o .kept .since) ∷ cs)) (each-each (dueAt o a) suc (stamps (b .held)))
-        ∙ finds (delay x y) r q)
-        e
-
-    pub first-plain : (e : Eqn) (r : ℕ) → (numberOf e ≡ 3 → ⊥) → numberOf e < 4 → r ≡ reach e o a b → r ≡ first e o a b
-    unfolding pick numberOf
-    first-plain e r p q = is-plain (λ e. (numberOf e ≡ 3 → ⊥) → r ≡ reach e o a b → r ≡ first e o a b) (λ h. finds input r) (λ h. finds nil r) (λ h. absurd (h refl)) e q p
+    pub first-delay : (x y r : ℕ) → Finds (delay x y) r (dueAt o a (o .kept .since) ∷ map (candidateOf true (delay x y) o a) (stamps (b .held)))
+    first-delay x y r q =
+        ap (λ (cs : List ℕ). pick (test true (delay x y) o a b) (o .bound) r (dueAt o a (o .kept .since) ∷ cs)) (each-each (dueAt o a) suc (stamps (b .held)))
+        ∙ finds (delay x y) r q
 
   pub first-from : (e : Eqn) (t : ℕ) → t ≡ first e o a b → o .bound ≤ t
   unfolding first

@@ -8,35 +8,23 @@ use native.Mathlib.Decide.{decLt}
 use lib.Dec.{leb, ltb}
 use lib.ListN.{length, getD}
 use borrow.Author.Tests.{lt-ltb, le-ltb, le-leb, lt-leb}
-use Rattle.meaning.specs.Plan.{Eqn, input, nil, unit, one, two, last, delay}
+use Rattle.meaning.specs.Plan.{Eqn, last, delay}
 use Rattle.meaning.specs.Events.{has}
 use Rattle.machine.specs.State.{Cell}
 use Rattle.machine.specs.Reach as machine
-use Rattle.operators.specs.Operators.{numberOf}
 use Rattle.layout.specs.Record.{Slot, noSlot}
-use Rattle.held.proofs.Turns.{left, left-none, left-more}
+use Rattle.queue.proofs.Turns.{left, left-none, left-more}
 use Rattle.decide.specs.Search.{pick, stamps, dueAt, test, candidateOf, nearer, search}
-use Rattle.look.proofs.Groups.{is-last, is-delay, is-other}
 use Rattle.decide.proofs.Sparse.{pick-le}
 
 -- ---- the candidate of a held event
 
-pub candidate-same : (e : Eqn) (o a : Cell) (g : Bool) (s : ℕ) → (numberOf e ≡ 19 → ⊥) → s ≡ candidateOf g e o a s
-unfolding numberOf
-candidate-same input o a g s q = refl
-candidate-same nil o a g s q = refl
-candidate-same unit o a g s q = refl
-candidate-same (one f _) o a g s q = refl
-candidate-same (two f _ _) o a g s q = refl
-candidate-same (last _ _) o a g s q = refl
-candidate-same (delay _ _) o a g s q = absurd (q refl)
+module _ (o a : Cell) (x y : ℕ) (g : Bool) (s : ℕ) where
+  pub candidate-give : g ≡ true → dueAt o a (s + 1) ≡ candidateOf g (delay x y) o a s
+  candidate-give h = let w : s + 1 ≡ suc s = omega arith in rw (h, w)
 
-module _ (e : Eqn) (o a : Cell) (g : Bool) (s : ℕ) where
-  pub candidate-give : numberOf e ≡ 19 → g ≡ true → dueAt o a (s + 1) ≡ candidateOf g e o a s
-  candidate-give q h = let w : s + 1 ≡ suc s = omega arith in is-delay (λ e. dueAt o a (s + 1) ≡ candidateOf g e o a s) (λ x y. rw (h, w)) e q
-
-  pub candidate-stop : numberOf e ≡ 19 → g ≡ false → s + 1 ≡ candidateOf g e o a s
-  candidate-stop q h = let w : s + 1 ≡ suc s = omega arith in is-delay (λ e. s + 1 ≡ candidateOf g e o a s) (λ x y. rw (h, w)) e q
+  pub candidate-stop : g ≡ false → s + 1 ≡ candidateOf g (delay x y) o a s
+  candidate-stop h = let w : s + 1 ≡ suc s = omega arith in rw (h, w)
 
 -- ---- the better of a candidate and the best so far
 
@@ -116,22 +104,17 @@ module _ (e : Eqn) (o a b : Cell) (t : ℕ) where
   unfolding test
   test-stop g q = ap (λ (h : Bool). test h e o a b t) (sym q)
 
-  pub go-last : numberOf e ≡ 18 → t ≤ a .bound → false ≡ machine.stops e o a b t
-  go-last q h = is-last (λ e. false ≡ machine.stops e o a b t) (λ x y. rw (le-ltb (a .bound) t h) (none-and (has (machine.view b t)))) e q
+module _ (o a b : Cell) (x y t : ℕ) where
+  pub go-last : t ≤ a .bound → false ≡ machine.stops (last x y) o a b t
+  go-last h = rw (le-ltb (a .bound) t h) (none-and (has (machine.view b t)))
     where
       none-and : (p : Bool) → false ≡ (p && false)
       none-and true = refl
       none-and false = refl
 
-  pub stop-last : numberOf e ≡ 18 → a .bound < t → has (machine.view b t) ≡ machine.stops e o a b t
-  stop-last q h = is-last (λ e. has (machine.view b t) ≡ machine.stops e o a b t) (λ x y. rw (lt-ltb (a .bound) t h) (and-true (has (machine.view b t)))) e q
+  pub stop-last : a .bound < t → has (machine.view b t) ≡ machine.stops (last x y) o a b t
+  stop-last h = rw (lt-ltb (a .bound) t h) (and-true (has (machine.view b t)))
     where
       and-true : (p : Bool) → p ≡ (p && true)
       and-true true = refl
       and-true false = refl
-
-  pub stop-delay : (z : ℕ) → numberOf e ≡ 19 → z ≡ machine.point o b t → ltb (a .bound) z ≡ machine.stops e o a b t
-  stop-delay z q h = is-delay (λ e. ltb (a .bound) z ≡ machine.stops e o a b t) (λ x y. ap (ltb (a .bound)) h) e q
-
-  pub stop-other : (numberOf e ≡ 18 → ⊥) → (numberOf e ≡ 19 → ⊥) → false ≡ machine.stops e o a b t
-  stop-other p q = is-other (λ e. false ≡ machine.stops e o a b t) refl refl refl (λ f x. refl) (λ g x y. refl) e p q

@@ -1,20 +1,22 @@
 // The decision of a move: how far the equation sees, and the first event that it has there.
 ghost use mathlib.Core.Path.{_≡_};
 ghost use mathlib.Core.List.{List};
-ghost use Prim.Native.Nat.{_≤_, _<_, min, max};
+ghost use Prim.Native.Nat.{_≤_, _<_};
 ghost use lib.ListN.{length};
 ghost use Rattle.meaning.specs.Events.{Event, horizon};
 ghost use Rattle.machine.specs.Reach as machine;
 ghost use Rattle.layout.specs.Record.{decRaw};
 ghost use Rattle.cells.specs.Back.{heldOf};
-ghost use Rattle.look.specs.Look.{lookOf, equation, ownOf, argCell, argOf, Sound};
+ghost use Rattle.look.specs.Look.{lookOf, equation, ownOf, argCell, argOf, Sound, Within};
 ghost use Rattle.gives.specs.Near.{keeping, holding};
 ghost use Rattle.decide.specs.Search.{dueAt};
 ghost use Rattle.decide.specs.Near.{testIn, nearerIn, candidateIn, searchIn, reachIn, firstIn, nextIn, toNext, knownTo};
-use held::Found;
 use limits::Bound;
 use look::Kept;
 use look::Look;
+use look::Op;
+use look::Stream;
+use queue::Found;
 
 // What a move finds: an event, or silence up to a bound.
 pub enum Next {
@@ -24,30 +26,35 @@ pub enum Next {
 
 // Whether the reach ends at t.
 fn stops(l: Look, b: &[u8], t: u64) -> bool
-    requires { ⌜ Sound l × (length (now b) ≡ 256) ⌝ }
-    ensures { λ r. ⌜ ((x : List Event) → r ≡ machine.stops (equation (l .op)) (ownOf l) (argCell (l .abound) x) (argOf (l .bbound) (now (b .entry))) t) ⌝ }
+    requires { ⌜ Within l × (length (now b) ≡ 256) ⌝ }
+    ensures { λ r. ⌜ ((x : List Event) → r ≡ machine.stops (equation (l .stream .op)) (ownOf (l .stream)) (argCell (l .abound) x) (argOf (l .bbound) (now (b .entry))) t) ⌝ }
 {
-    let number = l.number;
-    match number {
-        18 => {
+    let s = l.stream;
+    let op = s.op;
+    match op {
+        Op::In => false,
+        Op::Nil => false,
+        Op::Unit => false,
+        Op::One(_, _) => false,
+        Op::Two(_, _, _) => false,
+        Op::Last(_, _) => {
             if t <= l.abound {
                 return false;
             }
-            let y = held::find(b, t);
+            let y = queue::find(b, t);
             gives::is_some(y)
         }
-        19 => {
-            let k = l.kept;
+        Op::Delay(_, _) => {
+            let k = s.kept;
             let z = gives::point(k, b, t);
             l.abound < z
         }
-        _ => false,
     }
 }
 
 // The test of a search: an event (give), or the end of the reach.
 fn passes(give: bool, l: Look, a: &[u8], b: &[u8], t: u64) -> bool
-    requires { ⌜ Sound l × (length (now a) ≡ 256) × (length (now b) ≡ 256) × (l .bound ≤ t) × (t ≤ horizon) ⌝ }
+    requires { ⌜ Within l × (length (now a) ≡ 256) × (length (now b) ≡ 256) × (l .stream .bound ≤ t) × (t ≤ horizon) ⌝ }
     ensures { λ r. ⌜ r ≡ testIn give l (now (a .entry)) (now (b .entry)) t ⌝ }
 {
     if give {
@@ -59,10 +66,10 @@ fn passes(give: bool, l: Look, a: &[u8], b: &[u8], t: u64) -> bool
 
 // The better of a candidate stamp and the best so far.
 fn closer(give: bool, l: Look, a: &[u8], b: &[u8], c: u64, best: u64) -> u64
-    requires { ⌜ Sound l × (length (now a) ≡ 256) × (length (now b) ≡ 256) × (best ≤ horizon) ⌝ }
+    requires { ⌜ Within l × (length (now a) ≡ 256) × (length (now b) ≡ 256) × (best ≤ horizon) ⌝ }
     ensures { λ r. ⌜ r ≡ nearerIn give l (now (a .entry)) (now (b .entry)) c best ⌝ }
 {
-    if c < l.bound {
+    if c < l.stream.bound {
         return best;
     }
     if best <= c {
@@ -85,26 +92,35 @@ fn due_at(k: Kept, a: &[u8], z: u64) -> u64
 
 // The candidate that a held event at stamp s makes.
 fn candidate(give: bool, l: Look, a: &[u8], s: u64) -> u64
-    requires { ⌜ Sound l × (length (now a) ≡ 256) × (s < horizon) ⌝ }
+    requires { ⌜ Within l × (length (now a) ≡ 256) × (s < horizon) ⌝ }
     ensures { λ r. ⌜ r ≡ candidateIn give l (now (a .entry)) s ⌝ }
 {
-    if l.number != 19 {
-        return s;
+    let stream = l.stream;
+    let op = stream.op;
+    match op {
+        Op::In => s,
+        Op::Nil => s,
+        Op::Unit => s,
+        Op::One(_, _) => s,
+        Op::Two(_, _, _) => s,
+        Op::Last(_, _) => s,
+        Op::Delay(_, _) => {
+            if give {
+                let k = stream.kept;
+                return due_at(k, a, s + 1);
+            }
+            s + 1
+        }
     }
-    if give {
-        let k = l.kept;
-        return due_at(k, a, s + 1);
-    }
-    s + 1
 }
 
 // The least candidate of the held events of q that passes, at or above the bound and below hi, or hi. From the oldest event
 // on: once one has passed, later ones are not tested.
 fn scan(give: bool, l: Look, a: &[u8], b: &[u8], q: &[u8], hi: u64) -> u64
-    requires { ⌜ Sound l × (length (now a) ≡ 256) × (length (now b) ≡ 256) × (length (now q) ≡ 256) × (hi ≤ horizon) ⌝ }
+    requires { ⌜ Within l × (length (now a) ≡ 256) × (length (now b) ≡ 256) × (length (now q) ≡ 256) × (hi ≤ horizon) ⌝ }
     ensures { λ r. ⌜ (r ≡ searchIn give l (now (a .entry)) (now (b .entry)) hi (heldOf (decRaw (now (q .entry))))) × (r ≤ hi) ⌝ }
 {
-    let n = step::held(q);
+    let n = queue::count(q);
     let mut best = hi;
     let mut i = 0;
     while i < n {
@@ -116,78 +132,75 @@ fn scan(give: bool, l: Look, a: &[u8], b: &[u8], q: &[u8], hi: u64) -> u64
     best
 }
 
-fn smaller(x: u64, y: u64) -> u64
-    ensures { λ r. ⌜ r ≡ min x y ⌝ }
-{
-    if x < y { x } else { y }
-}
-
-fn larger(x: u64, y: u64) -> u64
-    ensures { λ r. ⌜ r ≡ max x y ⌝ }
-{
-    if x < y { y } else { x }
-}
-
 // The greatest bound that the arguments' bounds allow.
 fn limit(l: Look) -> u64
-    requires { ⌜ Sound l ⌝ }
-    ensures { λ r. ⌜ ((x y : List Event) → r ≡ machine.limit (equation (l .op)) (ownOf l) (argCell (l .abound) x) (argCell (l .bbound) y)) × (r ≤ horizon) ⌝ }
+    requires { ⌜ Within l ⌝ }
+    ensures { λ r. ⌜ ((x y : List Event) → r ≡ machine.limit (equation (l .stream .op)) (ownOf (l .stream)) (argCell (l .abound) x) (argCell (l .bbound) y)) × (r ≤ horizon) ⌝ }
 {
-    let number = l.number;
-    match number {
-        1 => l.bound,
-        4..=7 => l.abound,
-        8..=17 => smaller(l.abound, l.bbound),
-        18 => l.bbound,
-        19 => smaller(l.bbound + 1, Bound::HORIZON),
-        _ => Bound::HORIZON,
+    let s = l.stream;
+    let op = s.op;
+    match op {
+        Op::In => s.bound,
+        Op::Nil => Bound::HORIZON,
+        Op::Unit => Bound::HORIZON,
+        Op::One(_, _) => l.abound,
+        Op::Two(_, _, _) => look::smaller(l.abound, l.bbound),
+        Op::Last(_, _) => l.bbound,
+        Op::Delay(_, _) => look::smaller(l.bbound + 1, Bound::HORIZON),
     }
 }
 
 // How far the equation sees; a reach below its bound counts as the bound.
 fn reach(l: Look, a: &[u8], b: &[u8]) -> u64
-    requires { ⌜ Sound l × (length (now a) ≡ 256) × (length (now b) ≡ 256) ⌝ }
+    requires { ⌜ Within l × (length (now a) ≡ 256) × (length (now b) ≡ 256) ⌝ }
     ensures { λ r. ⌜ (r ≡ reachIn l (now (a .entry)) (now (b .entry))) × (r ≤ horizon) ⌝ }
 {
-    let hi = larger(l.bound, limit(l));
-    let number = l.number;
-    match number {
-        18 => scan(false, l, a, b, b, hi),
-        19 => {
+    let s = l.stream;
+    let hi = look::larger(s.bound, limit(l));
+    let op = s.op;
+    match op {
+        Op::In => hi,
+        Op::Nil => hi,
+        Op::Unit => hi,
+        Op::One(_, _) => hi,
+        Op::Two(_, _, _) => hi,
+        Op::Last(_, _) => scan(false, l, a, b, b, hi),
+        Op::Delay(_, _) => {
             let best = scan(false, l, a, b, b, hi);
-            closer(false, l, a, b, l.bound, best)
+            closer(false, l, a, b, s.bound, best)
         }
-        _ => hi,
     }
 }
 
 // The stamp of the first event at or above the bound and below the reach r, or r.
 fn first(l: Look, a: &[u8], b: &[u8], r: u64) -> u64
-    requires { ⌜ Sound l × (length (now a) ≡ 256) × (length (now b) ≡ 256) × (r ≤ horizon) × (r ≡ reachIn l (now a) (now b)) ⌝ }
+    requires { ⌜ Within l × (length (now a) ≡ 256) × (length (now b) ≡ 256) × (r ≤ horizon) × (r ≡ reachIn l (now a) (now b)) ⌝ }
     ensures { λ t. ⌜ t ≡ firstIn l (now (a .entry)) (now (b .entry)) ⌝ }
 {
-    let number = l.number;
-    match number {
-        3 => closer(true, l, a, b, 0, r),
-        4..=7 => scan(true, l, a, b, a, r),
-        8..=17 => {
+    let s = l.stream;
+    let op = s.op;
+    match op {
+        Op::In => r,
+        Op::Nil => r,
+        Op::Unit => closer(true, l, a, b, 0, r),
+        Op::One(_, _) => scan(true, l, a, b, a, r),
+        Op::Two(_, _, _) => {
             let best = scan(true, l, a, b, b, r);
             scan(true, l, a, b, a, best)
         }
-        18 => scan(true, l, a, b, b, r),
-        19 => {
+        Op::Last(_, _) => scan(true, l, a, b, b, r),
+        Op::Delay(_, _) => {
             let best = scan(true, l, a, b, b, r);
-            let k = l.kept;
+            let k = s.kept;
             let c = due_at(k, a, k.since);
             closer(true, l, a, b, c, best)
         }
-        _ => r,
     }
 }
 
-// The decision, of what was read of the equation's record.
+// The decision, of the stream beside its arguments.
 fn next_in(l: Look, a: &[u8], b: &[u8]) -> Next
-    requires { ⌜ Sound l × (length (now a) ≡ 256) × (length (now b) ≡ 256) ⌝ }
+    requires { ⌜ Within l × (length (now a) ≡ 256) × (length (now b) ≡ 256) ⌝ }
     ensures { λ n. ⌜ (toNext n ≡ nextIn l (now (a .entry)) (now (b .entry))) × (knownTo n ≤ horizon) ⌝ }
 {
     let r = reach(l, a, b);
@@ -202,12 +215,12 @@ fn next_in(l: Look, a: &[u8], b: &[u8]) -> Next
     Next::Event(t as u32, v)
 }
 
-// What a move of the equation in o finds, with its arguments in a and b.
-pub fn find_next(o: &[u8], a: &[u8], b: &[u8]) -> Next
-    requires { ⌜ (length (now o) ≡ 256) × (length (now a) ≡ 256) × (length (now b) ≡ 256) ⌝ }
-    ensures next { λ n. ⌜ toNext n ≡ machine.decide (lookOf (decRaw (now (o .entry))) .eqn) (lookOf (decRaw (now (o .entry)))) (lookOf (decRaw (now (a .entry)))) (lookOf (decRaw (now (b .entry)))) ⌝ }
+// What a move of the stream s finds, with its arguments in a and b.
+pub fn find_next(s: Stream, a: &[u8], b: &[u8]) -> Next
+    requires { ⌜ Sound s × (length (now a) ≡ 256) × (length (now b) ≡ 256) ⌝ }
+    ensures next { λ n. ⌜ toNext n ≡ machine.decide (equation (s .op)) (ownOf s) (lookOf (decRaw (now (a .entry)))) (lookOf (decRaw (now (b .entry)))) ⌝ }
     ensures known { λ n. ⌜ knownTo n ≤ horizon ⌝ }
 {
-    let l = look::look_at(o, a, b);
+    let l = look::beside(s, a, b);
     next_in(l, a, b)
 }

@@ -1,4 +1,3 @@
 pub mod Replies
-pub mod MoveReplies
 pub mod Loads
 pub mod Whole

@@ -28,8 +28,9 @@ use Rattle.plan.specs.Rules.{number, declared}
 use Rattle.plan.specs.Taken.{Each, KeepsRules}
 use Rattle.plan.proofs.Taken.{taken-rendered}
 use Rattle.load.proofs.Fresh.{loaded-sound}
-use Rattle.state.proofs.In.{bytes-in}
-use Rattle.engine.specs.Reply.{Reply, notState, replyOf, reply}
+use Rattle.engine.proofs.Replies.{reply-machine}
+use Rattle.running.specs.Reply.{Reply, replyOf}
+use Rattle.engine.specs.Reply.{notState, reply}
 use Rattle.engine.specs.Load.{loadOf, loadReply}
 use Rattle.engine.specs.History.{Act, load, make, answer, left, seenIn, Since, noted, since, TypedAct, AllTypedActs, HoldsOf}
 
@@ -66,14 +67,6 @@ typed-offered (moving s) h = tt
 typed-offered (running n) h = tt
 typed-offered (collecting s) h = tt
 
--- the answer on the bytes of a sound state is that of the machine
-reply-machine : (size : ℕ) (c : Call) (M : State) (b : List ℕ) → Sound (capacity size) M → b ≡ bytesOf size M → reply c b ≡ replyOf size (call c M)
-unfolding reply
-reply-machine size c M b ok e =
-    let v : valid b ≡ true = ap valid e ∙ bytes-valid size M ok in
-    let l : length b ≡ size = ap length e ∙ bytes-length size M ok in
-    ap (λ (x : Bool). cond x (replyOf (length b) (call c (stateIn b))) (notState b)) v ∙ ap₂ (λ (n : ℕ) (N : State). replyOf n (call c N)) l (bytes-in size M b ok e)
-
 -- ---- a load
 
 load-done : (text s : List ℕ) → loadReply text s .number ≡ 0 → (number (capacity (length s)) text ≡ 0) × (loadReply text s .buffer ≡ bytesOf (length s) (loaded (declared (capacity (length s)) text)))
@@ -91,7 +84,8 @@ load-done text s = by (ltb 0 (capacity (length s)))
     by true e = full (number most text) e
     by false e = absurd (omega arith)
 
-load-refused : (text s : List ℕ) → (loadReply text s .number ≡ 0 → ⊥) → loadReply text s .buffer ≡ s
+-- a refused load leaves the buffer
+pub load-refused : (text s : List ℕ) → (loadReply text s .number ≡ 0 → ⊥) → loadReply text s .buffer ≡ s
 unfolding loadReply
 load-refused text s = by (ltb 0 (capacity (length s)))
   where

@@ -14,7 +14,8 @@ use Rattle.operators.specs.Limits.{capacity}
 use Rattle.cells.specs.View.{bytesOf}
 use Rattle.plan.specs.Rules.{declared}
 use Rattle.plan.specs.Taken.{KeepsRules}
-use Rattle.engine.specs.Reply.{Reply, replyOf, reply}
+use Rattle.running.specs.Reply.{Reply, replyOf}
+use Rattle.engine.specs.Reply.{reply}
 use Rattle.engine.specs.Load.{loadReply}
 
 -- a load of a plan text, or one of the other calls

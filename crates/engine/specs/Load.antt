@@ -3,17 +3,17 @@ use Prim.Native.Nat.{ℕ}
 use mathlib.Core.Bool.{cond}
 use mathlib.Core.List.{List}
 use lib.Dec.{eqb, ltb}
-use lib.IntN.{pos}
 use lib.ListN.{length}
 use Rattle.machine.specs.State.{loaded}
 use Rattle.cells.specs.View.{bytesOf}
 use Rattle.operators.specs.Limits.{capacity}
 use Rattle.plan.specs.Rules.{number, declared}
-use Rattle.engine.specs.Reply.{Reply, notState}
+use Rattle.running.specs.Reply.{Reply, plain}
+use Rattle.engine.specs.Reply.{notState}
 
 -- the fresh state of the streams that the text declares; on any other number the buffer stays
 abbrev pub loadOf : ℕ → List ℕ → List ℕ → Reply
-loadOf n text s = record { number = n; moves = 0; stamp = 0; value = pos 0; buffer = cond (eqb n 0) (bytesOf (length s) (loaded (declared (capacity (length s)) text))) s }
+loadOf n text s = plain n (cond (eqb n 0) (bytesOf (length s) (loaded (declared (capacity (length s)) text))) s)
 
 -- "Load checks only the state's length: 12,288 bytes, or 15.": a length that states have
 unfoldable pub loadReply : List ℕ → List ℕ → Reply

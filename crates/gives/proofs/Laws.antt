@@ -72,5 +72,5 @@ unit-later (suc t) h = refl
 -- ---- an arm of a match on the operator
 
 pub gives-arm : (l : Look) (A B : List ℕ) (t : ℕ) {p q : Op} → p ≡ q
-    → machine.gives (equation q) (ownOf l) (argOf (l .abound) A) (argOf (l .bbound) B) t ≡ machine.gives (equation p) (ownOf l) (argOf (l .abound) A) (argOf (l .bbound) B) t
-gives-arm l A B t e = sym (ap (λ (o : Op). machine.gives (equation o) (ownOf l) (argOf (l .abound) A) (argOf (l .bbound) B) t) e)
+    → machine.gives (equation q) (ownOf (l .stream)) (argOf (l .abound) A) (argOf (l .bbound) B) t ≡ machine.gives (equation p) (ownOf (l .stream)) (argOf (l .abound) A) (argOf (l .bbound) B) t
+gives-arm l A B t e = sym (ap (λ (o : Op). machine.gives (equation o) (ownOf (l .stream)) (argOf (l .abound) A) (argOf (l .bbound) B) t) e)

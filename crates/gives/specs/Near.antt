@@ -26,4 +26,4 @@ size (some (negsuc n)) = 0
 
 -- what the equation has at t
 abbrev pub givesIn : Look → (A B : List ℕ) → ℕ → Option ℤ
-givesIn l A B t = gives (equation (l .op)) (ownOf l) (argOf (l .abound) A) (argOf (l .bbound) B) t
+givesIn l A B t = gives (equation (l .stream .op)) (ownOf (l .stream)) (argOf (l .abound) A) (argOf (l .bbound) B) t

@@ -7,12 +7,12 @@ ghost use Rattle.meaning.specs.Table.{latest, last-at, delay-at, unit-at};
 ghost use Rattle.machine.specs.Reach as machine;
 ghost use Rattle.layout.specs.Record.{decRaw};
 ghost use Rattle.cells.specs.Back.{heldOf};
-ghost use Rattle.held.specs.Found.{asOption};
+ghost use Rattle.queue.specs.Found.{asOption};
 ghost use Rattle.gives.specs.Near.{keeping, holding, size, givesIn};
-use held::Found;
 use look::Kept;
 use look::Look;
 use look::Op;
+use queue::Found;
 
 // One less, and 0 of 0.
 pub fn before(z: u64) -> u64
@@ -27,7 +27,7 @@ pub fn set_value(k: Kept, a: &[u8], z: u64) -> Found
     ensures { λ r. ⌜ asOption r ≡ machine.valueAt (keeping k) (holding (now (a .entry))) z ⌝ }
 {
     let p = before(z);
-    let x = held::find(a, p);
+    let x = queue::find(a, p);
     if z == k.since {
         let v = k.value;
         return table::or_else(x, v);
@@ -41,7 +41,7 @@ pub fn point(k: Kept, b: &[u8], t: u64) -> u64
     ensures { λ r. ⌜ r ≡ machine.point (keeping k) (holding (now (b .entry))) t ⌝ }
 {
     let since = k.since;
-    let z = held::past_latest(b, t);
+    let z = queue::past_latest(b, t);
     if since < z {
         return z;
     }
@@ -78,12 +78,12 @@ fn last_at(k: Kept, a: &[u8], b: &[u8], t: u64) -> Found
     requires { ⌜ (length (now a) ≡ 256) × (length (now b) ≡ 256) ⌝ }
     ensures { λ r. ⌜ asOption r ≡ last-at (found (heldOf (decRaw (now (b .entry)))) t) (orElse (latest (found (heldOf (decRaw (now (a .entry))))) t) (asOption (k .prev))) ⌝ }
 {
-    let y = held::find(b, t);
+    let y = queue::find(b, t);
     let Found::Value(_) = y else {
         return Found::Nothing;
     };
     let v = k.prev;
-    let x = held::latest_before(a, t);
+    let x = queue::latest_before(a, t);
     table::or_else(x, v)
 }
 
@@ -111,29 +111,30 @@ fn unit_at(t: u64) -> Found
 
 // What the equation has at t.
 pub fn event_at(l: Look, a: &[u8], b: &[u8], t: u64) -> Found
-    requires { ⌜ (length (now a) ≡ 256) × (length (now b) ≡ 256) × (l .kept .since ≤ t) × (t ≤ horizon) ⌝ }
+    requires { ⌜ (length (now a) ≡ 256) × (length (now b) ≡ 256) × (l .stream .kept .since ≤ t) × (t ≤ horizon) ⌝ }
     ensures { λ r. ⌜ asOption r ≡ givesIn l (now (a .entry)) (now (b .entry)) t ⌝ }
 {
-    let op = l.op;
+    let s = l.stream;
+    let op = s.op;
     match op {
         Op::In => Found::Nothing,
         Op::Nil => Found::Nothing,
         Op::Unit => unit_at(t),
         Op::One(f, _) => {
-            let x = held::find(a, t);
+            let x = queue::find(a, t);
             table::one_at(f, t, x)
         }
         Op::Two(g, _, _) => {
-            let x = held::find(a, t);
-            let y = held::find(b, t);
+            let x = queue::find(a, t);
+            let y = queue::find(b, t);
             table::two_at(g, x, y)
         }
         Op::Last(_, _) => {
-            let k = l.kept;
+            let k = s.kept;
             last_at(k, a, b, t)
         }
         Op::Delay(_, _) => {
-            let k = l.kept;
+            let k = s.kept;
             delay_at(k, a, b, t)
         }
     }

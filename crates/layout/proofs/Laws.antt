@@ -1,5 +1,5 @@
 -- Laws of the raw state's bytes.
-use Prim.Native.Nat.{ℕ, zero, suc, _+_, _*_, _-_, _^_, _<_, _≤_}
+use Prim.Native.Nat.{ℕ, zero, suc, _+_, _*_, _^_, _<_, _≤_}
 use mathlib.Core.Path.{_≡_, refl, sym, ap, ap₂, _∙_}
 use mathlib.Core.List.{List, _++_, append-assoc}
 use native.Mathlib.Omega.{arith}
@@ -157,6 +157,10 @@ pub record-part : (s : List ℕ) (i k : ℕ) → k ≡ 256 → i * 256 + 256 ≤
 record-part s i k q h =
     let e : midOf (i * 256) k s ≡ part s (i * 256) 256 = ap (λ (m : ℕ). midOf (i * 256) m s) q in
     (e, ap length e ∙ length-take-le 256 (drop (i * 256) s) (rw (length-drop (i * 256) s) (omega arith)))
+
+-- what lies in the bytes of record i is row i
+pub record-row : (n : ℕ) (s p : List ℕ) (i : ℕ) → i < n → p ≡ part s (i * 256) 256 → decRaw p ≡ rowAt (decode n s) i
+record-row n s p i h e = ap decRaw e ∙ sym (row-at n s i h)
 
 pub row-mid : (n : ℕ) (s : List ℕ) (i k : ℕ) → i < n → k ≡ 256 → rowAt (decode n s) i ≡ decRaw (midOf (i * 256) k s)
 row-mid n s i k h q = row-at n s i h ∙ ap (λ (m : ℕ). decRaw (midOf (i * 256) m s)) (sym q)

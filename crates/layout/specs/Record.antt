@@ -1,8 +1,7 @@
 -- The raw state: numbers and event slots as they lie in bytes. Total: every buffer is one, whatever it holds.
-use Prim.Native.Nat.{ℕ, zero, suc, _+_, _*_, _^_, _<_}
-use mathlib.Core.Path.{_≡_}
+use Prim.Native.Nat.{ℕ, _*_}
 use mathlib.Core.List.{List, [], _∷_, _++_, map}
-use lib.ListN.{length, take, drop, getD, set, replicate}
+use lib.ListN.{take, drop, getD, set, replicate}
 use Rattle.machine.specs.State.{room}
 use Rattle.le.specs.Layout.{encFields, decFields, encRows, decRows}
 

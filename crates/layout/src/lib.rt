@@ -10,6 +10,7 @@ ghost use Rattle.layout.specs.Record.{encRaw, decRaw, num, withNum, slot
 pub const RECORD: usize = 256;
 // How many its head has, and each slot behind it.
 pub const HEAD: usize = 64;
+
 pub const SLOT: usize = 12;
 // Where the first slot's value lies, behind its stamp.
 const FIRST_VALUE: usize = HEAD + 4;
@@ -20,6 +21,7 @@ const FIRST_VALUE: usize = HEAD + 4;
 pub const OP: usize = 0;
 // The arguments.
 pub const A: usize = 1;
+
 pub const B: usize = 2;
 // 1 of an output.
 pub const OUT: usize = 3;
@@ -50,7 +52,7 @@ pub const PRIOR: usize = 5;
 pub const REST: usize = 6;
 
 // Record i of a state.
-pub fn record(state: &[u8], i: usize) -> &[u8]
+pub fn row_at(state: &[u8], i: usize) -> &[u8]
     requires { ⌜ i * 256 + 256 ≤ length (now state) ⌝ }
     ensures { λ r. ⌜ (now r ≡ part (now (state .entry)) (i * 256) 256) × (length (now r) ≡ 256) ⌝ }
 {

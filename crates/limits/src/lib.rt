@@ -1,6 +1,6 @@
 // The limits of bounds and queues, each named once, with the type it belongs to. (A plan's are in `operators`.)
 ghost use mathlib.Core.Path.{_≡_};
-ghost use Prim.Native.Nat.{_+_, _≤_};
+ghost use Prim.Native.Nat.{_+_, _≤_, min};
 ghost use lib.Dec.{leb};
 ghost use Rattle.meaning.specs.Events.{horizon};
 ghost use Rattle.machine.specs.State.{room};
@@ -14,57 +14,67 @@ impl Bound {
     // One past the last stamp.
     pub const HORIZON: u64 = 4294967296;
 
-    // The bound of a fresh stream.
-    pub fn new() -> Bound
-        ensures { λ r. ⌜ r .stamp ≡ 0 ⌝ }
+    // A bound as it is stored or offered, of which nothing is known yet.
+    pub fn new(stamp: u64) -> Bound
+        ensures { λ r. ⌜ r .stamp ≡ stamp ⌝ }
     {
-        Bound { stamp: 0 }
+        Bound { stamp }
     }
 
     // The bound just past an event.
     pub fn past(stamp: u32) -> Bound
-        ensures { λ r. do ⌜ (r .stamp ≡ stamp + 1) × (r .stamp ≤ (← ⟦Bound::HORIZON⟧ .entry)) ⌝ }
+        ensures { λ r. ⌜ (r .stamp ≡ stamp + 1) × (r .stamp ≤ horizon) ⌝ }
     {
         Bound {
             stamp: stamp as u64 + 1,
         }
     }
 
-    // The constant is the definitions' horizon.
-    pub fn horizon() -> u64
-        ensures { λ r. ⌜ r ≡ horizon ⌝ }
+    // Whether it is a bound at all: none lies above the horizon.
+    pub fn fits(self) -> bool
+        ensures { λ r. ⌜ r ≡ leb (self .stamp) horizon ⌝ }
     {
-        Bound::HORIZON
+        self.stamp <= Bound::HORIZON
     }
 }
 
 // The events that a stream holds, of which there is room for 16.
 pub struct Queue {
-    pub count: usize,
+    pub count: u64,
 }
 
 impl Queue {
     // How many events a stream holds at most.
-    pub const ROOM: usize = 16;
+    pub const ROOM: u64 = 16;
 
-    // The queue of a fresh stream.
-    pub fn new() -> Queue
-        ensures { λ r. ⌜ r .count ≡ 0 ⌝ }
+    // A queue of as many events as a record counts.
+    pub fn new(count: u64) -> Queue
+        ensures { λ r. ⌜ r .count ≡ count ⌝ }
     {
-        Queue { count: 0 }
+        Queue { count }
     }
 
     // Whether it takes no more.
     pub fn is_full(self) -> bool
-        ensures { λ r. do ⌜ r ≡ leb (← ⟦Queue::ROOM⟧ .entry) (self .count) ⌝ }
+        ensures { λ r. ⌜ r ≡ leb room (self .count) ⌝ }
     {
         Queue::ROOM <= self.count
     }
 
-    // The constant is the definitions' room.
-    pub fn room() -> usize
-        ensures { λ r. ⌜ r ≡ room ⌝ }
+    // Whether it is a queue at all: none holds more than there is room for.
+    pub fn fits(self) -> bool
+        ensures { λ r. ⌜ r ≡ leb (self .count) room ⌝ }
     {
-        Queue::ROOM
+        self.count <= Queue::ROOM
+    }
+
+    // How many events it holds, never more than there is room for.
+    pub fn length(self) -> usize
+        ensures { λ r. ⌜ (r ≡ min (self .count) room) × (r ≤ room) ⌝ }
+    {
+        if self.count < Queue::ROOM {
+            return self.count as usize;
+        }
+        Queue::ROOM as usize
     }
 }

@@ -13,11 +13,11 @@ fn store(r: &mut [u8], f: Fields)
     requires { ⌜ length (now r) ≡ 256 ⌝ }
     ensures { λ _. ⌜ now (r .exit) ≡ encRaw (stored f (decRaw (now (r .entry)))) ⌝ }
 {
-    layout::put_byte(r, 0, le::wide(f.op));
-    layout::put_byte(r, 1, f.a % 256);
-    layout::put_byte(r, 2, f.b % 256);
-    layout::put_byte(r, 3, f.out % 256);
-    layout::put_word(r, 0, f.k);
+    layout::put_byte(r, layout::OP, le::wide(f.op));
+    layout::put_byte(r, layout::A, f.a % 256);
+    layout::put_byte(r, layout::B, f.b % 256);
+    layout::put_byte(r, layout::OUT, f.out % 256);
+    layout::put_word(r, layout::K, f.k);
 }
 
 // Stores the n streams whose lines begin at a position, each in its record.
@@ -30,8 +30,8 @@ fn write(state: &mut [u8], text: &[u8], n: usize, at: usize)
     while i < n {
         match text::read_stream(text, p) {
             Lines::Stream(f) => {
-                let start = i * 256;
-                let end = start + 256;
+                let start = i * layout::RECORD;
+                let end = start + layout::RECORD;
                 store(&mut state[start..end], f);
                 p = f.next;
                 i += 1;

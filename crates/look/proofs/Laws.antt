@@ -1,23 +1,26 @@
 -- The operators by their stored numbers, and the fields of a record as a move looks at it.
 use Prim.Native.Nat.{ℕ, zero, suc, _≤_, _<_, min}
-use mathlib.Core.Path.{_≡_, refl, sym, ap, _∙_}
-use mathlib.Core.Bool.{cond}
+use mathlib.Core.Path.{_≡_, refl, sym, ap, subst, _∙_}
+use mathlib.Core.Bool.{Bool, true, false, not, cond, false≢true}
 use mathlib.Core.Option.{none, some}
 use native.Mathlib.Omega.{arith}
+use native.Mathlib.Decide.{decLt}
+use lib.Dec.{eqb}
 use lib.IntN.{ℤ}
 use lib.ListN.{List·getD-eq-default}
 use mir.Syntax.{w64}
 use mir.Val.{toZ}
 use borrow.Author.Tests.{eq-eqb, ne-eqb}
-use Rattle.meaning.specs.Plan.{nil}
+use Rattle.meaning.specs.Plan.{Eqn, input, nil, unit, one, two, last, delay}
 use Rattle.meaning.specs.Events.{horizon}
-use Rattle.machine.specs.State.{Cell, noKept}
-use Rattle.operators.specs.Operators.{Operator, operators, noOperator, eqnOf, numberOf}
+use Rattle.machine.specs.State.{Kept, Cell, noKept}
+use Rattle.operators.specs.Operators.{groupOf, Operator, operators, noOperator, eqnOf, numberOf}
 use Rattle.operators.proofs.Laws.{last-number, delay-number, number-back}
-use Rattle.layout.specs.Record.{Raw, num, opF, aF, bF, kF, flagF, priorFlagF, boundF, keptF, valueF, priorF}
+use Rattle.layout.specs.Record.{Raw, num, opF, aF, bF, outF, kF, flagF, priorFlagF, boundF, keptF, valueF, priorF}
 use Rattle.cells.specs.View.{ofCell}
 use Rattle.cells.specs.Back.{toCell, keptOf, optional}
-use Rattle.look.specs.Look.{lookOf, cut, cutKept}
+use Rattle.look.specs.declared.Stream.{Stream}
+use Rattle.look.specs.Look.{lookOf, cut, cutKept, Sound, Is}
 
 -- ---- numbers that no operator has, and nil's own, stand for nil
 
@@ -34,18 +37,26 @@ module _ (a b : ℕ) (k : ℤ) where
   unfolding eqnOf
   nil-high n h = sym (ap (λ (o : Operator). o .eqn a b k) (List·getD-eq-default operators noOperator {n = n} h))
 
--- the stored number, back from its equation
-module _ (a b : ℕ) (k : ℤ) where
-  pub number-in : (n : ℕ) → 1 ≤ n → n ≤ 19 → n ≡ numberOf (eqnOf n a b k)
-  number-in n l h = sym (number-back a b k n l h)
-
-  pub number-none : (n : ℕ) → n ≡ 0 → 2 ≡ numberOf (eqnOf n a b k)
-  unfolding eqnOf numberOf
-  number-none n e = ap (λ (m : ℕ). numberOf (eqnOf m a b k)) (sym e)
-
-  pub number-over : (n : ℕ) → 19 < n → 2 ≡ numberOf (eqnOf n a b k)
+  -- an equation other than nil is that of its own number alone
+  pub number-only : (n m : ℕ) → numberOf (eqnOf n a b k) ≡ m → (m ≡ 2 → ⊥) → n ≡ m
   unfolding numberOf
-  number-over n h = ap numberOf (nil-high a b k n h)
+  number-only n m e h = go (decLt 19 n) (decLt n 1)
+    where
+      go : Dec (19 < n) → Dec (n < 1) → n ≡ m
+      go (yes l) d = absurd (h (sym e ∙ sym (ap numberOf (nil-high n l))))
+      go (no l) (yes z) = absurd (h (sym e ∙ sym (ap numberOf (nil-low n (omega arith) (λ q. omega arith) (λ q. omega arith)))))
+      go (no l) (no z) = sym (number-back a b k n (omega arith) (omega arith)) ∙ e
+
+-- ---- the operators that keep something
+
+abbrev pub keeps : Eqn → Bool
+keeps input = false
+keeps nil = false
+keeps unit = false
+keeps (one f a) = false
+keeps (two g a b) = false
+keeps (last a b) = true
+keeps (delay a b) = true
 
 -- ---- the fields
 
@@ -72,18 +83,37 @@ module _ (r : Raw) where
   unfolding lookOf toCell
   since-bound = omega arith
 
-  pub kept-last : num opF r ≡ 18 → lookOf r .kept ≡ record { prev = optional (num flagF r) (num keptF r); since = 0; value = none; prior = none }
-  unfolding keptOf
-  kept-last e = let z : min 0 (lookOf r .bound) ≡ 0 = omega arith in look-kept ∙ rw (last-number, e, z)
+  -- what the record keeps, by its equation
+  stored : (e : Eqn) → e ≡ lookOf r .eqn → (numberOf e ≡ 2 → ⊥) → num opF r ≡ numberOf e
+  stored e q h = number-only (num aF r) (num bF r) (toZ w64 (num kF r)) (num opF r) (numberOf e) (ap numberOf (sym look-eqn ∙ sym q)) h
 
-  pub kept-delay : num opF r ≡ 19
+  pub kept-last : (x y : ℕ) → last x y ≡ lookOf r .eqn → lookOf r .kept ≡ record { prev = optional (num flagF r) (num keptF r); since = 0; value = none; prior = none }
+  unfolding keptOf numberOf groupOf
+  kept-last x y q =
+      let e : num opF r ≡ 18 = stored (last x y) q (λ w. omega arith) in
+      let z : min 0 (lookOf r .bound) ≡ 0 = omega arith in
+      look-kept ∙ rw (e, z)
+
+  pub kept-delay : (x y : ℕ) → delay x y ≡ lookOf r .eqn
       → lookOf r .kept ≡ record { prev = none; since = min (num keptF r) (lookOf r .bound); value = optional (num flagF r) (num valueF r); prior = optional (num priorFlagF r) (num priorF r) }
-  unfolding keptOf
-  kept-delay e = look-kept ∙ rw (last-number, delay-number, e)
+  unfolding keptOf numberOf
+  kept-delay x y q =
+      let e : num opF r ≡ 19 = stored (delay x y) q (λ w. omega arith) in
+      look-kept ∙ rw (last-number, delay-number, e)
 
-  pub kept-else : (num opF r ≡ 18 → ⊥) → (num opF r ≡ 19 → ⊥) → lookOf r .kept ≡ noKept
-  unfolding keptOf
-  kept-else h k = let z : min 0 (lookOf r .bound) ≡ 0 = omega arith in look-kept ∙ rw (last-number, delay-number, ne-eqb _ _ h, ne-eqb _ _ k, z)
+  pub kept-none : keeps (lookOf r .eqn) ≡ false → lookOf r .kept ≡ noKept
+  unfolding keptOf eqnOf
+  kept-none h =
+      let z : min 0 (lookOf r .bound) ≡ 0 = omega arith in
+      let k = toZ w64 (num kF r) in
+      let is : keeps (eqnOf (num opF r) (num aF r) (num bF r) k) ≡ false = ap keeps (sym look-eqn) ∙ h in
+      let p : num opF r ≡ 18 → ⊥ = λ e. false≢true (sym is ∙ ap (λ (m : ℕ). keeps (eqnOf m (num aF r) (num bF r) k)) e) in
+      let q : num opF r ≡ 19 → ⊥ = λ e. false≢true (sym is ∙ ap (λ (m : ℕ). keeps (eqnOf m (num aF r) (num bF r) k)) e) in
+      look-kept ∙ rw (last-number, delay-number, ne-eqb _ _ p, ne-eqb _ _ q, z)
+
+  pub look-out : lookOf r .out ≡ not (eqb (num outF r) 0)
+  unfolding lookOf toCell
+  look-out = refl
 
   -- a record with bound and set point within their ranges is looked at as its cell
   pub look-valid : num boundF r ≤ horizon → toCell r .kept .since ≤ num boundF r → lookOf r ≡ toCell r
@@ -94,6 +124,19 @@ module _ (r : Raw) where
 pub look-cell : (c : Cell) → toCell (ofCell c) ≡ c → c .bound ≤ horizon → c .kept .since ≤ c .bound → lookOf (ofCell c) ≡ c
 unfolding lookOf
 look-cell c e h k = ap cut e ∙ cut-same c h k
+
+-- a record's stream is within its ranges
+pub is-sound : (s : Stream) (r : Raw) → Is s r → Sound s
+is-sound s r i =
+    let b = i .bound in
+    let q = look-bound r in
+    let k : s .kept .since ≡ lookOf r .kept .since = ap (λ (x : Kept). x .since) (i .kept) in
+    let h = since-bound r in
+    record { top = omega arith; since = omega arith }
+
+-- what holds of an equation holds of one equal to it
+pub by : (P : Eqn → Type 0) {e d : Eqn} → e ≡ d → P d → P e
+by P q h = subst P (sym q) h
 
 pub optional-none : (has x : ℕ) → has ≡ 0 → none ≡ optional has x
 optional-none has x e = sym (ap (λ b. cond b none (some (toZ w64 x))) (eq-eqb has 0 e))

@@ -1,4 +1,4 @@
--- A raw record read as a cell with its bound and its set point within their ranges, and the struct that a move reads it into.
+-- A raw record read as a cell with its bound and its set point within their ranges, and the struct that it is rebuilt into.
 use Prim.Native.Nat.{ℕ, _≤_, min}
 use mathlib.Core.Path.{_≡_}
 use mathlib.Core.Bool.{false}
@@ -6,14 +6,14 @@ use mathlib.Core.List.{List, []}
 use Rattle.meaning.specs.Plan.{Eqn, input, nil, unit, one, two, last, delay}
 use Rattle.meaning.specs.Events.{Event, horizon}
 use Rattle.machine.specs.State.{Kept, Cell, noKept}
-use Rattle.operators.specs.Operators.{numberOf}
 use Rattle.layout.specs.Record.{Raw, decRaw}
 use Rattle.cells.specs.Back.{toCell, heldOf}
-use Rattle.held.specs.Found.{asOption}
+use Rattle.queue.specs.Found.{asOption}
 use Rattle.table.specs.Named.{unary, binary}
 use Rattle.look.specs.declared.Op.{Op}
 use Rattle.look.specs.declared.Op.the-variants.{In, Nil, Unit, One, Two, Last, Delay}
 use Rattle.look.specs.declared.Kept as code
+use Rattle.look.specs.declared.Stream.{Stream}
 use Rattle.look.specs.declared.Look.{Look}
 
 -- a set point at most y
@@ -55,8 +55,8 @@ keptIn k = record { prev = asOption (k .prev); since = k .since; value = asOptio
 abbrev pub ownCell : Eqn → ℕ → Kept → Cell
 ownCell e y k = record { eqn = e; out = false; bound = y; held = []; next = 0; kept = k }
 
-abbrev pub ownOf : Look → Cell
-ownOf l = ownCell (equation (l .op)) (l .bound) (keptIn (l .kept))
+abbrev pub ownOf : Stream → Cell
+ownOf s = ownCell (equation (s .op)) (s .bound) (keptIn (s .kept))
 
 -- an argument's: its bound and its held events
 abbrev pub argCell : ℕ → List Event → Cell
@@ -66,18 +66,20 @@ abbrev pub argOf : ℕ → List ℕ → Cell
 argOf y s = argCell y (heldOf (decRaw s))
 
 -- what validity would say of the struct
-pub record Sound (l : Look) : Type 0 where
-  pub stored : l .number ≡ numberOf (equation (l .op))
-  pub top : l .bound ≤ horizon
+pub record Sound (s : Stream) : Type 0 where
+  pub top : s .bound ≤ horizon
+  pub since : s .kept .since ≤ s .bound
+
+-- the struct is the record's stream
+pub record Is (s : Stream) (r : Raw) : Type 0 where
+  pub eqn : equation (s .op) ≡ lookOf r .eqn
+  pub out : s .out ≡ lookOf r .out
+  pub bound : s .bound ≡ lookOf r .bound
+  pub kept : keptIn (s .kept) ≡ lookOf r .kept
+
+-- what validity would say of a stream and its arguments
+pub record Within (l : Look) : Type 0 where
+  pub top : l .stream .bound ≤ horizon
+  pub since : l .stream .kept .since ≤ l .stream .bound
   pub top-a : l .abound ≤ horizon
   pub top-b : l .bbound ≤ horizon
-  pub since : l .kept .since ≤ l .bound
-
--- the struct is what the three records hold
-pub record Sees (l : Look) (o a b : Raw) : Type 0 where
-  pub sound : Sound l
-  pub eqn : equation (l .op) ≡ lookOf o .eqn
-  pub bound : l .bound ≡ lookOf o .bound
-  pub kept : keptIn (l .kept) ≡ lookOf o .kept
-  pub abound : l .abound ≡ lookOf a .bound
-  pub bbound : l .bbound ≡ lookOf b .bound

@@ -5,7 +5,7 @@ use mathlib.Core.Bool.{Bool, true, false, cond, _&&_}
 use mathlib.Core.Option.{Option, none, some}
 use lib.Dec.{ltb, eqb}
 use lib.IntN.{ℤ}
-use Rattle.meaning.specs.Plan.{Unary, Binary, Eqn, input, nil, unit, one, two, last, delay}
+use Rattle.meaning.specs.Plan.{Eqn, input, nil, unit, one, two, last, delay}
 use Rattle.meaning.specs.Events.{Stream, found, has, orElse, horizon}
 use Rattle.meaning.specs.Table.{one-at, two-at, unit-at, latest, last-at, is, delay-at}
 use Rattle.machine.specs.State.{Cell}

@@ -1,8 +1,8 @@
 -- The state: for each stream its equation, its bound, the events it holds, and what is kept. No bytes.
 use Prim.Native.Nat.{ℕ}
-use mathlib.Core.Bool.{Bool, true, false}
-use mathlib.Core.Option.{Option, none, some}
-use mathlib.Core.List.{List, [], _∷_, map}
+use mathlib.Core.Bool.{Bool, false}
+use mathlib.Core.Option.{Option, none}
+use mathlib.Core.List.{List, [], map}
 use lib.ListN.{getD}
 use lib.IntN.{ℤ}
 use Rattle.meaning.specs.Plan.{Eqn, nil, Plan}

@@ -1,13 +1,13 @@
 -- One step: a stream's bound goes up, with at most one new event. Only that stream, its readers and its arguments change.
-use Prim.Native.Nat.{ℕ, zero, suc, pred, _+_, min, max}
-use mathlib.Core.Bool.{Bool, true, false, not, cond, _&&_, _||_}
-use mathlib.Core.Option.{Option, none, some}
+use Prim.Native.Nat.{ℕ, suc, pred, _+_, min, max}
+use mathlib.Core.Bool.{Bool, false, not, cond, _&&_, _||_}
+use mathlib.Core.Option.{none, some}
 use mathlib.Core.List.{List, [], _∷_, _++_, map}
 use lib.Dec.{leb, ltb, eqb}
 use lib.ListN.{length, set}
 use lib.IntN.{ℤ}
 use Rattle.meaning.specs.Plan.{Eqn, input, nil, unit, one, two, last, delay, isInput, reads, argA, argB}
-use Rattle.meaning.specs.Events.{Event, ev, found, horizon, orElse}
+use Rattle.meaning.specs.Events.{Event, ev, horizon, orElse}
 use Rattle.meaning.specs.Table.{latest}
 use Rattle.machine.specs.State.{Kept, Cell, State, cellAt, room, withBound, withHeld, withKept, withPrev, withSince, withValue, withPrior}
 use Rattle.machine.specs.Reach.{view, pastLatest, valueAt, Next, event, silent, decide}

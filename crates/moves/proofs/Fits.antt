@@ -1,5 +1,5 @@
 -- What is brought up to date keeps within the widths of the record's fields.
-use Prim.Native.Nat.{ℕ, zero, suc, pred, _-_, _^_, _<_, _≤_, min}
+use Prim.Native.Nat.{ℕ, zero, suc, pred, _^_, _<_, _≤_, min}
 use mathlib.Core.Bool.{Bool, true, false, cond}
 use mathlib.Core.Option.{Option, none, some}
 use mathlib.Core.List.{List, [], _∷_, map}
@@ -19,7 +19,7 @@ use Rattle.machine.specs.Step.{later, absorb}
 use Rattle.machine.proofs.Window.{past-le}
 use Rattle.le.proofs.RoundTrip.{All}
 use Rattle.operators.specs.Operators.{groupOf, isLast, isDelay}
-use Rattle.layout.specs.Record.{Slot, Raw, num, opF, countF, flagF, priorFlagF, keptF, valueF, priorF}
+use Rattle.layout.specs.Record.{Slot, Raw, num, withNum, opF, countF, flagF, priorFlagF, keptF, valueF, priorF}
 use Rattle.layout.proofs.Laws.{RawOk, SlotOk, num-small, num-ok}
 use Rattle.cells.specs.View.{flagOf, bitsOf}
 use Rattle.cells.specs.Back.{optional, eventOf, heldOf, keptOf, toCell}
@@ -27,10 +27,8 @@ use Rattle.cells.specs.Sound.{IsValue, IsOptional}
 use Rattle.cells.proofs.Widths.{bits-below}
 use Rattle.sound.proofs.Values.{or-value, cond-value, latest-value, Holds}
 use Rattle.look.specs.Look.{lookOf}
-use Rattle.absorb.specs.Keep.{keptRow}
-use Rattle.absorb.proofs.Laws.{last-ok, value-ok, prior-ok}
-use Rattle.absorb.specs.Keep.{lastKept, valueKept, priorKept, delayKept}
-use Rattle.step.proofs.Leaves.{cond-ok}
+use Rattle.absorb.proofs.Laws.{value-ok}
+use Rattle.absorb.specs.Keep.{valueKept, delayKept, keptRow}
 
 -- ---- values read from a record
 
@@ -71,15 +69,11 @@ kept-of r ok = go (isLast (groupOf (num opF r))) (isDelay (groupOf (num opF r)))
     go false true = (tt, optional-value (num flagF r) (num valueF r) (num-small r valueF ok (lit< tt)), optional-value (num priorFlagF r) (num priorF r) (num-small r priorF ok (lit< tt)))
     go false false = (tt, tt, tt)
 
-look-kept : (r : Raw) → RawOk r → KeptFits (lookOf r .kept)
+pub look-kept : (r : Raw) → RawOk r → KeptFits (lookOf r .kept)
 unfolding lookOf toCell
 look-kept r ok = let k = kept-of r ok in record { prev = k .0; since = omega arith; value = k .1; prior = k .2 }
 
-look-bound : (r : Raw) → lookOf r .bound ≤ horizon
-unfolding lookOf
-look-bound r = omega arith
-
-absorb-fits : (e : Eqn) (o a b : Cell) → o .bound ≤ horizon → KeptFits (o .kept) → Holds a → KeptFits (absorb e o a b)
+pub absorb-fits : (e : Eqn) (o a b : Cell) → o .bound ≤ horizon → KeptFits (o .kept) → Holds a → KeptFits (absorb e o a b)
 absorb-fits input o a b h k ha = k
 absorb-fits nil o a b h k ha = k
 absorb-fits unit o a b h k ha = k
@@ -99,9 +93,6 @@ absorb-fits (delay _ _) o a b h k ha =
       prior = ha (pred (o .bound));
     }
 
-pub absorbed-fits : (r ra rb : Raw) → RawOk r → RawOk ra → KeptFits (absorb (lookOf r .eqn) (lookOf r) (lookOf ra) (lookOf rb))
-absorbed-fits r ra rb ok oka = absorb-fits (lookOf r .eqn) (lookOf r) (lookOf ra) (lookOf rb) (look-bound r) (look-kept r ok) (look-holds ra oka)
-
 -- ---- stored
 
 flag-below : (o : Option ℤ) → flagOf o < 256
@@ -112,16 +103,17 @@ bits-small : (o : Option ℤ) → IsOptional o → bitsOf o < 2 ^ 64
 bits-small none h = lit< tt
 bits-small (some v) h = bits-below v h
 
-pub kept-ok : (k : Kept) (r : Raw) → KeptFits k → RawOk r → RawOk (keptRow k r)
+pub kept-ok : (e : Eqn) (k : Kept) (r : Raw) → KeptFits k → RawOk r → RawOk (keptRow e k r)
 unfolding keptRow delayKept
-kept-ok k r f ok =
+kept-ok input k r f ok = ok
+kept-ok nil k r f ok = ok
+kept-ok unit k r f ok = ok
+kept-ok (one g _) k r f ok = ok
+kept-ok (two g _ _) k r f ok = ok
+kept-ok (last _ _) k r f ok = value-ok flagF keptF (flagOf (k .prev)) (bitsOf (k .prev)) r (flag-below (k .prev)) (bits-small (k .prev) (f .prev)) ok
+kept-ok (delay _ _) k r f ok =
     let s = f .since in
-    let r₁ = Rattle.layout.specs.Record.withNum keptF (k .since) r in
-    let r₂ = valueKept (flagOf (k .value)) (bitsOf (k .value)) r₁ in
-    let last′ = lastKept (flagOf (k .prev)) (bitsOf (k .prev)) r in
-    let delay′ = priorKept (flagOf (k .prior)) (bitsOf (k .prior)) r₂ in
-    cond-ok (isLast (groupOf (num opF r))) last′ (cond (isDelay (groupOf (num opF r))) delay′ r)
-    (last-ok (flagOf (k .prev)) (bitsOf (k .prev)) r (flag-below (k .prev)) (bits-small (k .prev) (f .prev)) ok)
-    (cond-ok (isDelay (groupOf (num opF r))) delay′ r
-    (prior-ok (flagOf (k .prior)) (bitsOf (k .prior)) r₂ (flag-below (k .prior)) (bits-small (k .prior) (f .prior))
-    (value-ok (flagOf (k .value)) (bitsOf (k .value)) r₁ (flag-below (k .value)) (bits-small (k .value) (f .value)) (num-ok r keptF (k .since) ok (omega arith)))) ok)
+    let r₁ = withNum keptF (k .since) r in
+    let r₂ = valueKept flagF valueF (flagOf (k .value)) (bitsOf (k .value)) r₁ in
+    value-ok priorFlagF priorF (flagOf (k .prior)) (bitsOf (k .prior)) r₂ (flag-below (k .prior)) (bits-small (k .prior) (f .prior))
+    (value-ok flagF valueF (flagOf (k .value)) (bitsOf (k .value)) r₁ (flag-below (k .value)) (bits-small (k .value) (f .value)) (num-ok r keptF (k .since) ok (omega arith)))

@@ -1,4 +1,3 @@
+pub mod Decides
 pub mod Fits
 pub mod Steps
-pub mod Decides
-pub mod Behind

@@ -1,36 +1,40 @@
 -- A move and a run on raw records: total functions of n records.
-use Prim.Native.Nat.{ℕ, zero, suc, _+_}
-use mathlib.Core.Bool.{Bool, true, false, not, cond, _&&_}
+use Prim.Native.Nat.{ℕ, _+_}
+use mathlib.Core.Bool.{Bool, not, cond, _&&_}
 use mathlib.Core.List.{List, [], _∷_}
 use lib.Dec.{ltb, leb, eqb}
-use lib.IntN.{ℤ}
 use mir.Syntax.{w64}
 use mir.Val.{ofZ}
-use Rattle.machine.specs.State.{Cell, Kept, room}
-use Rattle.machine.specs.Reach.{Next, event, silent, decide}
+use Rattle.meaning.specs.Plan.{Eqn, isInput, reads}
+use Rattle.machine.specs.State.{Cell, Kept, room, noKept}
+use Rattle.machine.specs.Reach.{Next, event, silent, limit, decide}
 use Rattle.machine.specs.Step.{absorb}
-use Rattle.layout.specs.Record.{Raw, Raws, num, withNum, rowAt, change, changeAll, opF, aF, bF, countF, boundF}
-use Rattle.look.specs.Look.{lookOf}
-use Rattle.absorb.specs.Keep.{keptRow}
-use Rattle.step.specs.Step.{pushed, toldRow, releasedRow}
+use Rattle.meaning.specs.Plan.{argA, argB}
+use Rattle.layout.specs.Record.{Raws, num, withNum, rowAt, change, changeAll, countF, boundF}
+use Rattle.cells.specs.Back.{heldOf}
+use Rattle.look.specs.Look.{lookOf, ownCell}
+use Rattle.absorb.specs.Keep.{movedCell, keptRow}
+use Rattle.queue.specs.Queue.{pushed}
+use Rattle.step.specs.Step.{toldRow, releasedRow}
 
 -- an argument's record, of n; one that is not there is read as the first
 abbrev pub argIn : ℕ → ℕ → ℕ
 argIn n a = cond (ltb a n) a 0
 
--- the records of stream i and of its two arguments, as a move looks at them
+-- the records of stream i and of an argument a, as a move looks at them
 abbrev pub ownIn : ℕ → Raws → Cell
 ownIn i st = lookOf (rowAt st i)
 
-abbrev pub firstIn : ℕ → ℕ → Raws → Cell
-firstIn n i st = lookOf (rowAt st (argIn n (num aF (rowAt st i))))
+abbrev pub otherIn : ℕ → ℕ → Raws → Cell
+otherIn n a st = lookOf (rowAt st (argIn n a))
 
-abbrev pub secondIn : ℕ → ℕ → Raws → Cell
-secondIn n i st = lookOf (rowAt st (argIn n (num bF (rowAt st i))))
+-- how far its arguments' bounds let an equation with bound y go
+abbrev pub limitRaw : ℕ → Eqn → ℕ → Raws → ℕ
+limitRaw n e y st = limit e (ownCell e y noKept) (otherIn n (argA e) st) (otherIn n (argB e) st)
 
 -- what a move of stream i finds
 unfoldable pub aheadRaw : ℕ → ℕ → Raws → Next
-aheadRaw n i st = decide (ownIn i st .eqn) (ownIn i st) (firstIn n i st) (secondIn n i st)
+aheadRaw n i st = decide (ownIn i st .eqn) (ownIn i st) (otherIn n (argA (ownIn i st .eqn)) st) (otherIn n (argB (ownIn i st .eqn)) st)
 
 -- where its bound goes: a full stream stops at the event
 abbrev pub boundRaw : Next → ℕ → ℕ
@@ -39,38 +43,41 @@ boundRaw (event t v) held = cond (leb room held) t (t + 1)
 
 unfoldable pub canRaw : ℕ → ℕ → Raws → Bool
 unfolding aheadRaw
-canRaw n i st = not (eqb (num opF (rowAt st i)) 1) && not (eqb (boundRaw (aheadRaw n i st) (num countF (rowAt st i))) (num boundF (rowAt st i)))
+canRaw n i st = not (isInput (ownIn i st .eqn)) && not (eqb (boundRaw (aheadRaw n i st) (num countF (rowAt st i))) (ownIn i st .bound))
 
--- own kept data brought up to date
-unfoldable pub absorbedRaw : ℕ → ℕ → Raws → Raws
-absorbedRaw n i st = change i (keptRow (absorb (ownIn i st .eqn) (ownIn i st) (firstIn n i st) (secondIn n i st))) st
+-- Below, e is the equation of stream i and k what it kept, both as looked at before the move.
 
--- what nobody waits for let go: of stream i, and of its arguments by the groups of the stored number
-unfoldable pub releasedArgs : ℕ → ℕ → Raws → Raws
+-- own kept data brought up to date, once the bound is y
+abbrev pub keptRaw : ℕ → ℕ → Eqn → Kept → ℕ → Raws → Kept
+keptRaw n i e k y st = absorb e (movedCell y (heldOf (rowAt st i)) k) (otherIn n (argA e) st) (otherIn n (argB e) st)
+
+unfoldable pub absorbedRaw : ℕ → ℕ → Eqn → Kept → ℕ → Raws → Raws
+absorbedRaw n i e k y st = change i (keptRow e (keptRaw n i e k y st)) st
+
+-- what nobody waits for let go: of stream i, and of its arguments
+unfoldable pub releasedArgs : ℕ → List ℕ → Raws → Raws
 unfolding releasedRow
-releasedArgs n i st =
-    cond (ltb (num opF (rowAt st i)) 4) st
-    (cond (ltb (num opF (rowAt st i)) 8) (releasedRow (argIn n (num aF (rowAt st i))) st)
-    (releasedRow (argIn n (num bF (rowAt st i))) (releasedRow (argIn n (num aF (rowAt st i))) st)))
+releasedArgs n [] st = st
+releasedArgs n (a ∷ l) st = releasedArgs n l (releasedRow (argIn n a) st)
 
-unfoldable pub releasedAll : ℕ → ℕ → Raws → Raws
+unfoldable pub releasedAll : ℕ → ℕ → Eqn → Raws → Raws
 unfolding releasedArgs
-releasedAll n i st = releasedArgs n i (releasedRow i st)
+releasedAll n i e st = releasedArgs n (reads e) (releasedRow i st)
 
 -- the bound goes to y in silence
-unfoldable pub silentRaw : ℕ → ℕ → ℕ → Raws → Raws
+unfoldable pub silentRaw : ℕ → ℕ → Eqn → Kept → ℕ → Raws → Raws
 unfolding absorbedRaw releasedAll
-silentRaw n i y st = releasedAll n i (absorbedRaw n i (change i (withNum boundF y) st))
+silentRaw n i e k y st = releasedAll n i e (absorbedRaw n i e k y (change i (withNum boundF y) st))
 
 -- the event (t, v) comes in
-unfoldable pub eventRaw : ℕ → ℕ → ℕ → ℕ → Raws → Raws
+unfoldable pub eventRaw : ℕ → ℕ → Eqn → Kept → ℕ → ℕ → Raws → Raws
 unfolding absorbedRaw releasedAll toldRow pushed
-eventRaw n i t v st = releasedAll n i (changeAll (toldRow i t v) (absorbedRaw n i (change i (pushed t v) st)))
+eventRaw n i e k t v st = releasedAll n i e (changeAll (toldRow i t v) (absorbedRaw n i e k (t + 1) (change i (pushed t v) st)))
 
-abbrev pub stepRaw : ℕ → ℕ → Next → ℕ → Raws → Raws
-stepRaw n i (silent r) held st = silentRaw n i r st
-stepRaw n i (event t v) held st = cond (leb room held) (silentRaw n i t st) (eventRaw n i t (ofZ w64 v) st)
+abbrev pub stepRaw : ℕ → ℕ → Eqn → Kept → Next → ℕ → Raws → Raws
+stepRaw n i e k (silent r) held st = silentRaw n i e k r st
+stepRaw n i e k (event t v) held st = cond (leb room held) (silentRaw n i e k t st) (eventRaw n i e k t (ofZ w64 v) st)
 
 unfoldable pub movedRaw : ℕ → ℕ → Raws → Raws
 unfolding silentRaw eventRaw aheadRaw
-movedRaw n i st = stepRaw n i (aheadRaw n i st) (num countF (rowAt st i)) st
+movedRaw n i st = stepRaw n i (ownIn i st .eqn) (ownIn i st .kept) (aheadRaw n i st) (num countF (rowAt st i)) st

@@ -1,166 +1,196 @@
 // A move and a run, in place on the bytes of n records.
 ghost use mathlib.Core.Path.{_≡_};
-ghost use mathlib.Core.Bool.{true, false, cond};
-ghost use Prim.Native.Nat.{_*_, _+_, _≤_, _<_};
+ghost use mathlib.Core.Bool.{true, cond};
+ghost use mathlib.Core.List.{[], _∷_};
+ghost use Prim.Native.Nat.{_*_, _+_, _≤_, _<_, min};
 ghost use lib.ListN.{length};
+ghost use Rattle.meaning.specs.Plan.{reads};
 ghost use Rattle.meaning.specs.Events.{horizon};
-ghost use Rattle.machine.specs.Step as machine;
-ghost use Rattle.layout.specs.Record.{num, encode, decode, rowAt, countF, boundF};
-ghost use Rattle.look.specs.Look.{keptIn};
+ghost use Rattle.machine.specs.Reach.{decide};
+ghost use Rattle.meaning.specs.Plan.{argA, argB};
+ghost use Rattle.layout.specs.Record.{num, encode, decode, rowAt, boundF};
+ghost use Rattle.look.specs.Look.{equation, keptIn, ownOf, Sound};
 ghost use Rattle.decide.specs.Near.{toNext, knownTo};
-ghost use Rattle.moves.specs.Move.{argIn, ownIn, firstIn, secondIn, aheadRaw, boundRaw, canRaw, absorbedRaw, releasedArgs, releasedAll, silentRaw, eventRaw, stepRaw, movedRaw};
+ghost use Rattle.moves.specs.Move.{argIn, ownIn, otherIn, limitRaw, boundRaw, canRaw, keptRaw, absorbedRaw, releasedArgs, releasedAll, silentRaw, eventRaw, stepRaw, movedRaw};
 use decide::Next;
 use limits::Bound;
 use limits::Queue;
 use look::Kept;
+use look::Op;
+use look::Stream;
 
-// The number of an argument's record, field j of stream i; the first one where there is none such.
-fn argument(state: &[u8], n: usize, i: usize, j: usize) -> usize
-    requires { ⌜ (n * 256 ≤ length (now state)) × (i < n) × (j < 8) ⌝ }
-    ensures { λ x. ⌜ (x ≡ argIn n (num j (rowAt (decode n (now (state .entry))) i))) × (x < n) ⌝ }
+// The number of an argument's record; the first one where there is none such.
+fn argument(n: usize, a: u8) -> usize
+    requires { ⌜ 0 < n ⌝ }
+    ensures { λ x. ⌜ (x ≡ argIn n a) × (x < n) ⌝ }
 {
-    let at = i * 256;
-    let end = at + 256;
-    let a = layout::byte_at(&state[at..end], j) as usize;
-    if a < n {
-        return a;
+    let i = a as usize;
+    if i < n {
+        return i;
     }
     0
 }
 
-// The bound of an argument, field j of stream i.
-fn bound_of(state: &[u8], n: usize, i: usize, j: usize) -> u64
-    requires { ⌜ (n * 256 ≤ length (now state)) × (i < n) × (j < 8) ⌝ }
-    ensures { λ x. ⌜ x ≡ num boundF (rowAt (decode n (now (state .entry))) (argIn n (num j (rowAt (decode n (now (state .entry))) i)))) ⌝ }
+// The bound of an argument.
+fn bound_of(state: &[u8], n: usize, a: u8) -> u64
+    requires { ⌜ (n * 256 ≤ length (now state)) × (0 < n) ⌝ }
+    ensures { λ x. ⌜ x ≡ num boundF (rowAt (decode n (now (state .entry))) (argIn n a)) ⌝ }
 {
-    let at = argument(state, n, i, j) * 256;
-    let end = at + 256;
-    layout::word_at(&state[at..end], 1)
+    let at = argument(n, a) * layout::RECORD;
+    let end = at + layout::RECORD;
+    layout::word_at(&state[at..end], layout::BOUND)
 }
 
-// Whether the bounds alone say that stream i cannot move: an argument that it waits for is not ahead of it, or it has none
-// and is known to the end.
+// Whether the bounds alone, as they are stored, say that a stream with this operator cannot move: it is an input, an
+// argument that it waits for is not ahead of it, or it has none and is known to the end.
 // Most streams that a run looks at cannot move, and end here.
-fn stuck(state: &[u8], n: usize, i: usize) -> bool
-    requires { ⌜ (n * 256 ≤ length (now state)) × (i < n) ⌝ }
-    ensures { λ r. ⌜ (r ≡ true → canRaw n i (decode n (now (state .entry))) ≡ false) ⌝ }
+fn stuck(state: &[u8], n: usize, op: Op, bound: u64) -> bool
+    requires { ⌜ (n * 256 ≤ length (now state)) × (0 < n) ⌝ }
+    ensures { λ r. ⌜ (r ≡ true → limitRaw n (equation op) (min bound horizon) (decode n (now (state .entry))) ≤ min bound horizon) ⌝ }
 {
-    let at = i * 256;
-    let end = at + 256;
-    let bound = layout::word_at(&state[at..end], 1);
-    if Bound::HORIZON < bound {
-        return false;
-    }
-    let op = layout::byte_at(&state[at..end], 0);
     match op {
-        2..=3 => Bound::HORIZON <= bound,
-        4..=7 => bound_of(state, n, i, 1) <= bound,
-        8..=17 => {
-            if bound_of(state, n, i, 1) <= bound {
+        Op::In => true,
+        Op::Nil => bound == Bound::HORIZON,
+        Op::Unit => bound == Bound::HORIZON,
+        Op::One(_, a) => bound_of(state, n, a) <= bound,
+        Op::Two(_, a, b) => {
+            if bound_of(state, n, a) <= bound {
                 return true;
             }
-            bound_of(state, n, i, 2) <= bound
+            bound_of(state, n, b) <= bound
         }
-        18 => bound_of(state, n, i, 2) <= bound,
-        19 => bound_of(state, n, i, 2) < bound,
-        _ => false,
+        Op::Last(_, b) => bound_of(state, n, b) <= bound,
+        Op::Delay(_, b) => bound_of(state, n, b) < bound,
     }
 }
 
-// What a move of stream i finds.
-pub fn ahead(state: &[u8], n: usize, i: usize) -> Next
-    requires { ⌜ (n * 256 ≤ length (now state)) × (i < n) ⌝ }
-    ensures next { λ r. ⌜ toNext r ≡ aheadRaw n i (decode n (now (state .entry))) ⌝ }
+// What a move of the stream s finds.
+fn ahead(state: &[u8], n: usize, s: Stream) -> Next
+    requires { ⌜ (n * 256 ≤ length (now state)) × (0 < n) × Sound s ⌝ }
+    ensures next { λ r. ⌜ toNext r ≡ decide (equation (s .op)) (ownOf s) (otherIn n (argA (equation (s .op))) (decode n (now (state .entry)))) (otherIn n (argB (equation (s .op))) (decode n (now (state .entry)))) ⌝ }
     ensures known { λ r. ⌜ knownTo r ≤ horizon ⌝ }
 {
-    let at = i * 256;
-    let end = at + 256;
-    let a = argument(state, n, i, 1) * 256;
-    let a_end = a + 256;
-    let b = argument(state, n, i, 2) * 256;
-    let b_end = b + 256;
-    decide::find_next(&state[at..end], &state[a..a_end], &state[b..b_end])
+    let op = s.op;
+    let a = argument(n, look::first(op)) * layout::RECORD;
+    let a_end = a + layout::RECORD;
+    let b = argument(n, look::second(op)) * layout::RECORD;
+    let b_end = b + layout::RECORD;
+    decide::find_next(s, &state[a..a_end], &state[b..b_end])
 }
 
-// What stream i keeps, brought up to date from the held events.
-fn kept(state: &[u8], n: usize, i: usize) -> Kept
+// What stream i, with this operator, that kept k, keeps once its bound is y: brought up to date from the held events.
+fn kept(state: &[u8], n: usize, i: usize, op: Op, k: Kept, y: u64) -> Kept
     requires { ⌜ (n * 256 ≤ length (now state)) × (i < n) ⌝ }
-    ensures { λ k. ⌜ keptIn k ≡ machine.absorb (ownIn i (decode n (now (state .entry))) .eqn) (ownIn i (decode n (now (state .entry)))) (firstIn n i (decode n (now (state .entry)))) (secondIn n i (decode n (now (state .entry)))) ⌝ }
+    ensures { λ r. ⌜ keptIn r ≡ keptRaw n i (equation op) (keptIn k) y (decode n (now (state .entry))) ⌝ }
 {
-    let at = i * 256;
-    let end = at + 256;
-    let a = argument(state, n, i, 1) * 256;
-    let a_end = a + 256;
-    let b = argument(state, n, i, 2) * 256;
-    let b_end = b + 256;
-    absorb::absorbed(&state[at..end], &state[a..a_end], &state[b..b_end])
+    let at = i * layout::RECORD;
+    let end = at + layout::RECORD;
+    let a = argument(n, look::first(op)) * layout::RECORD;
+    let a_end = a + layout::RECORD;
+    let b = argument(n, look::second(op)) * layout::RECORD;
+    let b_end = b + layout::RECORD;
+    absorb::absorbed(
+        op,
+        k,
+        y,
+        &state[at..end],
+        &state[a..a_end],
+        &state[b..b_end],
+    )
+}
+
+// Brings what stream i, a last or a delay, keeps up to date.
+fn keep_row(state: &mut [u8], n: usize, i: usize, op: Op, k: Kept, y: u64)
+    requires { ⌜ (n * 256 ≤ length (now state)) × (i < n) ⌝ }
+    ensures { λ _. ⌜ now (state .exit) ≡ encode n (absorbedRaw n i (equation op) (keptIn k) y (decode n (now (state .entry)))) ⌝ }
+{
+    let at = i * layout::RECORD;
+    let end = at + layout::RECORD;
+    let new = kept(state, n, i, op, k, y);
+    absorb::keep(&mut state[at..end], op, new);
 }
 
 // Brings what stream i keeps up to date: a last or a delay, the others keep nothing.
-fn absorb_row(state: &mut [u8], n: usize, i: usize)
+// The operator is made anew in its arm: so the others do not store it for the call.
+fn absorb_row(state: &mut [u8], n: usize, i: usize, op: Op, k: Kept, y: u64)
     requires { ⌜ (n * 256 ≤ length (now state)) × (i < n) ⌝ }
-    ensures { λ _. ⌜ now (state .exit) ≡ encode n (absorbedRaw n i (decode n (now (state .entry)))) ⌝ }
+    ensures { λ _. ⌜ now (state .exit) ≡ encode n (absorbedRaw n i (equation op) (keptIn k) y (decode n (now (state .entry)))) ⌝ }
 {
-    let at = i * 256;
-    let end = at + 256;
-    let op = layout::byte_at(&state[at..end], 0);
-    if op < 18 {
-        return;
+    match op {
+        Op::In => {}
+        Op::Nil => {}
+        Op::Unit => {}
+        Op::One(_, _) => {}
+        Op::Two(_, _, _) => {}
+        Op::Last(a, b) => keep_row(state, n, i, Op::Last(a, b), k, y),
+        Op::Delay(a, b) => keep_row(state, n, i, Op::Delay(a, b), k, y),
     }
-    let k = kept(state, n, i);
-    absorb::keep(&mut state[at..end], k);
 }
 
-// Lets go what nobody waits for of the arguments of stream i.
-fn release_args(state: &mut [u8], n: usize, i: usize)
-    requires { ⌜ (n * 256 ≤ length (now state)) × (i < n) ⌝ }
-    ensures { λ _. ⌜ now (state .exit) ≡ encode n (releasedArgs n i (decode n (now (state .entry)))) ⌝ }
+// Lets go what nobody waits for of one argument.
+fn release_one(state: &mut [u8], n: usize, a: u8)
+    requires { ⌜ (n * 256 ≤ length (now state)) × (0 < n) ⌝ }
+    ensures { λ _. ⌜ now (state .exit) ≡ encode n (releasedArgs n (a ∷ []) (decode n (now (state .entry)))) ⌝ }
 {
-    let at = i * 256;
-    let end = at + 256;
-    let op = layout::byte_at(&state[at..end], 0);
-    if op < 4 {
-        return;
+    let i = argument(n, a);
+    step::release_row(state, n, i);
+}
+
+// Lets go what nobody waits for of two arguments.
+fn release_two(state: &mut [u8], n: usize, a: u8, b: u8)
+    requires { ⌜ (n * 256 ≤ length (now state)) × (0 < n) ⌝ }
+    ensures { λ _. ⌜ now (state .exit) ≡ encode n (releasedArgs n (a ∷ b ∷ []) (decode n (now (state .entry)))) ⌝ }
+{
+    release_one(state, n, a);
+    release_one(state, n, b);
+}
+
+// Lets go what nobody waits for of the arguments of an operator.
+fn release_args(state: &mut [u8], n: usize, op: Op)
+    requires { ⌜ (n * 256 ≤ length (now state)) × (0 < n) ⌝ }
+    ensures { λ _. ⌜ now (state .exit) ≡ encode n (releasedArgs n (reads (equation op)) (decode n (now (state .entry)))) ⌝ }
+{
+    match op {
+        Op::In => {}
+        Op::Nil => {}
+        Op::Unit => {}
+        Op::One(_, a) => release_one(state, n, a),
+        Op::Two(_, a, b) => release_two(state, n, a, b),
+        Op::Last(a, b) => release_two(state, n, a, b),
+        Op::Delay(a, b) => release_two(state, n, a, b),
     }
-    let a = argument(state, n, i, 1);
-    let b = argument(state, n, i, 2);
-    step::release_row(state, n, a);
-    if op < 8 {
-        return;
-    }
-    step::release_row(state, n, b);
 }
 
 // Lets go what nobody waits for of stream i and of its arguments.
-fn release_all(state: &mut [u8], n: usize, i: usize)
+fn release_all(state: &mut [u8], n: usize, i: usize, op: Op)
     requires { ⌜ (n * 256 ≤ length (now state)) × (i < n) ⌝ }
-    ensures { λ _. ⌜ now (state .exit) ≡ encode n (releasedAll n i (decode n (now (state .entry)))) ⌝ }
+    ensures { λ _. ⌜ now (state .exit) ≡ encode n (releasedAll n i (equation op) (decode n (now (state .entry)))) ⌝ }
 {
     step::release_row(state, n, i);
-    release_args(state, n, i);
+    release_args(state, n, op);
 }
 
-// The bound of stream i goes to y, and no event comes in.
-fn move_silent(state: &mut [u8], n: usize, i: usize, y: u64)
-    requires { ⌜ (n * 256 ≤ length (now state)) × (i < n) × (y ≤ horizon) ⌝ }
-    ensures { λ _. ⌜ now (state .exit) ≡ encode n (silentRaw n i y (decode n (now (state .entry)))) ⌝ }
+// The bound of stream i, that kept k, goes to y, and no event comes in.
+fn move_silent(state: &mut [u8], n: usize, i: usize, op: Op, k: Kept, y: u64)
+    requires { ⌜ (n * 256 ≤ length (now state)) × (i < n) × (y ≤ horizon) × (keptIn k ≡ ownIn i (decode n (now state)) .kept) ⌝ }
+    ensures { λ _. ⌜ now (state .exit) ≡ encode n (silentRaw n i (equation op) (keptIn k) y (decode n (now (state .entry)))) ⌝ }
 {
     calls::progress(state, n, i, y);
-    absorb_row(state, n, i);
-    release_all(state, n, i);
+    absorb_row(state, n, i, op, k, y);
+    release_all(state, n, i, op);
 }
 
-// The event (t, v) comes into stream i.
-fn move_event(state: &mut [u8], n: usize, i: usize, t: u32, v: u64)
-    requires { ⌜ (n * 256 ≤ length (now state)) × (i < n) ⌝ }
-    ensures { λ _. ⌜ now (state .exit) ≡ encode n (eventRaw n i t v (decode n (now (state .entry)))) ⌝ }
+// The event (t, v) comes into stream i, that kept k.
+fn move_event(state: &mut [u8], n: usize, i: usize, op: Op, k: Kept, t: u32, v: u64)
+    requires { ⌜ (n * 256 ≤ length (now state)) × (i < n) × (keptIn k ≡ ownIn i (decode n (now state)) .kept) ⌝ }
+    ensures { λ _. ⌜ now (state .exit) ≡ encode n (eventRaw n i (equation op) (keptIn k) t v (decode n (now (state .entry)))) ⌝ }
 {
-    let at = i * 256;
-    let end = at + 256;
-    step::push(&mut state[at..end], t, v);
-    absorb_row(state, n, i);
+    let at = i * layout::RECORD;
+    let end = at + layout::RECORD;
+    queue::append(&mut state[at..end], t, v);
+    absorb_row(state, n, i, op, k, t as u64 + 1);
     step::tell_all(state, n, i as u64, t, v);
-    release_all(state, n, i);
+    release_all(state, n, i, op);
 }
 
 // Where the bound of a stream that holds this many events goes.
@@ -179,44 +209,46 @@ fn bound_after(next: Next, held: u64) -> u64
     }
 }
 
-// Makes the move that finds this.
-fn make(state: &mut [u8], n: usize, i: usize, next: Next, held: u64)
-    requires { ⌜ (n * 256 ≤ length (now state)) × (i < n) × (knownTo next ≤ horizon) ⌝ }
-    ensures { λ _. ⌜ now (state .exit) ≡ encode n (stepRaw n i (toNext next) held (decode n (now (state .entry)))) ⌝ }
+// Makes the move that finds this, of stream i, that kept k: an event comes in if there is room, else the bound goes on alone.
+fn make(state: &mut [u8], n: usize, i: usize, op: Op, k: Kept, next: Next, held: u64)
+    requires { ⌜ (n * 256 ≤ length (now state)) × (i < n) × (knownTo next ≤ horizon) × (keptIn k ≡ ownIn i (decode n (now state)) .kept) ⌝ }
+    ensures { λ _. ⌜ now (state .exit) ≡ encode n (stepRaw n i (equation op) (keptIn k) (toNext next) held (decode n (now (state .entry)))) ⌝ }
 {
+    let y = bound_after(next, held);
     match next {
-        Next::Silent(r) => move_silent(state, n, i, r),
+        Next::Silent(_) => {}
         Next::Event(t, v) => {
-            if Queue::ROOM as u64 <= held {
-                move_silent(state, n, i, t as u64);
+            if held < Queue::ROOM as u64 {
+                move_event(state, n, i, op, k, t, num::bits(v));
                 return;
             }
-            move_event(state, n, i, t, num::bits(v));
         }
     }
+    move_silent(state, n, i, op, k, y);
 }
 
 // Moves stream i, if it can: an input cannot, and no equation whose bound would stay.
+// The stream is rebuilt once: its bound is cut to the horizon, and what it keeps is read, only where the bounds let it move.
 pub fn move_one(state: &mut [u8], n: usize, i: usize) -> bool
     requires { ⌜ (n * 256 ≤ length (now state)) × (i < n) ⌝ }
     ensures can { λ r. ⌜ r ≡ canRaw n i (decode n (now (state .entry))) ⌝ }
     ensures moved { λ _. ⌜ now (state .exit) ≡ cond (canRaw n i (decode n (now (state .entry)))) (encode n (movedRaw n i (decode n (now (state .entry))))) (now (state .entry)) ⌝ }
 {
-    let at = i * 256;
-    let end = at + 256;
-    let op = layout::byte_at(&state[at..end], 0);
-    if op == 1 {
+    let at = i * layout::RECORD;
+    let end = at + layout::RECORD;
+    let stored = layout::word_at(&state[at..end], layout::BOUND);
+    let op = look::operator_at(&state[at..end]);
+    if stuck(state, n, op, stored) {
         return false;
     }
-    if stuck(state, n, i) {
-        return false;
-    }
-    let held = layout::byte_at(&state[at..end], 4);
-    let bound = layout::word_at(&state[at..end], 1);
-    let next = ahead(state, n, i);
+    let bound = look::smaller(stored, Bound::HORIZON);
+    let s = look::complete(&state[at..end], op, bound);
+    let held = layout::byte_at(&state[at..end], layout::COUNT);
+    let next = ahead(state, n, s);
     if bound_after(next, held) == bound {
         return false;
     }
-    make(state, n, i, next, held);
+    let k = s.kept;
+    make(state, n, i, op, k, next, held);
     true
 }

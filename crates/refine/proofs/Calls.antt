@@ -1,5 +1,5 @@
 -- The numbers and steps of the offers and of collect on raw records are the machine's.
-use Prim.Native.Nat.{ℕ, zero, suc, _-_, _<_, _≤_}
+use Prim.Native.Nat.{ℕ, zero, suc, _<_, _≤_}
 use mathlib.Core.Path.{_≡_, refl, sym, ap, _∙_}
 use mathlib.Core.List.{List, [], _∷_, map}
 use mathlib.Core.Bool.{Bool, true, false, not, cond}
@@ -12,7 +12,7 @@ use lib.Seq.{getD-set-same, set-set}
 use borrow.Author.Tests.{ltb-true, ltb-false}
 use mir.Syntax.{w64}
 use mir.Val.{ofZ}
-use Rattle.meaning.specs.Plan.{Eqn, input, one, isInput, reads, argA, argB}
+use Rattle.meaning.specs.Plan.{Eqn, input, isInput, reads, argA, argB}
 use Rattle.meaning.specs.Events.{Event, ev, horizon}
 use Rattle.machine.specs.State.{Kept, Cell, State, absent, cellAt, room, withBound, withKept}
 use Rattle.machine.specs.Step.{advance, absorb, absorbed, write, told, tell, release, releases, raise}
@@ -21,7 +21,8 @@ use Rattle.operators.specs.Operators.{groupOf, isIn}
 use Rattle.operators.proofs.Laws.{in-of}
 use Rattle.layout.specs.Record.{Raw, Raws, num, withNum, rowAt, change, changeAll, opF, countF, boundF}
 use Rattle.cells.specs.View.{ofCell, rawsOf}
-use Rattle.step.specs.Step.{pushed, toldRow, releasedRow, offered}
+use Rattle.queue.specs.Queue.{pushed}
+use Rattle.step.specs.Step.{toldRow, releasedRow, offered}
 use Rattle.calls.specs.Numbers.{readingRow, readingRaw, progressRow, progressRaw}
 use Rattle.refine.proofs.Queues.{bound-of, push-of}
 use Rattle.refine.proofs.Whole.{row-of, change-of, tell-of, release-row-of}

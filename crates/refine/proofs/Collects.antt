@@ -1,5 +1,5 @@
 -- Collect on raw records is the machine's.
-use Prim.Native.Nat.{ℕ, zero, suc, _+_, _-_, _<_, _≤_, min}
+use Prim.Native.Nat.{ℕ, zero, suc, _+_, _<_, _≤_, min}
 use mathlib.Core.Path.{_≡_, refl, sym, ap, _∙_}
 use mathlib.Core.List.{List, [], _∷_, map}
 use mathlib.Core.Bool.{Bool, true, false, not, cond}
@@ -16,7 +16,8 @@ use Rattle.machine.specs.Step.{release}
 use Rattle.machine.specs.Calls.{Outcome, unless, oldest, handOut, collect}
 use Rattle.layout.specs.Record.{Slot, Raw, noSlot, num, withNum, slotAt, rowAt, outF, countF, nextF}
 use Rattle.cells.specs.View.{flag, slotOf, padTo, ofCell, rawsOf}
-use Rattle.step.specs.Step.{below, releasedRow}
+use Rattle.queue.specs.Queue.{below}
+use Rattle.step.specs.Step.{releasedRow}
 use Rattle.calls.specs.Numbers.{waitingSlot, collectRow, collectRaw, collectedRaw}
 use Rattle.refine.proofs.Queues.{next-of}
 use Rattle.refine.proofs.Whole.{row-of, change-of, release-row-of}

@@ -7,7 +7,6 @@ use mathlib.Core.List.{List, [], _∷_, _++_}
 use native.Mathlib.Omega.{arith}
 use lib.Dec.{ltb, lit<}
 use lib.ListN.{length, replicate}
-use Rattle.operators.specs.Limits.{capacity}
 use Rattle.le.specs.Bytes.{Bytes, enc}
 use Rattle.le.specs.Layout.{encFields, encRows}
 use Rattle.le.proofs.Laws.{enc-bytes}
@@ -16,12 +15,12 @@ use Rattle.machine.specs.State.{State}
 use Rattle.machine.specs.Calls.{Call, running, collecting, lowest, run, call}
 use Rattle.machine.proofs.Outcomes.{run-more, run-ends}
 use Rattle.cells.specs.View.{rawsOf, bytesOf}
-use Rattle.cells.specs.Sound.{Sound}
 use Rattle.valid.specs.Valid.{valid}
 use Rattle.state.specs.In.{stateIn}
-use Rattle.state.proofs.Whole.{valid-bytes, valid-sound}
-use Rattle.resting.proofs.Lack.{collect-none}
-use Rattle.engine.specs.Reply.{Reply, notState, replyOf, reply}
+use Rattle.state.proofs.Whole.{valid-bytes}
+use Rattle.running.specs.Reply.{Reply}
+use Rattle.engine.specs.Reply.{reply}
+use Rattle.engine.proofs.Replies.{reply-outcome, reply-none, reply-refused}
 
 -- ## The bytes of a state
 
@@ -67,20 +66,12 @@ state-bytes n M =
 abbrev pub Fine : List ℕ → Type 0
 Fine s = Bytes s ⊎ (valid s ≡ false)
 
-pub reply-not : (s : List ℕ) → valid s ≡ false → (c : Call) → reply c s ≡ notState s
-unfolding reply
-reply-not s e c = rw e
-
-reply-valid : (s : List ℕ) → valid s ≡ true → (c : Call) → reply c s ≡ replyOf (length s) (call c (stateIn s))
-unfolding reply
-reply-valid s e c = rw e
-
 pub reply-fine : (c : Call) (s : List ℕ) → Fine (reply c s .buffer)
 reply-fine c s = go (valid s) refl
   where
     go : (v : Bool) → valid s ≡ v → Fine (reply c s .buffer)
-    go true e = rw (reply-valid s e c) (inl (state-bytes (length s) (call c (stateIn s) .state)))
-    go false e = rw (reply-not s e c) (inr e)
+    go true e = rw (reply-outcome c s e) (inl (state-bytes (length s) (call c (stateIn s) .state)))
+    go false e = rw (reply-none c s e) (inr e)
 
 -- ## A call that changes nothing
 
@@ -98,15 +89,13 @@ module _ (s : List ℕ) where
   same f c h = go (valid s) refl f
     where
       go : (v : Bool) → valid s ≡ v → Fine s → reply c s .buffer ≡ s
-      go true e (inl b) = ap (λ (r : Reply). r .buffer) (reply-valid s e c) ∙ ap (bytesOf (length s)) (h e b) ∙ sym (valid-bytes s b e)
-      go true e (inr q) = ap (λ (r : Reply). r .buffer) (reply-not s q c)
-      go false e g = ap (λ (r : Reply). r .buffer) (reply-not s e c)
+      go true e (inl b) = ap (λ (r : Reply). r .buffer) (reply-outcome c s e) ∙ ap (bytesOf (length s)) (h e b) ∙ sym (valid-bytes s b e)
+      go true e (inr q) = ap (λ (r : Reply). r .buffer) (reply-none c s q)
+      go false e g = ap (λ (r : Reply). r .buffer) (reply-none c s e)
 
   pub run-same : Fine s → (n : ℕ) → reply (running n) s .moves ≡ 0 → reply (running n) s .buffer ≡ s
-  run-same f n e = same f (running n) (λ v b. run-still n (stateIn s) (rw (reply-valid s v (running n)) at e))
+  run-same f n e = same f (running n) (λ v b. run-still n (stateIn s) (rw (reply-outcome (running n) s v) at e))
 
   pub collect-same : Fine s → (i : ℕ) → (reply (collecting i) s .number ≡ 0 → ⊥) → reply (collecting i) s .buffer ≡ s
-  collect-same f i n = same f (collecting i) (λ v b. still (valid-sound s b v) (rw (reply-valid s v (collecting i)) at n))
-    where
-      still : Sound (capacity (length s)) (stateIn s) → (call (collecting i) (stateIn s) .number ≡ 0 → ⊥) → call (collecting i) (stateIn s) .state ≡ stateIn s
-      still ok k = unfold call in collect-none i (stateIn s) ok k
+  collect-same (inl b) i n = reply-refused (collecting i) s b n
+  collect-same (inr q) i n = ap (λ (r : Reply). r .buffer) (reply-none (collecting i) s q)

@@ -9,7 +9,9 @@ use native.Mathlib.Nat.{mul-le-mul-right}
 use native.Mathlib.Decide.{decLt, ℕ-discrete}
 use Rattle.le.specs.Bytes.{Bytes}
 use Rattle.machine.specs.Calls.{running, collecting}
-use Rattle.engine.specs.Reply.{Reply, reply}
+use Rattle.running.specs.Reply.{Reply}
+use Rattle.engine.specs.Reply.{reply}
+use Rattle.engine.proofs.Replies.{reply-none}
 use Rattle.resting.specs.Left.{left}
 use Rattle.resting.proofs.Bytes.{run-left, collect-left}
 use Rattle.replaying.specs.declared.Place.{Place}
@@ -17,7 +19,7 @@ use Rattle.replaying.specs.declared.Place.the-variants.{Run, Collect, Re
 use Rattle.replaying.specs.declared.Stand.{Stand}
 use Rattle.replaying.specs.Replay.{allMoves, ran, roundAfter, afterOutput, collected, step, Turned}
 use Rattle.replaying.specs.Rank.{isRest, more, callsLeft, callsAll, rank}
-use Rattle.replaying.proofs.Bytes.{Fine, reply-not, reply-fine, collect-same}
+use Rattle.replaying.proofs.Bytes.{Fine, reply-fine, collect-same}
 use Rattle.replaying.proofs.Steps.{ran-rest, ran-moved, after-next, after-last, collected-event, collected-none, collected-state, ran-state}
 
 -- a step leaves what its call leaves
@@ -61,14 +63,14 @@ module _ (n : ℕ) (s : List ℕ) (f : Fine s) where
     where
       go : Fine s → left (reply (running allMoves) s .buffer) + reply (running allMoves) s .moves ≤ left s
       go (inl b) = run-left s b allMoves
-      go (inr e) = rw (reply-not s e (running allMoves)) (omega arith)
+      go (inr e) = rw (reply-none (running allMoves) s e) (omega arith)
 
   collect-less : (i : ℕ) → reply (collecting i) s .number ≡ 0 → left (reply (collecting i) s .buffer) < left s
   collect-less i = go f
     where
       go : Fine s → reply (collecting i) s .number ≡ 0 → left (reply (collecting i) s .buffer) < left s
       go (inl b) = collect-left s b i
-      go (inr e) = rw (reply-not s e (collecting i)) (λ z. absurd (omega arith))
+      go (inr e) = rw (reply-none (collecting i) s e) (λ z. absurd (omega arith))
 
   run-falls : (busy : Bool) → rank n (ran busy (reply (running allMoves) s) .place) (ran busy (reply (running allMoves) s) .state) < rank n (Run busy) s
   run-falls busy = go (ℕ-discrete (reply (running allMoves) s .moves) 0)

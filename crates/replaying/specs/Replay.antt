@@ -2,10 +2,11 @@
 use Prim.Native.Nat.{ℕ, zero, suc, _+_, _-_, _^_}
 use mathlib.Core.Path.{_≡_}
 use mathlib.Core.Bool.{Bool, true, false, cond}
-use mathlib.Core.List.{List, [], _∷_, _++_}
+use mathlib.Core.List.{List, [], _++_}
 use lib.Dec.{eqb, ltb}
 use Rattle.machine.specs.Calls.{Call, reading, progress, running, collecting}
-use Rattle.engine.specs.Reply.{Reply, reply}
+use Rattle.running.specs.Reply.{Reply}
+use Rattle.engine.specs.Reply.{reply}
 use Rattle.trace.specs.declared.Record.{Record}
 use Rattle.trace.specs.declared.Record.the-variants.{Reading, Progress}
 use Rattle.decimal.specs.Put.{Put}

@@ -1,24 +1,24 @@
 -- The same of a state in bytes: what a run or a collection leaves of it.
-use Prim.Native.Nat.{ℕ, _+_, _-_, _<_, _≤_}
-use mathlib.Core.Path.{_≡_, refl, ap, _∙_}
+use Prim.Native.Nat.{ℕ, _+_, _<_, _≤_}
+use mathlib.Core.Path.{_≡_, refl}
 use mathlib.Core.Bool.{Bool, true, false}
 use mathlib.Core.List.{List}
 use native.Mathlib.Omega.{arith}
-use lib.Dec.{lit<}
 use lib.ListN.{length}
 use Rattle.operators.specs.Limits.{capacity}
 use Rattle.le.specs.Bytes.{Bytes}
 use Rattle.machine.specs.State.{State}
-use Rattle.machine.specs.Calls.{Call, running, collecting, call, run, collect}
+use Rattle.machine.specs.Calls.{running, collecting, call, run, collect}
 use Rattle.cells.specs.View.{bytesOf}
-use Rattle.cells.specs.Sound.{Sound, IsValue}
+use Rattle.cells.specs.Sound.{Sound}
 use Rattle.valid.specs.Valid.{valid}
 use Rattle.state.specs.In.{stateIn}
 use Rattle.state.proofs.Whole.{valid-sound, bytes-state, bytes-count, bytes-valid}
 use Rattle.sound.proofs.Calls.{call-sound}
-use Rattle.engine.specs.Reply.{reply, replyOf, notState}
+use Rattle.engine.specs.Reply.{reply}
+use Rattle.engine.proofs.Replies.{reply-outcome, reply-none}
 use Rattle.resting.specs.Left.{lack, left}
-use Rattle.resting.proofs.Lack.{run-lack, collect-lack, collect-none, collect-value}
+use Rattle.resting.proofs.Lack.{run-lack, collect-lack}
 
 -- a sound state's bytes give the state
 sound-left : (size : ℕ) (M : State) → Sound (capacity size) M → left (bytesOf size M) ≡ lack M
@@ -29,14 +29,6 @@ module _ (s : List ℕ) where
   valid-left : valid s ≡ true → left s ≡ lack (stateIn s)
   unfolding left
   valid-left e = rw e
-
-  reply-valid : (c : Call) → valid s ≡ true → reply c s ≡ replyOf (length s) (call c (stateIn s))
-  unfolding reply
-  reply-valid c e = rw e
-
-  reply-not : (c : Call) → valid s ≡ false → reply c s ≡ notState s
-  unfolding reply
-  reply-not c e = rw e
 
   call-run : (n : ℕ) → call (running n) (stateIn s) ≡ run n (stateIn s)
   unfolding call
@@ -55,8 +47,8 @@ module _ (s : List ℕ) (b : Bytes s) where
       go true e =
           let ok = valid-sound s b e in
           let fine = call-sound (running n) (stateIn s) tt ok in
-          rw (reply-valid s (running n) e, sound-left (length s) (call (running n) (stateIn s) .state) fine, valid-left s e, call-run s n) (run-lack n (stateIn s) ok)
-      go false e = rw (reply-not s (running n) e) (omega arith)
+          rw (reply-outcome (running n) s e, sound-left (length s) (call (running n) (stateIn s) .state) fine, valid-left s e, call-run s n) (run-lack n (stateIn s) ok)
+      go false e = rw (reply-none (running n) s e) (omega arith)
 
   -- after an event was handed out
   pub collect-left : (i : ℕ) → reply (collecting i) s .number ≡ 0 → left (reply (collecting i) s .buffer) < left s
@@ -66,22 +58,5 @@ module _ (s : List ℕ) (b : Bytes s) where
       go true e =
           let ok = valid-sound s b e in
           let fine = call-sound (collecting i) (stateIn s) tt ok in
-          rw (reply-valid s (collecting i) e, sound-left (length s) (call (collecting i) (stateIn s) .state) fine, valid-left s e, call-collect s i) (collect-lack i (stateIn s) ok)
-      go false e = rw (reply-not s (collecting i) e) (λ z. absurd (omega arith))
-
-  -- after none was
-  pub collect-stays : (i : ℕ) → (reply (collecting i) s .number ≡ 0 → ⊥) → left (reply (collecting i) s .buffer) ≡ left s
-  collect-stays i = go (valid s) refl
-    where
-      go : (v : Bool) → valid s ≡ v → (reply (collecting i) s .number ≡ 0 → ⊥) → left (reply (collecting i) s .buffer) ≡ left s
-      go true e =
-          let ok = valid-sound s b e in
-          rw (reply-valid s (collecting i) e, valid-left s e, call-collect s i) (λ n. ap (λ M. left (bytesOf (length s) M)) (collect-none i (stateIn s) ok n) ∙ sound-left (length s) (stateIn s) ok)
-      go false e = rw (reply-not s (collecting i) e) (λ z. refl)
-
-  pub collect-is-value : (i : ℕ) → IsValue (reply (collecting i) s .value)
-  collect-is-value i = go (valid s) refl
-    where
-      go : (v : Bool) → valid s ≡ v → IsValue (reply (collecting i) s .value)
-      go true e = rw (reply-valid s (collecting i) e, call-collect s i) (collect-value i (stateIn s) (valid-sound s b e))
-      go false e = rw (reply-not s (collecting i) e) (lit< tt)
+          rw (reply-outcome (collecting i) s e, sound-left (length s) (call (collecting i) (stateIn s) .state) fine, valid-left s e, call-collect s i) (collect-lack i (stateIn s) ok)
+      go false e = rw (reply-none (collecting i) s e) (λ z. absurd (omega arith))

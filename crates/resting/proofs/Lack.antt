@@ -1,12 +1,11 @@
 -- A move raises a bound and a collection a mark, none falls, and none passes the horizon: what they lack falls with each.
-use Prim.Native.Nat.{ℕ, zero, suc, _+_, _-_, _<_, _≤_}
+use Prim.Native.Nat.{ℕ, zero, suc, _+_, _<_, _≤_}
 use mathlib.Core.Path.{_≡_, refl, ap, _∙_}
-use mathlib.Core.Bool.{Bool, true, false, not, cond}
+use mathlib.Core.Bool.{Bool, true, false, not}
 use mathlib.Core.Option.{Option, none, some}
-use mathlib.Core.List.{List, [], _∷_}
 use native.Mathlib.Omega.{arith}
 use native.Mathlib.Decide.{decLt, ℕ-discrete}
-use lib.Dec.{T, ltb, leb, lit<}
+use lib.Dec.{T, ltb}
 use lib.ListN.{length, set, length-set}
 use borrow.Author.Tests.{ltb-true}
 use Rattle.meaning.specs.Events.{Event, horizon}
@@ -17,7 +16,7 @@ use Rattle.machine.proofs.Cells.{beyond}
 use Rattle.machine.proofs.Frame.{raise-size, raise-next, raise-bound, output-there}
 use Rattle.machine.proofs.Moves.{goal, goal-ge, can-up, lowest-can, oldest-ge}
 use Rattle.machine.proofs.Outcomes.{run-more, run-ends, unless-cases}
-use Rattle.cells.specs.Sound.{IsValue, IsNext, Rising, Sound}
+use Rattle.cells.specs.Sound.{IsNext, Sound}
 use Rattle.sound.proofs.Calls.{move-sound, collect-sound}
 use Rattle.runs.proofs.Move.{move-raise}
 use Rattle.runs.proofs.Marks.{collected-cell, collected-next}
@@ -136,31 +135,3 @@ module _ {cap : ℕ} (i : ℕ) (M : State) (ok : Sound cap M) where
           unless-cases (λ o. o .number ≡ 0 → Sound cap (o .state) → lack (o .state) < lack M) (not (cellAt M i .out)) 13 M (handOut (oldest (cellAt M i .next) (cellAt M i .held)) i M)
           (λ x e f. absurd (omega arith))
           (λ x. go (oldest (cellAt M i .next) (cellAt M i .held)) refl (output-there M i (twice (cellAt M i .out) x)))
-
-  -- a refused one leaves the state
-  pub collect-none : (collect i M .number ≡ 0 → ⊥) → collect i M .state ≡ M
-  unfolding collect
-  collect-none =
-      unless-cases (λ o. (o .number ≡ 0 → ⊥) → o .state ≡ M) (not (cellAt M i .out)) 13 M (handOut (oldest (cellAt M i .next) (cellAt M i .held)) i M)
-      (λ x n. refl)
-      (λ x. go (oldest (cellAt M i .next) (cellAt M i .held)))
-    where
-      go : (x : Option Event) → (handOut x i M .number ≡ 0 → ⊥) → handOut x i M .state ≡ M
-      go none n = refl
-      go (some e) n = absurd (n refl)
-
-  -- what is handed out is a value
-  oldest-value : (lo top : ℕ) (es : List Event) → Rising lo top es → (w : ℕ) → IsValue (handOut (oldest w es) i M .value)
-  oldest-value lo top [] r w = lit< tt
-  oldest-value lo top (e ∷ es) r w = go (leb w (e .stamp)) (oldest-value (suc (e .stamp)) top es (r .2) w)
-    where
-      go : (b : Bool) → IsValue (handOut (oldest w es) i M .value) → IsValue (handOut (cond b (some e) (oldest w es)) i M .value)
-      go true h = r .1
-      go false h = h
-
-  pub collect-value : IsValue (collect i M .value)
-  unfolding collect
-  collect-value =
-      unless-cases (λ o. IsValue (o .value)) (not (cellAt M i .out)) 13 M (handOut (oldest (cellAt M i .next) (cellAt M i .held)) i M)
-      (λ x. lit< tt)
-      (λ x. let l = output-there M i (twice (cellAt M i .out) x) in oldest-value 0 (cellAt M i .bound) (cellAt M i .held) (ok .each i l .held) (cellAt M i .next))

@@ -1,57 +1,22 @@
--- What each leaf makes of a record: the scheme of its stores, and the cases of each definition.
-use Prim.Native.Nat.{ℕ, _+_, _-_, _^_, _<_, _≤_, min}
-use mathlib.Core.Path.{_≡_, refl, sym, ap, ap₂, _∙_}
-use mathlib.Core.List.{List, map}
+-- What each leaf makes of a record: the cases of each definition.
+use Prim.Native.Nat.{ℕ, _+_, _^_, _<_, _≤_}
+use mathlib.Core.Path.{_≡_, refl}
+use mathlib.Core.List.{map}
 use mathlib.Core.Bool.{Bool, true, false, cond, _||_}
 use native.Mathlib.Omega.{arith}
-use native.Mathlib.Nat.{sub-zero}
 use lib.Dec.{lit<, ltb, eqb}
-use lib.ListN.{length, getD, take-append-drop}
-use lib.Seq.{set-getD}
 use borrow.Author.Tests.{lt-ltb, le-ltb, eq-eqb, ne-eqb}
-use Rattle.le.specs.Bytes.{Bytes}
 use Rattle.meaning.specs.Plan.{Argument}
-use Rattle.machine.specs.State.{room}
 use Rattle.machine.specs.Step.{anyOf}
 use Rattle.operators.specs.Operators.{groupOf, isLast, isDelay, takesFirst, takesSecond, argumentsOf}
 use Rattle.operators.specs.declared.Group.{Group}
 use Rattle.operators.specs.declared.Group.the-variants.{Absent, Input, Plain, One, Two, Last, Delay}
-use Rattle.layout.specs.Record.{Slot, Raw, headWidths, num, withNum, withSlot, dropped, encRaw, decRaw, opF, aF, bF, outF, countF, flagF, priorFlagF, boundF, nextF, keptF, valueF, priorF}
-use Rattle.layout.proofs.Laws.{RawOk, raw-ok, leaf-none, leaf-then, num-ok, num-small}
-use Rattle.layout.proofs.Slots.{slot-ok}
-use Rattle.step.specs.Step.{pushed, readsRow, toldLast, toldValue, toldPrior, toldSince, toldDelay, toldRow, lowered, waitingRow, below, released}
-
--- ---- the scheme: nothing is stored, or one leaf, two or three one after the other
-
-pub none : (p : List ℕ) (f : Raw → Raw) → length p ≡ 256 → Bytes p → f (decRaw p) ≡ decRaw p → p ≡ encRaw (f (decRaw p))
-none p f n b e = leaf-none p n b ∙ ap encRaw (sym e)
-
-pub one : (p p₁ : List ℕ) (f f₁ : Raw → Raw) → p₁ ≡ encRaw (f₁ (decRaw p)) → f (decRaw p) ≡ f₁ (decRaw p) → p₁ ≡ encRaw (f (decRaw p))
-one p p₁ f f₁ e q = e ∙ ap encRaw (sym q)
-
-pub two : (p p₁ p₂ : List ℕ) (f f₁ f₂ : Raw → Raw) → Bytes p → ((r : Raw) → RawOk r → RawOk (f₁ r))
-    → p₁ ≡ encRaw (f₁ (decRaw p)) → p₂ ≡ encRaw (f₂ (decRaw p₁)) → f (decRaw p) ≡ f₂ (f₁ (decRaw p)) → p₂ ≡ encRaw (f (decRaw p))
-two p p₁ p₂ f f₁ f₂ b ok e₁ e₂ q = leaf-then p p₁ p₂ f₁ f₂ e₁ (ok (decRaw p) (raw-ok p b)) e₂ ∙ ap encRaw (sym q)
-
-pub three : (p p₁ p₂ p₃ : List ℕ) (f f₁ f₂ f₃ : Raw → Raw) → Bytes p → ((r : Raw) → RawOk r → RawOk (f₁ r)) → ((r : Raw) → RawOk r → RawOk (f₂ r))
-    → p₁ ≡ encRaw (f₁ (decRaw p)) → p₂ ≡ encRaw (f₂ (decRaw p₁)) → p₃ ≡ encRaw (f₃ (decRaw p₂)) → f (decRaw p) ≡ f₃ (f₂ (f₁ (decRaw p))) → p₃ ≡ encRaw (f (decRaw p))
-three p p₁ p₂ p₃ f f₁ f₂ f₃ b ok₁ ok₂ e₁ e₂ e₃ q =
-    let o = ok₁ (decRaw p) (raw-ok p b) in
-    leaf-then p p₂ p₃ (λ r. f₂ (f₁ r)) f₃ (leaf-then p p₁ p₂ f₁ f₂ e₁ o e₂) (ok₂ (f₁ (decRaw p)) o) e₃ ∙ ap encRaw (sym q)
+use Rattle.layout.specs.Record.{Raw, num, withNum, opF, aF, bF, outF, flagF, priorFlagF, boundF, nextF, keptF, valueF, priorF}
+use Rattle.layout.proofs.Laws.{RawOk, num-ok, num-small}
+use Rattle.layout.proofs.Stores.{cond-ok, stored-ok}
+use Rattle.step.specs.Step.{readsRow, toldLast, toldValue, toldPrior, toldSince, toldDelay, toldRow, lowered, waitingRow}
 
 -- ---- the cases of each definition
-
-module _ (t v : ℕ) (r : Raw) where
-  pub push-full : room ≤ num countF r → pushed t v r ≡ r
-  unfolding pushed
-  push-full h = simp (le-ltb (num countF r) room h)
-
-  -- n is the count read before the stores
-  pub push-is : (n : ℕ) → n ≡ num countF r → n < room → pushed t v r ≡ withNum boundF (t + 1) (withNum countF (n + 1) (withSlot n t v r))
-  unfolding pushed
-  push-is n e h =
-      let k : num countF r < room = rw (sym e) h in
-      rw (e, lt-ltb (num countF r) room k)
 
 module _ (s : ℕ) (r : Raw) where
   -- argument after argument
@@ -178,42 +143,9 @@ module _ (least : ℕ) (r : Raw) where
   unfolding waitingRow
   waiting-else h k = rw (ne-eqb _ _ h) (omega arith)
 
--- n and m are the count and the held read before the stores
-pub release-is : (w n m k : ℕ) (r : Raw) → n ≡ num countF r → m ≡ min (num countF r) room → k ≡ below w m (r .slots)
-    → released w r ≡ withNum countF (n - k) (dropped k m r)
-unfolding released
-release-is w n m k r e h q = rw (q, h, e)
-
-pub release-none : (w m : ℕ) (r : Raw) → m ≡ min (num countF r) room → 0 ≡ below w m (r .slots) → released w r ≡ r
-release-none w m r h q =
-    release-is w (num countF r) m 0 r refl h q
-    ∙ ap₂ (λ (l : List ℕ) (k : List Slot). record { nums = l; slots = k }) (rw sub-zero (set-getD (r .nums) countF 0)) (take-append-drop m (r .slots))
-
 -- ---- every leaf keeps the numbers within their widths
 
-pub cond-ok : (b : Bool) (x y : Raw) → RawOk x → RawOk y → RawOk (cond b x y)
-cond-ok true x y h k = h
-cond-ok false x y h k = k
-
--- two numbers stored
-stored-ok : (j k : ℕ) (v w : ℕ) (r : Raw) → w < 256 ^ getD headWidths k 0 → v < 256 ^ getD headWidths j 0 → RawOk r → RawOk (withNum j v (withNum k w r))
-stored-ok j k v w r h i ok = num-ok (withNum k w r) j v (num-ok r k w ok h) i
-
 module _ (v : ℕ) (hv : v < 2 ^ 64) where
-  pub push-ok : (t : ℕ) → t < 2 ^ 32 → (r : Raw) → RawOk r → RawOk (pushed t v r)
-  unfolding pushed
-  push-ok t ht r ok = go (ltb (num countF r) room) refl
-    where
-      full : Raw
-      full = withNum boundF (t + 1) (withNum countF (num countF r + 1) (withSlot (num countF r) t v r))
-
-      go : (b : Bool) → ltb (num countF r) room ≡ b → RawOk (cond b full r)
-      go false e = ok
-      go true e =
-          let h : num countF r < 16 = borrow.Author.Tests.ltb-true (num countF r) room e in
-          stored-ok boundF countF (t + 1) (num countF r + 1) (withSlot (num countF r) t v r) (omega arith) (omega arith)
-          (slot-ok r (num countF r) (record { stamp = t; value = v }) ok (omega arith, omega (arith, hv)))
-
   last-ok : (s : ℕ) (r : Raw) → RawOk r → RawOk (toldLast s v r)
   unfolding toldLast
   last-ok s r ok = cond-ok (eqb (num aF r) s) (withNum keptF v (withNum flagF 1 r)) r (stored-ok keptF flagF v 1 r (lit< tt) hv ok) ok

@@ -1,22 +1,21 @@
 -- The loops' turns, and the steps of the whole buffer one after the other.
-use Prim.Native.Nat.{ℕ, zero, suc, _+_, _*_, _-_, _^_, _<_, _≤_, min, max}
+use Prim.Native.Nat.{ℕ, zero, suc, _*_, _-_, _^_, _<_, _≤_, min, max}
 use mathlib.Core.Path.{_≡_, refl, sym, ap, ap₂, _∙_}
 use mathlib.Core.List.{List, [], _∷_}
 use mathlib.Core.Bool.{Bool, true, false, cond}
 use native.Mathlib.Omega.{arith}
-use native.Mathlib.Decide.{decLt}
-use lib.Dec.{ltb, eqb}
+use lib.Dec.{eqb}
 use lib.ListN.{length, getD, set, drop, drop-of-length-le}
 use lib.Seq.{drop-cons, set-getD}
-use borrow.Author.Tests.{lt-ltb, le-ltb}
 use borrow.Rule.Slice.PartMut.{midOf}
 use Rattle.meaning.specs.Events.{horizon}
-use Rattle.machine.specs.State.{room}
 use Rattle.le.specs.Bytes.{Bytes}
-use Rattle.layout.specs.Record.{Slot, Raw, Raws, noSlot, noRaw, num, decRaw, encode, decode, rowAt, change, changeAll, withNum, dropped, slotAt, outF, countF, boundF, nextF}
+use Rattle.layout.specs.Record.{Raw, Raws, noRaw, num, decRaw, encode, decode, rowAt, change, changeAll, slotAt, outF, countF, boundF, nextF}
 use Rattle.layout.proofs.Laws.{rows-many, row-mid, raws-ok, row-ok, change-ok, changeAll-ok, whole-then}
-use Rattle.step.specs.Step.{pushed, readsRow, toldRow, lowered, leastRow, waitingRow, below, released, releasedRow, offered}
-use Rattle.step.proofs.Leaves.{push-ok, told-ok, release-none}
+use Rattle.step.specs.Step.{readsRow, toldRow, lowered, leastRow, waitingRow, releasedRow, offered}
+use Rattle.queue.specs.Queue.{pushed, released}
+use Rattle.queue.proofs.Drops.{push-ok, below-none, release-none, release-floor}
+use Rattle.step.proofs.Leaves.{told-ok}
 
 -- ---- the least bound of the readers, from the last record down
 
@@ -57,41 +56,6 @@ least-floor s n x least f i p e h l = let k = least-le s i (decode n p .rows) in
 pub least-end : (s n acc : ℕ) (p : List ℕ) (i : ℕ) → i ≡ 0 → acc ≡ leastRow s (drop i (decode n p .rows)) → acc ≡ leastRow s (decode n p .rows)
 least-end s n acc p i e inv = rw e at inv
 
--- ---- the leading slots below w
-
-below-more : (w n : ℕ) (e : Slot) (l : List Slot) → below w (suc n) (e ∷ l) ≡ cond (ltb (e .stamp) w) (suc (below w n l)) 0
-unfolding below
-below-more w n e l = refl
-
-below-none : (w : ℕ) (l : List Slot) → below w 0 l ≡ 0
-unfolding below
-below-none w l = refl
-
-below-turn : (w n i : ℕ) (l : List Slot) → i < n → n ≤ length l
-    → below w (n - i) (drop i l) ≡ cond (ltb (getD l i noSlot .stamp) w) (suc (below w (n - (i + 1)) (drop (i + 1) l))) 0
-below-turn w n i l h k =
-    let e : n - i ≡ suc (n - (i + 1)) = omega arith in
-    let f : i + 1 ≡ suc i = omega arith in
-    ap₂ (below w) e (drop-cons l i noSlot (omega arith)) ∙ below-more w (n - (i + 1)) (getD l i noSlot) (drop (suc i) l)
-    ∙ ap (λ (j : ℕ). cond (ltb (getD l i noSlot .stamp) w) (suc (below w (n - (i + 1)) (drop j l))) 0) (sym f)
-
-module _ (w n i : ℕ) (l : List Slot) (h : i < n) (k : n ≤ length l) (inv : i + below w (n - i) (drop i l) ≡ below w n l) where
-  pub below-stop : w ≤ getD l i noSlot .stamp → i ≡ below w n l
-  below-stop q =
-      let z : below w (n - i) (drop i l) ≡ 0 = below-turn w n i l h k ∙ rw (le-ltb (getD l i noSlot .stamp) w q) in
-      omega arith
-
-  pub below-go : getD l i noSlot .stamp < w → (i + 1) + below w (n - (i + 1)) (drop (i + 1) l) ≡ below w n l
-  below-go q =
-      let z : below w (n - i) (drop i l) ≡ suc (below w (n - (i + 1)) (drop (i + 1) l)) = below-turn w n i l h k ∙ rw (lt-ltb (getD l i noSlot .stamp) w q) in
-      omega arith
-
-pub below-end : (w n i : ℕ) (l : List Slot) → i ≡ n → i + below w (n - i) (drop i l) ≡ below w n l → n ≡ below w n l
-below-end w n i l e inv =
-    let d : n - i ≡ 0 = omega arith in
-    let z : below w (n - i) (drop i l) ≡ 0 = ap (λ (j : ℕ). below w j (drop i l)) d ∙ below-none w (drop i l) in
-    omega arith
-
 -- ---- the steps of the whole
 
 -- a record that holds nothing lets nothing go
@@ -101,25 +65,6 @@ release-row-none i st e =
     let w = waitingRow (leastRow i (st .rows)) (rowAt st i) in
     let none : released w (rowAt st i) ≡ rowAt st i = release-none w 0 (rowAt st i) (rw e) (sym (below-none w (rowAt st i .slots))) in
     ap (λ (l : List Raw). record { rows = l; spare = st .spare }) (ap (set (st .rows) i) none ∙ set-getD (st .rows) i noRaw)
-
--- below the first stamp f, any two bounds let nothing go
-below-floor : (f w w′ n : ℕ) (l : List Slot) → f ≡ getD l 0 noSlot .stamp → max w f ≡ max w′ f → below w n l ≡ below w′ n l
-unfolding below
-below-floor f w w′ zero l e q = refl
-below-floor f w w′ (suc n) [] e q = refl
-below-floor f w w′ (suc n) (x ∷ l) e q = go (decLt (x .stamp) w)
-  where
-    go : Dec (x .stamp < w) → below w (suc n) (x ∷ l) ≡ below w′ (suc n) (x ∷ l)
-    go (yes h) = let same : w ≡ w′ = omega arith in ap (λ (u : ℕ). below u (suc n) (x ∷ l)) same
-    go (no h) =
-        let low : w ≤ x .stamp = omega arith in
-        let low′ : w′ ≤ x .stamp = omega arith in
-        rw (le-ltb (x .stamp) w low, le-ltb (x .stamp) w′ low′)
-
-release-floor : (f w w′ : ℕ) (r : Raw) → f ≡ slotAt 0 r .stamp → max w f ≡ max w′ f → released w r ≡ released w′ r
-unfolding released
-release-floor f w w′ r e q =
-    ap (λ (k : ℕ). withNum countF (num countF r - k) (dropped k (min (num countF r) room) r)) (below-floor f w w′ (min (num countF r) room) (r .slots) e q)
 
 waiting-floor : (f x y : ℕ) (r : Raw) → max x f ≡ max y f → max (waitingRow x r) f ≡ max (waitingRow y r) f
 unfolding waitingRow

@@ -1,20 +1,13 @@
 -- The steps of the calls on raw records: total functions of numbers and slots.
-use Prim.Native.Nat.{ℕ, zero, suc, _+_, _-_, min}
+use Prim.Native.Nat.{ℕ, _+_, min}
 use mathlib.Core.List.{List, [], _∷_, map}
 use mathlib.Core.Bool.{Bool, cond}
 use lib.Dec.{ltb, eqb}
 use Rattle.meaning.specs.Events.{horizon}
-use Rattle.machine.specs.State.{room}
 use Rattle.machine.specs.Step.{anyOf}
 use Rattle.operators.specs.Operators.{groupOf, isLast, isDelay, argumentsOf}
-use Rattle.layout.specs.Record.{Slot, Raw, Raws, num, withNum, withSlot, dropped, rowAt, change, changeAll, opF, aF, bF, outF, countF, flagF, priorFlagF, boundF, nextF, keptF, valueF, priorF}
-
--- the event (t, v) put after the held ones, and the bound past it; a full record stays as it is
-unfoldable pub pushed : ℕ → ℕ → Raw → Raw
-pushed t v r =
-    cond (ltb (num countF r) room)
-    (withNum boundF (t + 1) (withNum countF (num countF r + 1) (withSlot (num countF r) t v r)))
-    r
+use Rattle.queue.specs.Queue.{pushed, released}
+use Rattle.layout.specs.Record.{Raw, Raws, num, withNum, rowAt, change, changeAll, opF, aF, bF, outF, flagF, priorFlagF, boundF, nextF, keptF, valueF, priorF}
 
 -- whether the record's equation reads stream s
 unfoldable pub readsRow : ℕ → Raw → Bool
@@ -67,19 +60,6 @@ leastRow s (r ∷ rs) = lowered s r (leastRow s rs)
 -- with collection as one reader more
 unfoldable pub waitingRow : ℕ → Raw → ℕ
 waitingRow least r = cond (eqb (num outF r) 0) least (min (num nextF r) least)
-
--- how many of the first n slots, one after the other, lie below w
-unfoldable pub below : ℕ → ℕ → List Slot → ℕ
-below w zero l = 0
-below w (suc n) [] = 0
-below w (suc n) (e ∷ l) = cond (ltb (e .stamp) w) (suc (below w n l)) 0
-
-unfoldable pub released : ℕ → Raw → Raw
-unfolding below
-released w r =
-    let n = min (num countF r) room in
-    let k = below w n (r .slots) in
-    withNum countF (num countF r - k) (dropped k n r)
 
 unfoldable pub releasedRow : ℕ → Raws → Raws
 unfolding released waitingRow leastRow

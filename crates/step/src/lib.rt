@@ -1,45 +1,30 @@
 // One step on bytes: an event appended, the readers told, and what nobody waits for let go.
 ghost use mathlib.Core.Path.{_≡_};
-ghost use Prim.Native.Nat.{_*_, _+_, _≤_, _<_, min, max};
+ghost use Prim.Native.Nat.{_*_, _+_, _≤_, _<_, max};
 ghost use lib.ListN.{length};
 ghost use Rattle.layout.specs.Record as layout;
-ghost use Rattle.layout.specs.Record.{encRaw, decRaw, encode, decode, change, changeAll};
-ghost use Rattle.step.specs.Step.{pushed, readsRow, toldLast, toldValue, toldPrior, toldSince, toldDelay, toldRow, leastRow, waitingRow, below, released, releasedRow, offered};
+ghost use Rattle.layout.specs.Record.{encRaw, decRaw, encode, decode, changeAll};
+ghost use Rattle.step.specs.Step.{readsRow, toldLast, toldValue, toldPrior, toldSince, toldDelay, toldRow, leastRow, waitingRow, releasedRow, offered};
 use limits::Bound;
-use limits::Queue;
 use operators::Group;
-
-// Puts the event (t, v) after the held ones of a record, and its bound past it. A full record stays as it is.
-pub fn push(r: &mut [u8], t: u32, v: u64)
-    requires { ⌜ length (now r) ≡ 256 ⌝ }
-    ensures { λ _. ⌜ now (r .exit) ≡ encRaw (pushed t v (decRaw (now (r .entry)))) ⌝ }
-{
-    let n = layout::byte_at(r, 4);
-    if n as usize >= Queue::ROOM {
-        return;
-    }
-    layout::put_slot(r, n as usize, t as u64, v);
-    layout::put_byte(r, 4, n + 1);
-    layout::put_word(r, 1, t as u64 + 1);
-}
 
 // Whether a record reads stream s.
 pub fn reads(r: &[u8], s: u64) -> bool
     requires { ⌜ length (now r) ≡ 256 ⌝ }
     ensures { λ x. ⌜ x ≡ readsRow s (decRaw (now (r .entry))) ⌝ }
 {
-    let g = operators::group_of(layout::byte_at(r, 0));
+    let g = operators::group_of(layout::byte_at(r, layout::OP));
     if !operators::takes_first(g) {
         return false;
     }
-    let a = layout::byte_at(r, 1);
+    let a = layout::byte_at(r, layout::A);
     if a == s {
         return true;
     }
     if !operators::takes_second(g) {
         return false;
     }
-    let b = layout::byte_at(r, 2);
+    let b = layout::byte_at(r, layout::B);
     b == s
 }
 
@@ -48,12 +33,12 @@ fn tell_last(r: &mut [u8], s: u64, v: u64)
     requires { ⌜ length (now r) ≡ 256 ⌝ }
     ensures { λ _. ⌜ now (r .exit) ≡ encRaw (toldLast s v (decRaw (now (r .entry)))) ⌝ }
 {
-    let a = layout::byte_at(r, 1);
+    let a = layout::byte_at(r, layout::A);
     if a != s {
         return;
     }
-    layout::put_byte(r, 5, 1);
-    layout::put_word(r, 3, v);
+    layout::put_byte(r, layout::FLAG, 1);
+    layout::put_word(r, layout::KEPT, v);
 }
 
 // A delay keeps its first argument's event at its latest set point.
@@ -61,16 +46,16 @@ fn tell_value(r: &mut [u8], s: u64, t: u32, v: u64)
     requires { ⌜ length (now r) ≡ 256 ⌝ }
     ensures { λ _. ⌜ now (r .exit) ≡ encRaw (toldValue s t v (decRaw (now (r .entry)))) ⌝ }
 {
-    let a = layout::byte_at(r, 1);
+    let a = layout::byte_at(r, layout::A);
     if a != s {
         return;
     }
-    let since = layout::word_at(r, 3);
+    let since = layout::word_at(r, layout::KEPT);
     if since != t as u64 + 1 {
         return;
     }
-    layout::put_byte(r, 5, 1);
-    layout::put_word(r, 4, v);
+    layout::put_byte(r, layout::FLAG, 1);
+    layout::put_word(r, layout::VALUE, v);
 }
 
 // A delay keeps its first argument's event just below its bound.
@@ -78,16 +63,16 @@ fn tell_prior(r: &mut [u8], s: u64, t: u32, v: u64)
     requires { ⌜ length (now r) ≡ 256 ⌝ }
     ensures { λ _. ⌜ now (r .exit) ≡ encRaw (toldPrior s t v (decRaw (now (r .entry)))) ⌝ }
 {
-    let a = layout::byte_at(r, 1);
+    let a = layout::byte_at(r, layout::A);
     if a != s {
         return;
     }
-    let bound = layout::word_at(r, 1);
+    let bound = layout::word_at(r, layout::BOUND);
     if bound != t as u64 + 1 {
         return;
     }
-    layout::put_byte(r, 6, 1);
-    layout::put_word(r, 5, v);
+    layout::put_byte(r, layout::PRIOR_FLAG, 1);
+    layout::put_word(r, layout::PRIOR, v);
 }
 
 // A delay has a new set point, just below its bound: its first argument's event there is its prior.
@@ -95,19 +80,19 @@ fn tell_since(r: &mut [u8], s: u64, t: u32)
     requires { ⌜ length (now r) ≡ 256 ⌝ }
     ensures { λ _. ⌜ now (r .exit) ≡ encRaw (toldSince s t (decRaw (now (r .entry)))) ⌝ }
 {
-    let b = layout::byte_at(r, 2);
+    let b = layout::byte_at(r, layout::B);
     if b != s {
         return;
     }
-    let bound = layout::word_at(r, 1);
+    let bound = layout::word_at(r, layout::BOUND);
     if bound != t as u64 + 1 {
         return;
     }
-    let has = layout::byte_at(r, 6);
-    let v = layout::word_at(r, 5);
-    layout::put_byte(r, 5, has);
-    layout::put_word(r, 4, v);
-    layout::put_word(r, 3, t as u64 + 1);
+    let has = layout::byte_at(r, layout::PRIOR_FLAG);
+    let v = layout::word_at(r, layout::PRIOR);
+    layout::put_byte(r, layout::FLAG, has);
+    layout::put_word(r, layout::VALUE, v);
+    layout::put_word(r, layout::KEPT, t as u64 + 1);
 }
 
 fn tell_delay(r: &mut [u8], s: u64, t: u32, v: u64)
@@ -124,15 +109,15 @@ fn tell(r: &mut [u8], s: u64, t: u32, v: u64)
     requires { ⌜ length (now r) ≡ 256 ⌝ }
     ensures { λ _. ⌜ now (r .exit) ≡ encRaw (toldRow s t v (decRaw (now (r .entry)))) ⌝ }
 {
-    let op = layout::byte_at(r, 0);
+    let op = layout::byte_at(r, layout::OP);
     match operators::group_of(op) {
         Group::Last => {
-            if (t as u64) < layout::word_at(r, 1) {
+            if (t as u64) < layout::word_at(r, layout::BOUND) {
                 tell_last(r, s, v);
             }
         }
         Group::Delay => {
-            if (t as u64) < layout::word_at(r, 1) {
+            if (t as u64) < layout::word_at(r, layout::BOUND) {
                 tell_delay(r, s, t, v);
             }
         }
@@ -147,8 +132,8 @@ pub fn tell_all(state: &mut [u8], n: usize, s: u64, t: u32, v: u64)
 {
     let mut i = 0;
     while i < n {
-        let at = i * 256;
-        let end = at + 256;
+        let at = i * layout::RECORD;
+        let end = at + layout::RECORD;
         tell(&mut state[at..end], s, t, v);
         i += 1;
     }
@@ -164,10 +149,10 @@ fn least_reader(state: &[u8], n: usize, s: u64, floor: u64) -> u64
     let mut i = n;
     while 0 < i {
         i -= 1;
-        let at = i * 256;
-        let end = at + 256;
+        let at = i * layout::RECORD;
+        let end = at + layout::RECORD;
         if reads(&state[at..end], s) {
-            let bound = layout::word_at(&state[at..end], 1);
+            let bound = layout::word_at(&state[at..end], layout::BOUND);
             if bound <= floor {
                 return bound;
             }
@@ -184,57 +169,15 @@ fn waiting(r: &[u8], least: u64) -> u64
     requires { ⌜ length (now r) ≡ 256 ⌝ }
     ensures { λ x. ⌜ x ≡ waitingRow least (decRaw (now (r .entry))) ⌝ }
 {
-    let out = layout::byte_at(r, 3);
+    let out = layout::byte_at(r, layout::OUT);
     if out == 0 {
         return least;
     }
-    let next = layout::word_at(r, 2);
+    let next = layout::word_at(r, layout::NEXT);
     if next < least {
         return next;
     }
     least
-}
-
-// How many of the first n slots, one after the other, lie below w.
-pub fn leading(r: &[u8], n: usize, w: u64) -> usize
-    requires { ⌜ (length (now r) ≡ 256) × (n ≤ 16) ⌝ }
-    ensures { λ x. ⌜ (x ≡ below w n (decRaw (now (r .entry)) .slots)) × (x ≤ n) ⌝ }
-{
-    let mut i = 0;
-    while i < n {
-        if w <= layout::stamp_at(r, i) {
-            return i;
-        }
-        i += 1;
-    }
-    n
-}
-
-// How many events a record holds: never more than there is room for.
-pub fn held(r: &[u8]) -> usize
-    requires { ⌜ length (now r) ≡ 256 ⌝ }
-    ensures { λ x. ⌜ (x ≡ min (layout.num 4 (decRaw (now (r .entry)))) 16) × (x ≤ 16) ⌝ }
-{
-    let n = layout::byte_at(r, 4) as usize;
-    if n < Queue::ROOM {
-        return n;
-    }
-    Queue::ROOM
-}
-
-// Lets the held events below w go.
-pub fn release(r: &mut [u8], w: u64)
-    requires { ⌜ length (now r) ≡ 256 ⌝ }
-    ensures { λ _. ⌜ now (r .exit) ≡ encRaw (released w (decRaw (now (r .entry)))) ⌝ }
-{
-    let n = layout::byte_at(r, 4);
-    let m = held(r);
-    let k = leading(r, m, w);
-    if k == 0 {
-        return;
-    }
-    layout::drop_slots(r, k, m);
-    layout::put_byte(r, 4, n - k as u64);
 }
 
 // Lets go what nobody waits for of stream i.
@@ -242,16 +185,16 @@ pub fn release_row(state: &mut [u8], n: usize, i: usize)
     requires { ⌜ (n * 256 ≤ length (now state)) × (i < n) ⌝ }
     ensures { λ _. ⌜ now (state .exit) ≡ encode n (releasedRow i (decode n (now (state .entry)))) ⌝ }
 {
-    let at = i * 256;
-    let end = at + 256;
-    let count = layout::byte_at(&state[at..end], 4);
+    let at = i * layout::RECORD;
+    let end = at + layout::RECORD;
+    let count = layout::byte_at(&state[at..end], layout::COUNT);
     if count == 0 {
         return;
     }
     let first = layout::stamp_at(&state[at..end], 0);
     let least = least_reader(state, n, i as u64, first);
     let w = waiting(&state[at..end], least);
-    release(&mut state[at..end], w);
+    queue::drop_below(&mut state[at..end], w);
 }
 
 // Appends the event (t, v) to stream i, tells its readers, and lets go what nobody waits for.
@@ -259,9 +202,9 @@ pub fn offer(state: &mut [u8], n: usize, i: usize, t: u32, v: u64)
     requires { ⌜ (n * 256 ≤ length (now state)) × (i < n) ⌝ }
     ensures { λ _. ⌜ now (state .exit) ≡ encode n (offered i t v (decode n (now (state .entry)))) ⌝ }
 {
-    let at = i * 256;
-    let end = at + 256;
-    push(&mut state[at..end], t, v);
+    let at = i * layout::RECORD;
+    let end = at + layout::RECORD;
+    queue::append(&mut state[at..end], t, v);
     tell_all(state, n, i as u64, t, v);
     release_row(state, n, i);
 }

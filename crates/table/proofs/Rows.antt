@@ -16,8 +16,8 @@ use Rattle.num.specs.Arithmetic.{isZero}
 use Rattle.meaning.specs.Plan as plan
 use Rattle.meaning.specs.Events.{orElse}
 use Rattle.meaning.specs.Table.{one-at, two-at, calculated, valueOf}
-use Rattle.held.specs.declared.Found.{Found}
-use Rattle.held.specs.Found.{asOption}
+use Rattle.queue.specs.declared.Found.{Found}
+use Rattle.queue.specs.Found.{asOption}
 use Rattle.table.specs.declared.Unary.{Unary}
 use Rattle.table.specs.declared.Calc.{Calc}
 use Rattle.table.specs.declared.Binary.{Binary}

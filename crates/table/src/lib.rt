@@ -4,10 +4,10 @@ ghost use Prim.Native.Nat.{_≤_};
 ghost use Rattle.num.specs.Arithmetic.{isZero};
 ghost use Rattle.meaning.specs.Events.{horizon, orElse};
 ghost use Rattle.meaning.specs.Table.{one-at, two-at, calculated, valueOf};
-ghost use Rattle.held.specs.Found.{asOption};
+ghost use Rattle.queue.specs.Found.{asOption};
 ghost use Rattle.table.specs.Named.{unary, calculation, binary};
-use held::Found;
 use num::Answer;
+use queue::Found;
 
 // The operators of one argument, with their value.
 pub enum Unary {

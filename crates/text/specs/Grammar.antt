@@ -1,5 +1,5 @@
 -- The grammar of plan text, over the form of its lines.
-use Prim.Native.Nat.{ℕ, zero, suc, _+_, _*_}
+use Prim.Native.Nat.{ℕ, zero, suc, _+_}
 use mathlib.Core.Bool.{Bool, true, false, cond, _&&_}
 use mathlib.Core.List.{List, [], _∷_, map}
 use lib.Dec.{eqb, leb}
@@ -13,12 +13,10 @@ use Rattle.lines.specs.declared.Found.the-variants.{Number, Fault}
 use Rattle.lines.specs.Form.{ending, skip, field, valueLine, outLine}
 use Rattle.text.specs.declared.Name.{Name}
 use Rattle.text.specs.declared.Name.the-variants as Name
-use Rattle.text.specs.declared.Fields.{Fields}
 use Rattle.text.specs.declared.Lines.{Lines}
 use Rattle.text.specs.declared.Lines.the-variants as Lines
 use Rattle.text.specs.declared.Head.{Head}
 use Rattle.text.specs.declared.Head.the-variants as Head
-use Rattle.text.specs.declared.Packed.{Packed}
 
 -- ## Keys, each with its `=`
 

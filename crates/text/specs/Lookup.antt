@@ -1,22 +1,11 @@
 -- How the code looks a name up: its bytes as one number, the first the lowest.
-use Prim.Native.Nat.{ℕ, zero, suc, _+_, _*_}
-use mathlib.Core.Bool.{Bool, true, false, cond, _&&_}
+use Prim.Native.Nat.{ℕ, _+_, _*_}
+use mathlib.Core.Bool.{cond}
 use mathlib.Core.List.{List, [], _∷_, map}
-use lib.Dec.{eqb, leb}
-use lib.ListN.{length, getD}
-use Rattle.operators.specs.Operators.{Operator, operators}
-use Rattle.operators.specs.Limits.{countFits}
-use Rattle.lines.specs.declared.Word.{Word}
-use Rattle.lines.specs.declared.Word.the-variants.{Past, Absent}
-use Rattle.lines.specs.declared.Found.{Found}
-use Rattle.lines.specs.declared.Found.the-variants.{Number, Fault}
-use Rattle.lines.specs.Form.{ending, skip, field, valueLine, outLine}
-use Rattle.text.specs.declared.Name.{Name}
+use lib.Dec.{eqb}
+use lib.ListN.{length}
 use Rattle.text.specs.declared.Name.the-variants as Name
-use Rattle.text.specs.declared.Fields.{Fields}
-use Rattle.text.specs.declared.Lines.{Lines}
 use Rattle.text.specs.declared.Lines.the-variants as Lines
-use Rattle.text.specs.declared.Head.{Head}
 use Rattle.text.specs.declared.Head.the-variants as Head
 use Rattle.text.specs.declared.Packed.{Packed}
 use Rattle.text.specs.Grammar.{nameAt, names}

@@ -1,6 +1,6 @@
 // Trace lines, read in place at a position of the lent text: a reading `s=0 t=3 v=7` or a progress `s=0 p=6`.
 ghost use mathlib.Core.Path.{_≡_};
-ghost use Prim.Native.Nat.{_^_, _<_};
+ghost use Prim.Native.Nat.{_<_};
 ghost use Rattle.trace.specs.Trace.{valueAfter, stampAfter, boundAfter, inputAfter, line};
 use limits::Bound;
 use lines::Found;
@@ -49,7 +49,7 @@ fn stamp_after(text: &[u8], stream: u32, at: usize) -> Line
     let Found::Number(t, p) = lines::whole(text, at, 10) else {
         return Line::Bad;
     };
-    if t < Bound::horizon() {
+    if t < Bound::HORIZON {
         return value_after(text, stream, t as u32, p);
     }
     Line::Bad

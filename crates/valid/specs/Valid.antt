@@ -16,6 +16,8 @@ use Rattle.operators.specs.Rules.{fieldsOk}
 use Rattle.operators.specs.Limits.{capacity}
 use Rattle.layout.specs.Record.{Slot, Raw, num, decRaw, opF, aF, bF, outF, countF, flagF, priorFlagF, smallF, kF, boundF, nextF, keptF, valueF, priorF, lastF}
 use Rattle.cells.specs.Back.{stateOf}
+use Rattle.valid.specs.declared.Tested.{Tested}
+use Rattle.valid.specs.declared.Tested.the-variants as Tested
 
 -- ---- "contents whose plan no text taken by load gives"
 
@@ -109,6 +111,11 @@ valid s =
     && (allRows (rowOk (count s)) (count s) s
     && (allZero (drop (count s * 256) s)
     && acyclic (capacity (length s)) (planIn (count s) s))))
+
+-- what the test finds, as the code answers it
+unfoldable pub tested : List ℕ → Tested
+unfolding valid
+tested s = cond (valid s) (Tested.State (count s)) Tested.NoState
 
 -- ---- the cycle test's graph, as the code fills it
 

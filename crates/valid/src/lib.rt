@@ -5,7 +5,7 @@ ghost use Prim.Native.Nat.{_+_, _*_, _≤_, _<_};
 ghost use lib.ListN.{length};
 ghost use Rattle.operators.specs.Limits.{mostStreams, capacity};
 ghost use Rattle.layout.specs.Record.{decRaw};
-ghost use Rattle.valid.specs.Valid.{planOk, nextOk, sizesOk, risen, flagOk, noneIf, noneOk, lastOk, delayOk, keptOk, rowOk, allRows, streamsIn, count, noted, clearIn, valid};
+ghost use Rattle.valid.specs.Valid.{planOk, nextOk, sizesOk, risen, flagOk, noneIf, noneOk, lastOk, delayOk, keptOk, rowOk, allRows, streamsIn, count, noted, clearIn, tested};
 use cycle::GRAPH;
 use limits::Bound;
 use limits::Queue;
@@ -249,26 +249,32 @@ fn clear(state: &[u8], n: usize, most: usize) -> bool
     cycle::clear(&mut graph, n as u8, most as u8)
 }
 
-// How many streams a state has; 0 if the bytes are none.
-pub fn streams(state: &[u8]) -> usize
-    ensures { λ n. ⌜ (n ≡ cond (valid (now (state .entry))) (count (now (state .entry))) 0) × (n ≤ capacity (length (now (state .entry)))) ⌝ }
+// What the test of number 15 finds: a state of this many streams, or no state.
+pub enum Tested {
+    State(usize),
+    NoState,
+}
+
+// Tests whether bytes are a state.
+pub fn streams(state: &[u8]) -> Tested
+    ensures { λ r. ⌜ r ≡ tested (now (state .entry)) ⌝ }
 {
     let most = Plan::capacity(state.len());
     if most == 0 {
-        return 0;
+        return Tested::NoState;
     }
     let n = streams_in(state, most);
     if n == 0 {
-        return 0;
+        return Tested::NoState;
     }
     if !rows_ok(state, n) {
-        return 0;
+        return Tested::NoState;
     }
     if !le::zeros(state, n * 256) {
-        return 0;
+        return Tested::NoState;
     }
     if !clear(state, n, most) {
-        return 0;
+        return Tested::NoState;
     }
-    n
+    Tested::State(n)
 }

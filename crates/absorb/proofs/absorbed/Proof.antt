@@ -1,54 +1,84 @@
-use mathlib.Core.Path.{_≡_, sym, _∙_}
+use mathlib.Core.Path.{sym, ap, _∙_}
 use denote.Ref.{now}
+use Rattle.meaning.specs.Plan.{last, delay}
 use Rattle.machine.specs.Step as machine
 use Rattle.layout.specs.Record.{decRaw}
-use Rattle.cells.specs.Back.{heldOf, toCell}
-use Rattle.look.specs.Look.{lookOf, equation, argOf}
-use Rattle.absorb.specs.Keep.{movedCell, movedOf}
+use Rattle.cells.specs.Back.{toCell}
+use Rattle.look.specs.declared.Op.{Op}
+use Rattle.look.specs.Look.{lookOf, equation}
+use Rattle.absorb.specs.Keep.{movedOf}
 use Rattle.absorb.proofs.Laws as law
 use borrow.Author.Needs.{needs}
 use Rattle.absorb.proofs.absorbed.Statement.{statement}
 use Rattle.absorb.proofs.absorbed.Tie as tie
-use Rattle.absorb.proofs.absorbed.Reads as reads
-use Rattle.absorb.proofs.absorbed.Lts as lts
-use Rattle.absorb.proofs.absorb_delay.Reads as absorb-delay-reads
-use Rattle.absorb.proofs.absorb_last.Reads as absorb-last-reads
-use Rattle.look.proofs.look_at.Reads as look-at-reads
 
--- src/lib.rt:86:9
-look-at-requires : tie.Need-look-at-requires
-look-at-requires c κs = search needs
+enum-told : tie.Need-enum-told
+enum-told c = search needs
 
--- src/lib.rt:89:15
+enum-told-2 : tie.Need-enum-told-2
+enum-told-2 c = search needs
+
+enum-told-3 : tie.Need-enum-told-3
+enum-told-3 c = search needs
+
+enum-told-4 : tie.Need-enum-told-4
+enum-told-4 c = search needs
+
+enum-told-5 : tie.Need-enum-told-5
+enum-told-5 c = search needs
+
+enum-told-6 : tie.Need-enum-told-6
+enum-told-6 c = search needs
+
 absorb-last-requires : tie.Need-absorb-last-requires
 absorb-last-requires c κs = search needs
 
--- src/lib.rt:90:15
+enum-told-7 : tie.Need-enum-told-7
+enum-told-7 c = search needs
+
 absorb-delay-requires : tie.Need-absorb-delay-requires
 absorb-delay-requires c κs = search needs
 
--- src/lib.rt:82:1
 returns : tie.Need-returns
-unfolding lookOf toCell
-returns c = let x = c .before .before .before .before .before .before .args in let l = c .before .before .look-at .result in let s = c .before .before .look-at .ensures in let O = now (x .o) in let A = now (x .a) in let B = now (x .b) in let e = equation (l .op) in let o = movedOf l O in let a = argOf (l .abound) A in let b = argOf (l .bbound) B in let w = lookOf (decRaw O) in let near : machine.absorb e o a b ≡ machine.absorb (w .eqn) w (lookOf (decRaw A)) (lookOf (decRaw B)) = (λ i. machine.absorb (s .eqn i) (movedCell (s .eqn i) (s .bound i) (heldOf (decRaw O)) (s .kept i)) (argOf (s .abound i) A) (argOf (s .bbound i) B)) ∙ law.absorb-near (w .eqn) w (lookOf (decRaw A)) (lookOf (decRaw B)) in c .absorb-last .ensures (heldOf (decRaw O)) b ∙ law.absorb-last o a b e (sym (s .sound .stored) ∙ c .before .match .keys1) ∙ near
+returns c = let x = c .before .before .before .before .before .args in let o = movedOf (x .k) (x .y) (now (x .o)) in let A = lookOf (decRaw (now (x .a))) in let B = lookOf (decRaw (now (x .b))) in ap (λ (p : Op). machine.absorb (equation p) o A B) (sym (c .enum-told .given .1))
 
--- src/lib.rt:82:1
 returns-2 : tie.Need-returns-2
-unfolding lookOf toCell
-returns-2 c = let x = c .before .before .before .before .before .before .args in let l = c .before .before .look-at .result in let s = c .before .before .look-at .ensures in let O = now (x .o) in let A = now (x .a) in let B = now (x .b) in let e = equation (l .op) in let o = movedOf l O in let a = argOf (l .abound) A in let b = argOf (l .bbound) B in let w = lookOf (decRaw O) in let near : machine.absorb e o a b ≡ machine.absorb (w .eqn) w (lookOf (decRaw A)) (lookOf (decRaw B)) = (λ i. machine.absorb (s .eqn i) (movedCell (s .eqn i) (s .bound i) (heldOf (decRaw O)) (s .kept i)) (argOf (s .abound i) A) (argOf (s .bbound i) B)) ∙ law.absorb-near (w .eqn) w (lookOf (decRaw A)) (lookOf (decRaw B)) in c .absorb-delay .ensures ∙ law.absorb-delay o a b e (sym (s .sound .stored) ∙ c .before .match .keys2) ∙ near
+returns-2 c = let x = c .before .before .before .before .before .args in let o = movedOf (x .k) (x .y) (now (x .o)) in let A = lookOf (decRaw (now (x .a))) in let B = lookOf (decRaw (now (x .b))) in ap (λ (p : Op). machine.absorb (equation p) o A B) (sym (c .enum-told2 .given .1))
 
--- src/lib.rt:82:1
 returns-3 : tie.Need-returns-3
+returns-3 c = let x = c .before .before .before .before .before .args in let o = movedOf (x .k) (x .y) (now (x .o)) in let A = lookOf (decRaw (now (x .a))) in let B = lookOf (decRaw (now (x .b))) in ap (λ (p : Op). machine.absorb (equation p) o A B) (sym (c .enum-told3 .given .1))
+
+returns-4 : tie.Need-returns-4
+returns-4 c = let x = c .before .before .before .before .before .args in let o = movedOf (x .k) (x .y) (now (x .o)) in let A = lookOf (decRaw (now (x .a))) in let B = lookOf (decRaw (now (x .b))) in ap (λ (p : Op). machine.absorb (equation p) o A B) (sym (c .enum-told4 .given .1))
+
+returns-5 : tie.Need-returns-5
+returns-5 c = let x = c .before .before .before .before .before .args in let o = movedOf (x .k) (x .y) (now (x .o)) in let A = lookOf (decRaw (now (x .a))) in let B = lookOf (decRaw (now (x .b))) in ap (λ (p : Op). machine.absorb (equation p) o A B) (sym (c .enum-told5 .given .1))
+
+returns-6 : tie.Need-returns-6
 unfolding lookOf toCell
-returns-3 c = let x = c .before .before .before .before .before .before .args in let l = c .before .before .look-at .result in let s = c .before .before .look-at .ensures in let O = now (x .o) in let A = now (x .a) in let B = now (x .b) in let e = equation (l .op) in let o = movedOf l O in let a = argOf (l .abound) A in let b = argOf (l .bbound) B in let w = lookOf (decRaw O) in let near : machine.absorb e o a b ≡ machine.absorb (w .eqn) w (lookOf (decRaw A)) (lookOf (decRaw B)) = (λ i. machine.absorb (s .eqn i) (movedCell (s .eqn i) (s .bound i) (heldOf (decRaw O)) (s .kept i)) (argOf (s .abound i) A) (argOf (s .bbound i) B)) ∙ law.absorb-near (w .eqn) w (lookOf (decRaw A)) (lookOf (decRaw B)) in law.absorb-other o a b e (λ q. c .before .match .rest .0 .1 (s .sound .stored ∙ q)) (λ q. c .before .match .rest .1 (s .sound .stored ∙ q)) ∙ near
+returns-6 c = let x = c .before .before .before .before .before .before .args in let o = movedOf (x .k) (x .y) (now (x .o)) in let A = lookOf (decRaw (now (x .a))) in let B = lookOf (decRaw (now (x .b))) in c .absorb-last .ensures (o .held) B ∙ law.absorb-near (last 0 0) o A B 0 0 ∙ ap (λ (p : Op). machine.absorb (equation p) o A B) (sym (c .before .enum-told6 .given .1))
+
+returns-7 : tie.Need-returns-7
+unfolding lookOf toCell
+returns-7 c = let x = c .before .before .before .before .before .before .args in let o = movedOf (x .k) (x .y) (now (x .o)) in let A = lookOf (decRaw (now (x .a))) in let B = lookOf (decRaw (now (x .b))) in c .absorb-delay .ensures ∙ law.absorb-near (delay 0 0) o A B 0 0 ∙ ap (λ (p : Op). machine.absorb (equation p) o A B) (sym (c .before .enum-told7 .given .1))
 
 pub absorbed-spec : {M : Type 1} → statement M
 absorbed-spec =
     tie.close
     (tie.spec
-    look-at-requires
+    enum-told
+    enum-told-2
+    enum-told-3
+    enum-told-4
+    enum-told-5
+    enum-told-6
     absorb-last-requires
+    enum-told-7
     absorb-delay-requires
     returns
     returns-2
-    returns-3)
+    returns-3
+    returns-4
+    returns-5
+    returns-6
+    returns-7)

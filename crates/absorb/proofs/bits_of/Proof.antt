@@ -2,33 +2,25 @@ use mathlib.Core.Path.{sym, ap, _∙_}
 use mir.Syntax.{w64}
 use mir.Val.{ofZ}
 use Rattle.cells.specs.View.{bitsOf}
-use Rattle.held.specs.declared.Found.{Found}
-use Rattle.held.specs.Found.{asOption}
+use Rattle.queue.specs.declared.Found.{Found}
+use Rattle.queue.specs.Found.{asOption}
 use Rattle.table.proofs.Rows.{back}
 use borrow.Author.Needs.{needs}
 use Rattle.absorb.proofs.bits_of.Statement.{statement}
 use Rattle.absorb.proofs.bits_of.Tie as tie
-use Rattle.absorb.proofs.bits_of.Reads as reads
-use Rattle.absorb.proofs.bits_of.Lts as lts
-use Rattle.num.proofs.bits.Reads as bits-reads
 
--- src/lib.rt:110:22
 enum-known-x : tie.Need-enum-known-x
 enum-known-x c = search needs
 
--- src/lib.rt:110:28
 bits-requires : tie.Need-bits-requires
 bits-requires c κs = search needs
 
--- src/lib.rt:111:27
 enum-told : tie.Need-enum-told
 enum-told c = search needs
 
--- src/lib.rt:106:1
 returns : tie.Need-returns
 returns c = c .bits .ensures ∙ ap (ofZ w64) (back (c .before .before .x .given .0 .0) (c .before .known-told .given .0 .1)) ∙ ap (λ (x : Found). bitsOf (asOption x)) (sym (c .before .before .x .given .1))
 
--- src/lib.rt:106:1
 returns-2 : tie.Need-returns-2
 returns-2 c = search needs
 

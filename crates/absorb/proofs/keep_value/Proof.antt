@@ -1,34 +1,26 @@
-use Rattle.layout.proofs.Laws.{num-ok}
+use Prim.Native.Nat.{_+_}
 use denote.Ref.{now}
-use Rattle.layout.specs.Record.{decRaw, withNum, flagF, valueF}
+use Rattle.layout.specs.Record.{decRaw, withNum}
 use Rattle.layout.proofs.Laws.{num-ok}
-use Rattle.step.proofs.Leaves
+use Rattle.layout.proofs.Stores
 use Rattle.absorb.specs.Keep.{valueKept}
 use Rattle.absorb.proofs.Laws as law
 use borrow.Author.Needs.{needs}
 use native.Mathlib.Omega.{arith}
 use Rattle.absorb.proofs.keep_value.Statement.{statement}
 use Rattle.absorb.proofs.keep_value.Tie as tie
-use Rattle.absorb.proofs.keep_value.Reads as reads
-use Rattle.absorb.proofs.keep_value.Lts as lts
-use Rattle.layout.proofs.put_byte.Reads as put-byte-reads
-use Rattle.layout.proofs.put_word.Reads as put-word-reads
 
--- src/lib.rt:129:5
 put-byte-requires : tie.Need-put-byte-requires
 put-byte-requires c κs = search needs
 
--- src/lib.rt:130:5
 put-word-requires : tie.Need-put-word-requires
 put-word-requires c κs = search needs
 
--- src/lib.rt:125:1
 same-length : tie.Need-same-length
 same-length c = search needs
 
--- src/lib.rt:125:1
 returns : tie.Need-returns
-returns c = let a = c .before .before .before .before .before .before .before .before .before .args in let p = now (a .r) in let r = decRaw p in Leaves.two p (c .before .before .before .before .before .before .put-byte .last .0) (c .before .before .put-word .last .0) (valueKept (a .has) (a .bits)) (withNum flagF (a .has)) (withNum valueF (a .bits)) (λ i. omega (arith, c .before .before .before .before .before .before .before .before .slice-known .given i)) (λ x ok. num-ok x flagF (a .has) ok (omega arith)) (c .before .before .before .before .before .before .put-byte .ensures) (c .before .before .put-word .ensures) (law.value-is (a .has) (a .bits) r)
+returns c = let a = c .before .before .before .before .before .before .before .before .before .args in let p = now (a .r) in let j = 8 + a .w in Stores.two p (c .before .before .before .before .before .before .put-byte .last .0) (c .before .before .put-word .last .0) (valueKept (a .f) j (a .has) (a .bits)) (withNum (a .f) (a .has)) (withNum j (a .bits)) (λ i. omega (arith, c .before .before .before .before .before .before .before .before .slice-known .given i)) (λ y ok. num-ok y (a .f) (a .has) ok (law.flag-wide (a .f) (a .has) (omega arith) (omega arith))) (c .before .before .before .before .before .before .put-byte .ensures) (c .before .before .put-word .ensures) (law.value-is (a .f) j (a .has) (a .bits) (decRaw p))
 
 pub keep-value-spec : {M : Type 1} → statement M
 keep-value-spec = tie.close (tie.spec put-byte-requires put-word-requires same-length returns)

@@ -13,39 +13,30 @@ use Rattle.calls.proofs.collect.Lts as lts
 use Rattle.calls.proofs.mark.Reads as mark-reads
 use Rattle.step.proofs.release_row.Reads as release-row-reads
 
--- src/lib.rt:166:14
 mul-at : tie.Need-mul-at
 mul-at c = search needs
 
--- src/lib.rt:167:15
 add-end : tie.Need-add-end
 add-end c = search needs
 
--- src/lib.rt:168:10
 sub-mark : tie.Need-sub-mark
 sub-mark c = search needs
 
--- src/lib.rt:168:10
 part-mark-start : tie.Need-part-mark-start
 part-mark-start c = search needs
 
--- src/lib.rt:168:10
 part-mark-end : tie.Need-part-mark-end
 part-mark-end c = search needs
 
--- src/lib.rt:168:5
 mark-requires : tie.Need-mark-requires
 mark-requires c κs = search needs
 
--- src/lib.rt:169:5
 release-row-requires : tie.Need-release-row-requires
 release-row-requires c κs = search needs
 
--- src/lib.rt:162:1
 same-length : tie.Need-same-length
 same-length c = search needs
 
--- src/lib.rt:162:1
 returns : tie.Need-returns
 returns c = let a = c .before .before .before .before .before .before .before .before .before .args in let s = now (a .state) in let i = a .i in let k = i * 256 + 256 - i * 256 in Steps.collect-is (a .n) s (putMid (i * 256) k s (c .before .before .before .before .before .before .mark .last .0)) (c .before .before .release-row .last .0) i (a .j) (λ j. omega (arith, c .before .before .before .before .before .before .before .before .slice-known .given j)) (omega arith) (omega arith) (lent (a .n) s (c .before .before .before .before .before .before .mark .last .0) i k (λ (r : Raw). withNum nextF (slotAt (a .j) r .stamp + 1) r) (omega arith) (omega arith) (λ j. omega (arith, c .before .before .before .before .before .before .before .before .slice-known .given j)) (omega arith) (c .before .before .before .before .before .before .mark .ensures)) (c .before .before .release-row .ensures)
 

@@ -1,4 +1,4 @@
-use Prim.Native.Nat.{_-_, min}
+use Prim.Native.Nat.{min}
 use mathlib.Core.Path.{sym, _∙_}
 use borrow.Author.Tests.{lt-ltb, le-ltb, eq-eqb, ne-eqb}
 use denote.Ref.{now}
@@ -13,31 +13,25 @@ use Rattle.calls.proofs.collect_row.Reads as reads
 use Rattle.calls.proofs.collect_row.Lts as lts
 use Rattle.calls.proofs.waiting_slot.Reads as waiting-slot-reads
 use Rattle.layout.proofs.byte_at.Reads as byte-at-reads
-use Rattle.step.proofs.held.Reads as held-reads
+use Rattle.queue.proofs.count.Reads as count-reads
 
--- src/lib.rt:98:9
 byte-at-requires : tie.Need-byte-at-requires
 byte-at-requires c κs = search needs
 
--- src/lib.rt:100:9
 returns : tie.Need-returns
 unfolding collectRow
 returns c = let a = c .before .before .before .args in let p = now (a .r) in let r = decRaw p in sym (rw (eq-eqb (num outF r) 0 (omega arith)))
 
--- src/lib.rt:102:8
 waiting-slot-requires : tie.Need-waiting-slot-requires
 waiting-slot-requires c κs = search needs
 
--- src/lib.rt:102:26
-held-requires : tie.Need-held-requires
-held-requires c κs = search needs
+count-requires : tie.Need-count-requires
+count-requires c κs = search needs
 
--- src/lib.rt:103:9
 returns-2 : tie.Need-returns-2
 unfolding collectRow
 returns-2 c = let a = c .before .before .before .before .before .before .args in let p = now (a .r) in let r = decRaw p in sym (rw (ne-eqb (num outF r) 0 (λ e. c .before .before .before .if1 .left (c .before .before .before .before .byte-at .ensures .0 ∙ e)), lt-ltb (waitingSlot r) (min (num countF r) room) (omega arith)))
 
--- src/lib.rt:94:1
 returns-3 : tie.Need-returns-3
 unfolding collectRow
 returns-3 c = let a = c .before .before .before .before .before .before .args in let p = now (a .r) in let r = decRaw p in sym (rw (ne-eqb (num outF r) 0 (λ e. c .before .before .before .if1 .left (c .before .before .before .before .byte-at .ensures .0 ∙ e)), le-ltb (waitingSlot r) (min (num countF r) room) (omega arith)))
@@ -45,4 +39,4 @@ returns-3 c = let a = c .before .before .before .before .before .before .args in
 pub collect-row-spec : {M : Type 1} → statement M
 collect-row-spec =
     tie.close
-    (tie.spec byte-at-requires returns waiting-slot-requires held-requires returns-2 returns-3)
+    (tie.spec byte-at-requires returns waiting-slot-requires count-requires returns-2 returns-3)

@@ -1,4 +1,4 @@
-use Prim.Native.Nat.{ℕ, _+_, _-_}
+use Prim.Native.Nat.{ℕ, _+_}
 use mathlib.Core.Path.{ap, _∙_}
 use denote.Ref.{now}
 use Rattle.layout.specs.Record.{decRaw, encRaw, withNum, nextF}
@@ -10,23 +10,18 @@ use Rattle.calls.proofs.mark.Lts as lts
 use Rattle.layout.proofs.put_word.Reads as put-word-reads
 use Rattle.layout.proofs.stamp_at.Reads as stamp-at-reads
 
--- src/lib.rt:157:9
 stamp-at-requires : tie.Need-stamp-at-requires
 stamp-at-requires c κs = search needs
 
--- src/lib.rt:158:28
 add-put-word : tie.Need-add-put-word
 add-put-word c = search needs
 
--- src/lib.rt:158:5
 put-word-requires : tie.Need-put-word-requires
 put-word-requires c κs = search needs
 
--- src/lib.rt:153:1
 same-length : tie.Need-same-length
 same-length c = search needs
 
--- src/lib.rt:153:1
 returns : tie.Need-returns
 returns c = let a = c .before .before .before .before .before .before .before .args in let p = now (a .r) in let r = decRaw p in c .before .before .put-word .ensures ∙ ap (λ (t : ℕ). encRaw (withNum nextF (t + 1) r)) (c .before .before .before .before .stamp-at .ensures .0)
 

@@ -1,38 +1,86 @@
-use mathlib.Core.Path.{sym, _∙_}
+use mathlib.Core.Path.{sym, ap, _∙_}
 use denote.Ref.{now}
+use Rattle.look.specs.declared.Op.{Op}
 use Rattle.look.specs.Look.{equation, ownOf, argOf}
+use Rattle.decide.specs.Search.{candidateOf}
 use Rattle.decide.proofs.Steps as step
 use borrow.Author.Needs.{needs}
 use Rattle.decide.proofs.candidate.Statement.{statement}
 use Rattle.decide.proofs.candidate.Tie as tie
-use Rattle.decide.proofs.candidate.Reads as reads
-use Rattle.decide.proofs.candidate.Lts as lts
-use Rattle.decide.proofs.due_at.Reads as due-at-reads
 
--- src/lib.rt:92:9
-returns : tie.Need-returns
-returns c = let x = c .before .before .before .args in let l = x .l in let e = equation (l .op) in let o = ownOf l in let a = argOf (l .abound) (now (x .a)) in step.candidate-same e o a (x .give) (x .s) (λ q. c .if1 .taken (c .before .before .before .pre .0 .stored ∙ q))
+enum-told : tie.Need-enum-told
+enum-told c = search needs
 
--- src/lib.rt:96:29
+enum-told-2 : tie.Need-enum-told-2
+enum-told-2 c = search needs
+
+enum-told-3 : tie.Need-enum-told-3
+enum-told-3 c = search needs
+
+enum-told-4 : tie.Need-enum-told-4
+enum-told-4 c = search needs
+
+enum-told-5 : tie.Need-enum-told-5
+enum-told-5 c = search needs
+
+enum-told-6 : tie.Need-enum-told-6
+enum-told-6 c = search needs
+
+enum-told-7 : tie.Need-enum-told-7
+enum-told-7 c = search needs
+
 add-due-at : tie.Need-add-due-at
 add-due-at c = search needs
 
--- src/lib.rt:96:9
 due-at-requires : tie.Need-due-at-requires
 due-at-requires c κs = search needs
 
--- src/lib.rt:96:9
-returns-2 : tie.Need-returns-2
-returns-2 c = let x = c .before .before .before .before .before .before .args in let l = x .l in let e = equation (l .op) in let o = ownOf l in let a = argOf (l .abound) (now (x .a)) in c .due-at .ensures ∙ step.candidate-give e o a (x .give) (x .s) (sym (c .before .before .before .before .before .before .pre .0 .stored) ∙ c .before .before .before .if1 .left) (c .before .before .if2 .taken)
+returns : tie.Need-returns
+returns c = let x = c .before .before .before .before .before .before .before .args in let l = x .l in let o = ownOf (l .stream) in let a = argOf (l .abound) (now (x .a)) in c .due-at .ensures ∙ step.candidate-give o a 0 0 (x .give) (x .s) (c .before .before .if1 .taken) ∙ ap (λ (p : Op). candidateOf (x .give) (equation p) o a (x .s)) (sym (c .before .before .before .enum-told7 .given .1))
 
--- src/lib.rt:98:5
 add-result : tie.Need-add-result
 add-result c = search needs
 
--- src/lib.rt:87:1
+returns-2 : tie.Need-returns-2
+returns-2 c = search needs
+
 returns-3 : tie.Need-returns-3
-returns-3 c = let x = c .before .before .before .before .args in let l = x .l in let e = equation (l .op) in let o = ownOf l in let a = argOf (l .abound) (now (x .a)) in step.candidate-stop e o a (x .give) (x .s) (sym (c .before .before .before .before .pre .0 .stored) ∙ c .before .if1 .left) (c .if2 .left)
+returns-3 c = search needs
+
+returns-4 : tie.Need-returns-4
+returns-4 c = search needs
+
+returns-5 : tie.Need-returns-5
+returns-5 c = search needs
+
+returns-6 : tie.Need-returns-6
+returns-6 c = search needs
+
+returns-7 : tie.Need-returns-7
+returns-7 c = search needs
+
+returns-8 : tie.Need-returns-8
+returns-8 c = let x = c .before .before .before .before .before .args in let l = x .l in let o = ownOf (l .stream) in let a = argOf (l .abound) (now (x .a)) in step.candidate-stop o a 0 0 (x .give) (x .s) (c .if1 .left) ∙ ap (λ (p : Op). candidateOf (x .give) (equation p) o a (x .s)) (sym (c .before .enum-told7 .given .1))
 
 pub candidate-spec : {M : Type 1} → statement M
 candidate-spec =
-    tie.close (tie.spec returns add-due-at due-at-requires returns-2 add-result returns-3)
+    tie.close
+    (tie.spec
+    enum-told
+    enum-told-2
+    enum-told-3
+    enum-told-4
+    enum-told-5
+    enum-told-6
+    enum-told-7
+    add-due-at
+    due-at-requires
+    returns
+    add-result
+    returns-2
+    returns-3
+    returns-4
+    returns-5
+    returns-6
+    returns-7
+    returns-8)

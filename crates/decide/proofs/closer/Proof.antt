@@ -7,29 +7,21 @@ use borrow.Author.Needs.{needs}
 use native.Mathlib.Omega.{arith}
 use Rattle.decide.proofs.closer.Statement.{statement}
 use Rattle.decide.proofs.closer.Tie as tie
-use Rattle.decide.proofs.closer.Reads as reads
-use Rattle.decide.proofs.closer.Lts as lts
-use Rattle.decide.proofs.passes.Reads as passes-reads
 
--- src/lib.rt:66:9
 returns : tie.Need-returns
-returns c = let x = c .before .before .before .before .args in let l = x .l in let e = equation (l .op) in let o = ownOf l in let A = now (x .a) in let B = now (x .b) in let a = argOf (l .abound) A in let b = argOf (l .bbound) B in step.near-low (l .bound) (x .c) (x .best) (testIn (x .give) l A B (x .c)) (omega arith)
+returns c = let x = c .before .before .before .before .args in let l = x .l in let e = equation (l .stream .op) in let o = ownOf (l .stream) in let A = now (x .a) in let B = now (x .b) in let a = argOf (l .abound) A in let b = argOf (l .bbound) B in step.near-low (l .stream .bound) (x .c) (x .best) (testIn (x .give) l A B (x .c)) (omega arith)
 
--- src/lib.rt:69:9
 returns-2 : tie.Need-returns-2
-returns-2 c = let x = c .before .before .before .before .before .args in let l = x .l in let e = equation (l .op) in let o = ownOf l in let A = now (x .a) in let B = now (x .b) in let a = argOf (l .abound) A in let b = argOf (l .bbound) B in step.near-high (l .bound) (x .c) (x .best) (testIn (x .give) l A B (x .c)) (omega arith) (omega arith)
+returns-2 c = let x = c .before .before .before .before .before .args in let l = x .l in let e = equation (l .stream .op) in let o = ownOf (l .stream) in let A = now (x .a) in let B = now (x .b) in let a = argOf (l .abound) A in let b = argOf (l .bbound) B in step.near-high (l .stream .bound) (x .c) (x .best) (testIn (x .give) l A B (x .c)) (omega arith) (omega arith)
 
--- src/lib.rt:71:8
 passes-requires : tie.Need-passes-requires
 passes-requires c κs = search needs
 
--- src/lib.rt:72:9
 returns-3 : tie.Need-returns-3
-returns-3 c = let x = c .before .before .before .before .before .before .before .args in let l = x .l in let e = equation (l .op) in let o = ownOf l in let A = now (x .a) in let B = now (x .b) in let a = argOf (l .abound) A in let b = argOf (l .bbound) B in step.near-yes (l .bound) (x .c) (x .best) (testIn (x .give) l A B (x .c)) (omega arith) (omega arith) (sym (c .before .passes .ensures) ∙ c .if3 .taken)
+returns-3 c = let x = c .before .before .before .before .before .before .before .args in let l = x .l in let e = equation (l .stream .op) in let o = ownOf (l .stream) in let A = now (x .a) in let B = now (x .b) in let a = argOf (l .abound) A in let b = argOf (l .bbound) B in step.near-yes (l .stream .bound) (x .c) (x .best) (testIn (x .give) l A B (x .c)) (omega arith) (omega arith) (sym (c .before .passes .ensures) ∙ c .if3 .taken)
 
--- src/lib.rt:61:1
 returns-4 : tie.Need-returns-4
-returns-4 c = let x = c .before .before .before .before .before .before .before .args in let l = x .l in let e = equation (l .op) in let o = ownOf l in let A = now (x .a) in let B = now (x .b) in let a = argOf (l .abound) A in let b = argOf (l .bbound) B in step.near-no (l .bound) (x .c) (x .best) (testIn (x .give) l A B (x .c)) (omega arith) (omega arith) (sym (c .before .passes .ensures) ∙ c .if3 .left)
+returns-4 c = let x = c .before .before .before .before .before .before .before .args in let l = x .l in let e = equation (l .stream .op) in let o = ownOf (l .stream) in let A = now (x .a) in let B = now (x .b) in let a = argOf (l .abound) A in let b = argOf (l .bbound) B in step.near-no (l .stream .bound) (x .c) (x .best) (testIn (x .give) l A B (x .c)) (omega arith) (omega arith) (sym (c .before .passes .ensures) ∙ c .if3 .left)
 
 pub closer-spec : {M : Type 1} → statement M
 closer-spec = tie.close (tie.spec returns returns-2 passes-requires returns-3 returns-4)

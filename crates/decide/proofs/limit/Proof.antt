@@ -1,63 +1,79 @@
-use mathlib.Core.Path.{_≡_, sym, _∙_}
+use Prim.Native.Nat.{ℕ, suc, _+_, min}
+use mathlib.Core.Path.{_≡_, sym, ap, _∙_}
 use mathlib.Core.List.{List}
-use Rattle.meaning.specs.Events.{Event}
+use Rattle.meaning.specs.Events.{Event, horizon}
+use Rattle.machine.specs.Reach as machine
+use Rattle.look.specs.declared.Op.{Op}
 use Rattle.look.specs.Look.{equation, ownOf, argCell}
-use Rattle.look.proofs.Groups.{number-top}
-use Rattle.decide.proofs.Searches as law
 use borrow.Author.Needs.{needs}
 use native.Mathlib.Omega.{arith}
 use Rattle.decide.proofs.limit.Statement.{statement}
 use Rattle.decide.proofs.limit.Tie as tie
-use Rattle.decide.proofs.limit.Reads as reads
-use Rattle.decide.proofs.limit.Lts as lts
-use Rattle.decide.proofs.smaller.Reads as smaller-reads
 
--- src/lib.rt:141:23
-add-smaller : tie.Need-add-smaller
-add-smaller c = search needs
+enum-told : tie.Need-enum-told
+enum-told c = search needs
 
--- src/lib.rt:141:15
+enum-told-2 : tie.Need-enum-told-2
+enum-told-2 c = search needs
+
+enum-told-3 : tie.Need-enum-told-3
+enum-told-3 c = search needs
+
+enum-told-4 : tie.Need-enum-told-4
+enum-told-4 c = search needs
+
+enum-told-5 : tie.Need-enum-told-5
+enum-told-5 c = search needs
+
 smaller-requires : tie.Need-smaller-requires
 smaller-requires c κs = search needs
 
--- src/lib.rt:139:19
+enum-told-6 : tie.Need-enum-told-6
+enum-told-6 c = search needs
+
+enum-told-7 : tie.Need-enum-told-7
+enum-told-7 c = search needs
+
+add-smaller : tie.Need-add-smaller
+add-smaller c = search needs
+
 smaller-requires-2 : tie.Need-smaller-requires-2
 smaller-requires-2 c κs = search needs
 
--- src/lib.rt:131:1
 returns : tie.Need-returns
-returns c = let x = c .before .args in let l = x .l in let e = equation (l .op) in let o = ownOf l in (λ (u v : List Event). law.limit-input o (argCell (l .abound) u) (argCell (l .bbound) v) e (sym (c .before .pre .stored) ∙ c .match .keys1), omega arith)
+returns c = let x = c .before .before .before .args in let l = x .l in let o = ownOf (l .stream) in ((λ (u v : List Event). ap (λ (p : Op). machine.limit (equation p) o (argCell (l .abound) u) (argCell (l .bbound) v)) (sym (c .enum-told .given .1))), omega arith)
 
--- src/lib.rt:131:1
 returns-2 : tie.Need-returns-2
-returns-2 c = let x = c .before .args in let l = x .l in let e = equation (l .op) in let o = ownOf l in (λ (u v : List Event). law.limit-last o (argCell (l .abound) u) (argCell (l .bbound) v) e (sym (c .before .pre .stored) ∙ c .match .keys2), omega arith)
+returns-2 c = let x = c .before .before .before .args in let l = x .l in let o = ownOf (l .stream) in ((λ (u v : List Event). ap (λ (p : Op). machine.limit (equation p) o (argCell (l .abound) u) (argCell (l .bbound) v)) (sym (c .enum-told2 .given .1))), omega arith)
 
--- src/lib.rt:131:1
 returns-3 : tie.Need-returns-3
-returns-3 c = let x = c .before .before .before .args in let l = x .l in let e = equation (l .op) in let o = ownOf l in (λ (u v : List Event). c .smaller .ensures ∙ law.limit-delay o (argCell (l .abound) u) (argCell (l .bbound) v) e (sym (c .before .before .before .pre .stored) ∙ c .before .before .match .keys3), omega arith)
+returns-3 c = let x = c .before .before .before .args in let l = x .l in let o = ownOf (l .stream) in ((λ (u v : List Event). ap (λ (p : Op). machine.limit (equation p) o (argCell (l .abound) u) (argCell (l .bbound) v)) (sym (c .enum-told3 .given .1))), omega arith)
 
--- src/lib.rt:131:1
 returns-4 : tie.Need-returns-4
-returns-4 c = let x = c .before .before .before .args in let l = x .l in let e = equation (l .op) in let o = ownOf l in let s = c .before .before .before .pre .stored in (λ (u v : List Event). law.limit-one o (argCell (l .abound) u) (argCell (l .bbound) v) e (omega arith) (omega arith), omega arith)
+returns-4 c = let x = c .before .before .before .args in let l = x .l in let o = ownOf (l .stream) in ((λ (u v : List Event). ap (λ (p : Op). machine.limit (equation p) o (argCell (l .abound) u) (argCell (l .bbound) v)) (sym (c .enum-told4 .given .1))), omega arith)
 
--- src/lib.rt:131:1
 returns-5 : tie.Need-returns-5
-returns-5 c = let x = c .before .before .before .before .before .args in let l = x .l in let e = equation (l .op) in let o = ownOf l in let s = c .before .before .before .before .before .pre .stored in (λ (u v : List Event). c .smaller2 .ensures ∙ law.limit-two o (argCell (l .abound) u) (argCell (l .bbound) v) e (omega arith) (omega arith), omega arith)
+returns-5 c = let x = c .before .before .before .before .args in let l = x .l in let o = ownOf (l .stream) in ((λ (u v : List Event). c .smaller .ensures ∙ ap (λ (p : Op). machine.limit (equation p) o (argCell (l .abound) u) (argCell (l .bbound) v)) (sym (c .before .enum-told5 .given .1))), omega arith)
 
--- src/lib.rt:131:1
 returns-6 : tie.Need-returns-6
-returns-6 c = let x = c .before .before .args in let l = x .l in let e = equation (l .op) in let o = ownOf l in let s = c .before .before .pre .stored in (λ (u v : List Event). law.limit-plain o (argCell (l .abound) u) (argCell (l .bbound) v) e (λ q. c .before .match .rest .0 .0 .1 (s ∙ q)) (omega arith), omega arith)
+returns-6 c = let x = c .before .before .before .args in let l = x .l in let o = ownOf (l .stream) in ((λ (u v : List Event). ap (λ (p : Op). machine.limit (equation p) o (argCell (l .abound) u) (argCell (l .bbound) v)) (sym (c .enum-told6 .given .1))), omega arith)
 
--- src/lib.rt:131:1
 returns-7 : tie.Need-returns-7
-returns-7 c = let x = c .before .before .before .before .args in let l = x .l in let e = equation (l .op) in let o = ownOf l in let s = c .before .before .before .before .pre .stored in let p : l .number ≡ 18 → ⊥ = c .before .before .before .match .rest .0 .1 in let q : l .number ≡ 19 → ⊥ = c .before .before .before .match .rest .1 in let k = number-top e in absurd (omega arith)
+returns-7 c = let x = c .before .before .before .before .before .args in let l = x .l in let o = ownOf (l .stream) in let w : l .bbound + 1 ≡ suc (l .bbound) = omega arith in ((λ (u v : List Event). c .smaller2 .ensures ∙ ap (λ (m : ℕ). min m horizon) w ∙ ap (λ (p : Op). machine.limit (equation p) o (argCell (l .abound) u) (argCell (l .bbound) v)) (sym (c .before .before .enum-told7 .given .1))), omega arith)
 
 pub limit-spec : {M : Type 1} → statement M
 limit-spec =
     tie.close
     (tie.spec
-    add-smaller
+    enum-told
+    enum-told-2
+    enum-told-3
+    enum-told-4
+    enum-told-5
     smaller-requires
+    enum-told-6
+    enum-told-7
+    add-smaller
     smaller-requires-2
     returns
     returns-2

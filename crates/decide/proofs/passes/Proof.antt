@@ -8,31 +8,21 @@ use Rattle.decide.proofs.Steps as step
 use borrow.Author.Needs.{needs}
 use Rattle.decide.proofs.passes.Statement.{statement}
 use Rattle.decide.proofs.passes.Tie as tie
-use Rattle.decide.proofs.passes.Reads as reads
-use Rattle.decide.proofs.passes.Lts as lts
-use Rattle.decide.proofs.stops.Reads as stops-reads
-use Rattle.gives.proofs.event_at.Reads as event-at-reads
-use Rattle.gives.proofs.is_some.Reads as is-some-reads
 
--- src/lib.rt:54:13
 event-at-requires : tie.Need-event-at-requires
 event-at-requires c κs = search needs
 
--- src/lib.rt:55:9
 is-some-requires : tie.Need-is-some-requires
 is-some-requires c κs = search needs
 
--- src/lib.rt:55:9
 returns : tie.Need-returns
-returns c = let x = c .before .before .before .before .before .args in let l = x .l in let e = equation (l .op) in let o = ownOf l in let A = now (x .a) in let B = now (x .b) in let a = argOf (l .abound) A in let b = argOf (l .bbound) B in c .is-some .ensures ∙ ap has (c .before .event-at .ensures) ∙ step.test-give e o a b (x .t) (x .give) (c .before .before .if1 .taken)
+returns c = let x = c .before .before .before .before .before .args in let l = x .l in let e = equation (l .stream .op) in let o = ownOf (l .stream) in let A = now (x .a) in let B = now (x .b) in let a = argOf (l .abound) A in let b = argOf (l .bbound) B in c .is-some .ensures ∙ ap has (c .before .event-at .ensures) ∙ step.test-give e o a b (x .t) (x .give) (c .before .before .if1 .taken)
 
--- src/lib.rt:57:5
 stops-requires : tie.Need-stops-requires
 stops-requires c κs = search needs
 
--- src/lib.rt:49:1
 returns-2 : tie.Need-returns-2
-returns-2 c = let x = c .before .before .before .before .args in let l = x .l in let e = equation (l .op) in let o = ownOf l in let A = now (x .a) in let B = now (x .b) in let a = argOf (l .abound) A in let b = argOf (l .bbound) B in c .stops .ensures (heldOf (decRaw A)) ∙ step.test-stop e o a b (x .t) (x .give) (c .before .if1 .left)
+returns-2 c = let x = c .before .before .before .before .args in let l = x .l in let e = equation (l .stream .op) in let o = ownOf (l .stream) in let A = now (x .a) in let B = now (x .b) in let a = argOf (l .abound) A in let b = argOf (l .bbound) B in c .stops .ensures (heldOf (decRaw A)) ∙ step.test-stop e o a b (x .t) (x .give) (c .before .if1 .left)
 
 pub passes-spec : {M : Type 1} → statement M
 passes-spec =

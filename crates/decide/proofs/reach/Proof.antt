@@ -1,9 +1,13 @@
 use Prim.Native.Nat.{max}
-use mathlib.Core.Path.{sym, ap, _∙_}
+use mathlib.Core.Path.{_≡_, ap, _∙_}
 use mathlib.Core.Bool.{false}
+use mathlib.Core.List.{_∷_, map}
 use denote.Ref.{now}
+use Rattle.meaning.specs.Plan.{Eqn}
+use Rattle.machine.specs.Reach as machine
 use Rattle.look.specs.Look.{equation, ownOf, argOf}
-use Rattle.decide.specs.Search.{pick}
+use Rattle.look.proofs.Laws.{by}
+use Rattle.decide.specs.Search.{pick, stamps, candidateOf}
 use Rattle.decide.specs.Near.{nearerIn}
 use Rattle.decide.proofs.Steps as step
 use Rattle.decide.proofs.Searches as law
@@ -11,45 +15,69 @@ use borrow.Author.Needs.{needs}
 use native.Mathlib.Omega.{arith}
 use Rattle.decide.proofs.reach.Statement.{statement}
 use Rattle.decide.proofs.reach.Tie as tie
-use Rattle.decide.proofs.reach.Reads as reads
-use Rattle.decide.proofs.reach.Lts as lts
-use Rattle.decide.proofs.closer.Reads as closer-reads
-use Rattle.decide.proofs.larger.Reads as larger-reads
-use Rattle.decide.proofs.limit.Reads as limit-reads
-use Rattle.decide.proofs.scan.Reads as scan-reads
 
--- src/lib.rt:151:30
 limit-requires : tie.Need-limit-requires
 limit-requires c κs = search needs
 
--- src/lib.rt:151:9
 larger-requires : tie.Need-larger-requires
 larger-requires c κs = search needs
 
--- src/lib.rt:154:15
+enum-told : tie.Need-enum-told
+enum-told c = search needs
+
+enum-told-2 : tie.Need-enum-told-2
+enum-told-2 c = search needs
+
+enum-told-3 : tie.Need-enum-told-3
+enum-told-3 c = search needs
+
+enum-told-4 : tie.Need-enum-told-4
+enum-told-4 c = search needs
+
+enum-told-5 : tie.Need-enum-told-5
+enum-told-5 c = search needs
+
+enum-told-6 : tie.Need-enum-told-6
+enum-told-6 c = search needs
+
 scan-requires : tie.Need-scan-requires
 scan-requires c κs = search needs
 
--- src/lib.rt:156:17
+enum-told-7 : tie.Need-enum-told-7
+enum-told-7 c = search needs
+
 scan-requires-2 : tie.Need-scan-requires-2
 scan-requires-2 c κs = search needs
 
--- src/lib.rt:157:13
 closer-requires : tie.Need-closer-requires
 closer-requires c κs = search needs
 
--- src/lib.rt:147:1
 returns : tie.Need-returns
-returns c = let x = c .before .before .before .before .before .before .args in let l = x .l in let e = equation (l .op) in let o = ownOf l in let A = now (x .a) in let B = now (x .b) in let a = argOf (l .abound) A in let b = argOf (l .bbound) B in (c .scan .ensures .0 ∙ law.reach-last o a b e (c .before .before .larger .result) (sym (c .before .before .before .before .before .before .pre .0 .stored) ∙ c .before .match .keys1) (c .before .before .larger .ensures ∙ ap (max (l .bound)) (c .before .before .before .limit .ensures .0 (a .held) (b .held))), omega arith)
+unfolding pick
+returns c = let x = c .before .before .before .before .before .before .before .args in let l = x .l in let o = ownOf (l .stream) in let a = argOf (l .abound) (now (x .a)) in let b = argOf (l .bbound) (now (x .b)) in let h = c .before .before .larger .result in let top = c .before .before .larger .ensures ∙ ap (max (l .stream .bound)) (c .before .before .before .limit .ensures .0 (a .held) (b .held)) in (by (λ (e : Eqn). h ≡ law.top o a b e → h ≡ machine.reach e o a b) (ap equation (c .enum-told .given .1)) (law.ends o a b _ h) top, omega arith)
 
--- src/lib.rt:147:1
 returns-2 : tie.Need-returns-2
 unfolding pick
-returns-2 c = let x = c .before .before .before .before .before .before .before .args in let l = x .l in let e = equation (l .op) in let o = ownOf l in let A = now (x .a) in let B = now (x .b) in let a = argOf (l .abound) A in let b = argOf (l .bbound) B in let k = step.near-le false e o a b (l .bound) (c .before .scan2 .result) (c .closer .result) (c .closer .ensures) in (c .closer .ensures ∙ ap (nearerIn false l A B (l .bound)) (c .before .scan2 .ensures .0) ∙ law.reach-delay o a b e (c .before .before .before .larger .result) (sym (c .before .before .before .before .before .before .before .pre .0 .stored) ∙ c .before .before .match .keys2) (c .before .before .before .larger .ensures ∙ ap (max (l .bound)) (c .before .before .before .before .limit .ensures .0 (a .held) (b .held))), omega arith)
+returns-2 c = let x = c .before .before .before .before .before .before .before .args in let l = x .l in let o = ownOf (l .stream) in let a = argOf (l .abound) (now (x .a)) in let b = argOf (l .bbound) (now (x .b)) in let h = c .before .before .larger .result in let top = c .before .before .larger .ensures ∙ ap (max (l .stream .bound)) (c .before .before .before .limit .ensures .0 (a .held) (b .held)) in (by (λ (e : Eqn). h ≡ law.top o a b e → h ≡ machine.reach e o a b) (ap equation (c .enum-told2 .given .1)) (law.ends o a b _ h) top, omega arith)
 
--- src/lib.rt:147:1
 returns-3 : tie.Need-returns-3
-returns-3 c = let x = c .before .before .before .before .before .args in let l = x .l in let e = equation (l .op) in let o = ownOf l in let A = now (x .a) in let B = now (x .b) in let a = argOf (l .abound) A in let b = argOf (l .bbound) B in (law.reach-other o a b e (c .before .larger .result) (λ q. c .match .rest .0 .1 (c .before .before .before .before .before .pre .0 .stored ∙ q)) (λ q. c .match .rest .1 (c .before .before .before .before .before .pre .0 .stored ∙ q)) (c .before .larger .ensures ∙ ap (max (l .bound)) (c .before .before .limit .ensures .0 (a .held) (b .held))), omega arith)
+unfolding pick
+returns-3 c = let x = c .before .before .before .before .before .before .before .args in let l = x .l in let o = ownOf (l .stream) in let a = argOf (l .abound) (now (x .a)) in let b = argOf (l .bbound) (now (x .b)) in let h = c .before .before .larger .result in let top = c .before .before .larger .ensures ∙ ap (max (l .stream .bound)) (c .before .before .before .limit .ensures .0 (a .held) (b .held)) in (by (λ (e : Eqn). h ≡ law.top o a b e → h ≡ machine.reach e o a b) (ap equation (c .enum-told3 .given .1)) (law.ends o a b _ h) top, omega arith)
+
+returns-4 : tie.Need-returns-4
+unfolding pick
+returns-4 c = let x = c .before .before .before .before .before .before .before .args in let l = x .l in let o = ownOf (l .stream) in let a = argOf (l .abound) (now (x .a)) in let b = argOf (l .bbound) (now (x .b)) in let h = c .before .before .larger .result in let top = c .before .before .larger .ensures ∙ ap (max (l .stream .bound)) (c .before .before .before .limit .ensures .0 (a .held) (b .held)) in (by (λ (e : Eqn). h ≡ law.top o a b e → h ≡ machine.reach e o a b) (ap equation (c .enum-told4 .given .1)) (law.ends o a b _ h) top, omega arith)
+
+returns-5 : tie.Need-returns-5
+unfolding pick
+returns-5 c = let x = c .before .before .before .before .before .before .before .args in let l = x .l in let o = ownOf (l .stream) in let a = argOf (l .abound) (now (x .a)) in let b = argOf (l .bbound) (now (x .b)) in let h = c .before .before .larger .result in let top = c .before .before .larger .ensures ∙ ap (max (l .stream .bound)) (c .before .before .before .limit .ensures .0 (a .held) (b .held)) in (by (λ (e : Eqn). h ≡ law.top o a b e → h ≡ machine.reach e o a b) (ap equation (c .enum-told5 .given .1)) (law.ends o a b _ h) top, omega arith)
+
+returns-6 : tie.Need-returns-6
+returns-6 c = let x = c .before .before .before .before .before .before .before .before .args in let l = x .l in let o = ownOf (l .stream) in let a = argOf (l .abound) (now (x .a)) in let b = argOf (l .bbound) (now (x .b)) in let h = c .before .before .before .larger .result in let top = c .before .before .before .larger .ensures ∙ ap (max (l .stream .bound)) (c .before .before .before .before .limit .ensures .0 (a .held) (b .held)) in (c .scan .ensures .0 ∙ by (λ (e : Eqn). law.Ends o a b e h (map (candidateOf false e o a) (stamps (b .held)))) (ap equation (c .before .enum-told6 .given .1)) (law.reach-last o a b _ _ h) top, omega arith)
+
+returns-7 : tie.Need-returns-7
+unfolding pick
+returns-7 c = let x = c .before .before .before .before .before .before .before .before .before .args in let l = x .l in let o = ownOf (l .stream) in let a = argOf (l .abound) (now (x .a)) in let b = argOf (l .bbound) (now (x .b)) in let h = c .before .before .before .before .larger .result in let top = c .before .before .before .before .larger .ensures ∙ ap (max (l .stream .bound)) (c .before .before .before .before .before .limit .ensures .0 (a .held) (b .held)) in let k = step.near-le false (equation (l .stream .op)) o a b (l .stream .bound) (c .before .scan2 .result) (c .closer .result) (c .closer .ensures) in (c .closer .ensures ∙ ap (nearerIn false l (now (x .a)) (now (x .b)) (l .stream .bound)) (c .before .scan2 .ensures .0) ∙ by (λ (e : Eqn). law.Ends o a b e h (o .bound ∷ map (candidateOf false e o a) (stamps (b .held)))) (ap equation (c .before .before .enum-told7 .given .1)) (law.reach-delay o a b _ _ h) top, omega arith)
 
 pub reach-spec : {M : Type 1} → statement M
 reach-spec =
@@ -57,9 +85,20 @@ reach-spec =
     (tie.spec
     limit-requires
     larger-requires
+    enum-told
+    enum-told-2
+    enum-told-3
+    enum-told-4
+    enum-told-5
+    enum-told-6
     scan-requires
+    enum-told-7
     scan-requires-2
     closer-requires
     returns
     returns-2
-    returns-3)
+    returns-3
+    returns-4
+    returns-5
+    returns-6
+    returns-7)

@@ -1,7 +1,7 @@
 -- `printer::put_digits` meets its contract.
 use Rattle.decimal.proofs.Puts.{put-length, digits-most, digits-end, digits-last, digits-go}
 use mathlib.Core.Path.{_∙_}
-use Prim.Native.Nat.{ℕ, _+_, _-_, _/_, _<_}
+use Prim.Native.Nat.{ℕ, _-_, _/_, _<_}
 use denote.Ref.{now}
 use native.Mathlib.Omega.{arith}
 use Prim.Native.Nat.{ℕ, _<_}

@@ -14,35 +14,27 @@ Inv-loop edges i₀ i = (length edges ≡ 22) × (i ≤ 22)
 abbrev μ-loop : tie.MeasureT-loop
 μ-loop edges i₀ i = 22 - i
 
--- src/main.rt:92:5
 loop-holds : tie.Need-loop-holds Inv-loop μ-loop
 loop-holds c = search needs
 
--- src/main.rt:93:19
 mul-print-row : tie.Need-mul-print-row Inv-loop μ-loop
 mul-print-row c = search needs
 
--- src/main.rt:93:19
 array-copy-out-print-row : tie.Need-array-copy-out-print-row Inv-loop μ-loop
 array-copy-out-print-row c = search needs
 
--- src/main.rt:93:9
 print-row-requires : tie.Need-print-row-requires Inv-loop μ-loop
 print-row-requires c κs = search needs
 
--- src/main.rt:94:9
 add-i : tie.Need-add-i Inv-loop μ-loop
 add-i c = search needs
 
--- src/main.rt:92:5
 loop-less : tie.Need-loop-less Inv-loop μ-loop
 loop-less c = search needs
 
--- src/main.rt:92:5
 loop-again : tie.Need-loop-again Inv-loop μ-loop
 loop-again c = search needs
 
--- src/main.rt:89:1
 returns : tie.Need-returns Inv-loop μ-loop
 returns c = search needs
 

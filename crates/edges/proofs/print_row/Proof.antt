@@ -15,39 +15,30 @@ Inv-loop x edges j₀ j = (length edges ≡ 22) × (j ≤ 22)
 abbrev μ-loop : tie.MeasureT-loop
 μ-loop x edges j₀ j = 22 - j
 
--- src/main.rt:80:5
 print-neg-requires : tie.Need-print-neg-requires Inv-loop μ-loop
 print-neg-requires c κs = search needs
 
--- src/main.rt:83:5
 loop-holds : tie.Need-loop-holds Inv-loop μ-loop
 loop-holds c = search needs
 
--- src/main.rt:84:23
 mul-print-pair : tie.Need-mul-print-pair Inv-loop μ-loop
 mul-print-pair c = search needs
 
--- src/main.rt:84:23
 array-copy-out-print-pair : tie.Need-array-copy-out-print-pair Inv-loop μ-loop
 array-copy-out-print-pair c = search needs
 
--- src/main.rt:84:9
 print-pair-requires : tie.Need-print-pair-requires Inv-loop μ-loop
 print-pair-requires c κs = search needs
 
--- src/main.rt:85:9
 add-j : tie.Need-add-j Inv-loop μ-loop
 add-j c = search needs
 
--- src/main.rt:83:5
 loop-less : tie.Need-loop-less Inv-loop μ-loop
 loop-less c = search needs
 
--- src/main.rt:83:5
 loop-again : tie.Need-loop-again Inv-loop μ-loop
 loop-again c = search needs
 
--- src/main.rt:79:1
 returns : tie.Need-returns Inv-loop μ-loop
 returns c = search needs
 

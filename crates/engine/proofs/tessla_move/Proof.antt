@@ -1,60 +1,46 @@
-use mathlib.Core.Path.{ap}
+-- `engine::tessla_move` meets its contract.
+use mathlib.Core.Path.{refl, sym, _∙_}
 use denote.Ref.{now}
-use Rattle.engine.specs.Reply.{Reply}
-use Rattle.engine.proofs.Replies
-use borrow.Author.Tests.{not-true, not-false}
+use Rattle.state.proofs.In.{tested-state, tested-none}
+use Rattle.engine.proofs.Replies.{reply-state, reply-none}
 use Rattle.machine.specs.Calls.{moving}
-use Rattle.engine.proofs.MoveReplies
 use borrow.Author.Needs.{needs}
-use native.Mathlib.Omega.{arith}
 use Rattle.engine.proofs.tessla_move.Statement.{statement}
 use Rattle.engine.proofs.tessla_move.Tie as tie
 
 streams-requires : tie.Need-streams-requires
 streams-requires c κs = search needs
 
+enum-known-n : tie.Need-enum-known-n
+enum-known-n c = search needs
+
+move-stream-requires : tie.Need-move-stream-requires
+move-stream-requires c κs = tested-state _ _ (sym (c .before .before .n .given .1) ∙ c .before .before .before .before .streams .ensures)
+
+enum-told : tie.Need-enum-told
+enum-told c = search needs
+
 same-length : tie.Need-same-length
 same-length c = search needs
 
 returns : tie.Need-returns
-returns c = let a = c .before .before .before .before .args in let s = now (a .state) in let n = c .before .streams .result in let e = c .before .streams .ensures .0 in let p = Replies.reply-15 s n e (moving (a .stream)) (c .if1 .taken) in (ap (λ (y : Reply). y .number) p, ap (λ (y : Reply). y .buffer) p)
-
-is-equation-requires : tie.Need-is-equation-requires
-is-equation-requires c κs = let a = c .before .before .before .before .before .args in let s = now (a .state) in let n = c .before .before .streams .result in let e = c .before .before .streams .ensures .0 in Replies.room-for s (λ j. omega (arith, c .before .before .before .before .slice-known .given j)) n e (c .before .if1 .left)
+returns c = let a = c .before .before .before .before .before .before .before .before .before .before .args in let s = now (a .state) in rw (reply-state (moving (a .stream)) s (tested-state s _ (sym (c .before .before .before .before .before .n .given .1) ∙ c .before .before .before .before .before .before .before .streams .ensures) .isValid)) (c .before .before .move-stream .ensures .0, c .before .before .move-stream .ensures .1 .0)
 
 same-length-2 : tie.Need-same-length-2
 same-length-2 c = search needs
 
 returns-2 : tie.Need-returns-2
-returns-2 c = let a = c .before .before .before .before .before .before .before .args in let s = now (a .state) in let n = c .before .before .before .before .streams .result in let e = c .before .before .before .before .streams .ensures .0 in let p = MoveReplies.move-11 s (λ j. omega (arith, c .before .before .before .before .before .before .slice-known .given j)) n e (c .before .before .before .if1 .left) (a .stream) (c .before .is-equation .result) (c .before .is-equation .ensures) (not-true (c .before .is-equation .result) (c .if2 .taken)) in (ap (λ (y : Reply). y .number) p, ap (λ (y : Reply). y .buffer) p)
-
-move-one-requires : tie.Need-move-one-requires
-move-one-requires c κs = let a = c .before .before .before .before .before .before .before .before .args in let s = now (a .state) in let n = c .before .before .before .before .before .streams .result in let e = c .before .before .before .before .before .streams .ensures .0 in (Replies.room-for s (λ j. omega (arith, c .before .before .before .before .before .before .before .slice-known .given j)) n e (c .before .before .before .before .if1 .left), MoveReplies.move-there s (λ j. omega (arith, c .before .before .before .before .before .before .before .slice-known .given j)) n e (c .before .before .before .before .if1 .left) (a .stream) (c .before .before .is-equation .result) (c .before .before .is-equation .ensures) (not-false (c .before .before .is-equation .result) (c .before .if2 .left)))
-
-same-length-3 : tie.Need-same-length-3
-same-length-3 c = search needs
-
-returns-3 : tie.Need-returns-3
-returns-3 c = let a = c .before .before .before .before .before .before .before .before .before .before .before .before .args in let s = now (a .state) in let n = c .before .before .before .before .before .before .before .before .before .streams .result in let e = c .before .before .before .before .before .before .before .before .before .streams .ensures .0 in let p = MoveReplies.move-12 s (λ j. omega (arith, c .before .before .before .before .before .before .before .before .before .before .before .slice-known .given j)) n e (c .before .before .before .before .before .before .before .before .if1 .left) (a .stream) (c .before .before .before .before .before .before .is-equation .result) (c .before .before .before .before .before .before .is-equation .ensures) (not-false (c .before .before .before .before .before .before .is-equation .result) (c .before .before .before .before .before .if2 .left)) (c .before .before .before .move-one .result) (c .before .before .before .move-one .last .0) (c .before .before .before .move-one .ensures .0) (c .before .before .before .move-one .ensures .1) (not-true (c .before .before .before .move-one .result) (c .if3 .taken)) in (ap (λ (y : Reply). y .number) p, ap (λ (y : Reply). y .buffer) p)
-
-same-length-4 : tie.Need-same-length-4
-same-length-4 c = search needs
-
-returns-4 : tie.Need-returns-4
-returns-4 c = let a = c .before .before .before .before .before .before .before .before .before .before .before .before .args in let s = now (a .state) in let n = c .before .before .before .before .before .before .before .before .before .streams .result in let e = c .before .before .before .before .before .before .before .before .before .streams .ensures .0 in let p = MoveReplies.move-done s (λ j. omega (arith, c .before .before .before .before .before .before .before .before .before .before .before .slice-known .given j)) n e (c .before .before .before .before .before .before .before .before .if1 .left) (a .stream) (c .before .before .before .before .before .before .is-equation .result) (c .before .before .before .before .before .before .is-equation .ensures) (not-false (c .before .before .before .before .before .before .is-equation .result) (c .before .before .before .before .before .if2 .left)) (c .before .before .before .move-one .result) (c .before .before .before .move-one .last .0) (c .before .before .before .move-one .ensures .0) (c .before .before .before .move-one .ensures .1) (not-false (c .before .before .before .move-one .result) (c .if3 .left)) in (ap (λ (y : Reply). y .number) p, ap (λ (y : Reply). y .buffer) p)
+returns-2 c = let a = c .before .before .before .before .before .args in let s = now (a .state) in rw (reply-none (moving (a .stream)) s (tested-none s (sym (c .enum-told .given .1) ∙ c .before .before .streams .ensures))) (refl, refl)
 
 pub tessla-move-spec : {M : Type 1} → statement M
 tessla-move-spec =
     tie.close
     (tie.spec
     streams-requires
+    enum-known-n
+    move-stream-requires
+    enum-told
     same-length
     returns
-    is-equation-requires
     same-length-2
-    returns-2
-    move-one-requires
-    same-length-3
-    returns-3
-    same-length-4
-    returns-4)
+    returns-2)

@@ -1,42 +1,47 @@
-use mathlib.Core.Path.{ap}
+-- `engine::tessla_run` meets its contract.
+use Rattle.engine.proofs.Replies.{reply-state, reply-none}
+use mathlib.Core.Path.{refl, sym, _∙_}
 use denote.Ref.{now}
-use Rattle.engine.specs.Reply.{Reply}
-use Rattle.engine.proofs.Replies
+use Rattle.state.proofs.In.{tested-state, tested-none}
+use Rattle.engine.proofs.Replies.{reply-state, reply-none, run-done}
 use Rattle.machine.specs.Calls.{running}
-use Rattle.engine.proofs.MoveReplies
 use borrow.Author.Needs.{needs}
-use native.Mathlib.Omega.{arith}
 use Rattle.engine.proofs.tessla_run.Statement.{statement}
 use Rattle.engine.proofs.tessla_run.Tie as tie
-use Rattle.engine.proofs.tessla_run.Reads as reads
-use Rattle.engine.proofs.tessla_run.Lts as lts
-use Rattle.running.proofs.run.Reads as run-reads
-use Rattle.valid.proofs.streams.Reads as streams-reads
 
--- src/lib.rt:101:9
 streams-requires : tie.Need-streams-requires
 streams-requires c κs = search needs
 
--- src/lib.rt:103:9
+enum-known-streams : tie.Need-enum-known-streams
+enum-known-streams c = search needs
+
+run-requires : tie.Need-run-requires
+run-requires c κs = tested-state _ _ (sym (c .before .before .streams2 .given .1) ∙ c .before .before .before .before .streams .ensures)
+
+enum-told : tie.Need-enum-told
+enum-told c = search needs
+
 same-length : tie.Need-same-length
 same-length c = search needs
 
--- src/lib.rt:103:9
 returns : tie.Need-returns
-returns c = let a = c .before .before .before .before .args in let s = now (a .state) in let n = c .before .streams .result in let e = c .before .streams .ensures .0 in let p = Replies.reply-15 s n e (running (a .n)) (c .if1 .taken) in (ap (λ (y : Reply). y .number) p, (ap (λ (y : Reply). y .moves) p, ap (λ (y : Reply). y .buffer) p))
+returns c = let a = c .before .before .before .before .before .before .before .before .before .before .args in let s = now (a .state) in rw (reply-state (running (a .n)) s (tested-state s _ (sym (c .before .before .before .before .before .streams2 .given .1) ∙ c .before .before .before .before .before .before .before .streams .ensures) .isValid)) (sym (run-done (a .n) s), (c .before .before .run .ensures .0, c .before .before .run .ensures .1 .0))
 
--- src/lib.rt:105:14
-run-requires : tie.Need-run-requires
-run-requires c κs = let a = c .before .before .before .before .before .args in let s = now (a .state) in let n = c .before .before .streams .result in let e = c .before .before .streams .ensures .0 in MoveReplies.here s (λ j. omega (arith, c .before .before .before .before .slice-known .given j)) n e (c .before .if1 .left)
-
--- src/lib.rt:94:1
 same-length-2 : tie.Need-same-length-2
 same-length-2 c = search needs
 
--- src/lib.rt:94:1
 returns-2 : tie.Need-returns-2
-returns-2 c = let a = c .before .before .before .before .before .before .before .before .args in let s = now (a .state) in let n = c .before .before .before .before .before .streams .result in let e = c .before .before .before .before .before .streams .ensures .0 in let p = MoveReplies.run-reply s (λ j. omega (arith, c .before .before .before .before .before .before .before .slice-known .given j)) n e (c .before .before .before .before .if1 .left) (a .n) (c .before .before .run .result) (c .before .before .run .last .0) (c .before .before .run .ensures .0) (c .before .before .run .ensures .1) in (p .0, (p .1, p .2))
+returns-2 c = let a = c .before .before .before .before .before .args in let s = now (a .state) in rw (reply-none (running (a .n)) s (tested-none s (sym (c .enum-told .given .1) ∙ c .before .before .streams .ensures))) (refl, (refl, refl))
 
 pub tessla-run-spec : {M : Type 1} → statement M
 tessla-run-spec =
-    tie.close (tie.spec streams-requires same-length returns run-requires same-length-2 returns-2)
+    tie.close
+    (tie.spec
+    streams-requires
+    enum-known-streams
+    run-requires
+    enum-told
+    same-length
+    returns
+    same-length-2
+    returns-2)

@@ -12,26 +12,18 @@ use borrow.Author.Needs.{needs}
 use native.Mathlib.Omega.{arith}
 use Rattle.gives.proofs.delay_at.Statement.{statement}
 use Rattle.gives.proofs.delay_at.Tie as tie
-use Rattle.gives.proofs.delay_at.Reads as reads
-use Rattle.gives.proofs.delay_at.Lts as lts
-use Rattle.gives.proofs.due.Reads as due-reads
-use Rattle.gives.proofs.point.Reads as point-reads
 
--- src/lib.rt:94:9
 point-requires : tie.Need-point-requires
 point-requires c κs = search needs
 
--- src/lib.rt:95:8
 due-requires : tie.Need-due-requires
 unfolding machine.point
 due-requires c κs = let h = past-le (found (heldOf (decRaw (now (c .before .before .before .args .b))))) (c .before .before .before .args .t) in (omega arith, omega arith)
 
--- src/lib.rt:96:9
 returns : tie.Need-returns
 unfolding delay-at
 returns c = let a = c .before .before .before .before .before .args in ap delay-at (sym (c .if1 .taken) ∙ c .before .due .ensures ∙ ap (λ (z : ℕ). machine.due (keeping (a .k)) (holding (now (a .a))) z (a .t)) (c .before .before .point .ensures))
 
--- src/lib.rt:90:1
 returns-2 : tie.Need-returns-2
 unfolding delay-at
 returns-2 c = let a = c .before .before .before .before .before .args in ap delay-at (sym (c .if1 .left) ∙ c .before .due .ensures ∙ ap (λ (z : ℕ). machine.due (keeping (a .k)) (holding (now (a .a))) z (a .t)) (c .before .before .point .ensures))

@@ -7,32 +7,22 @@ use borrow.Author.Needs.{needs}
 use native.Mathlib.Omega.{arith}
 use Rattle.gives.proofs.due.Statement.{statement}
 use Rattle.gives.proofs.due.Tie as tie
-use Rattle.gives.proofs.due.Reads as reads
-use Rattle.gives.proofs.due.Lts as lts
-use Rattle.gives.proofs.set_value.Reads as set-value-reads
-use Rattle.gives.proofs.stamps_of.Reads as stamps-of-reads
 
--- src/lib.rt:69:9
 returns : tie.Need-returns
 returns c = law.due-none (c .before .before .args .z) _ (c .if1 .taken)
 
--- src/lib.rt:71:23
 set-value-requires : tie.Need-set-value-requires
 set-value-requires c κs = search needs
 
--- src/lib.rt:71:9
 stamps-of-requires : tie.Need-stamps-of-requires
 stamps-of-requires c κs = search needs
 
--- src/lib.rt:72:15
 sub-result : tie.Need-sub-result
 sub-result c = search needs
 
--- src/lib.rt:72:10
 sub-result-2 : tie.Need-sub-result-2
 sub-result-2 c = search needs
 
--- src/lib.rt:64:1
 returns-2 : tie.Need-returns-2
 returns-2 c = let a = c .before .before .before .before .args in law.due-some (a .z) (a .t) (c .stamps-of .result) (machine.valueAt (keeping (a .k)) (holding (now (a .a))) (a .z)) (c .before .before .if1 .left) (omega arith) (c .stamps-of .ensures .0 ∙ ap size (c .before .set-value .ensures))
 

@@ -7,103 +7,73 @@ use Rattle.gives.proofs.Laws as law
 use borrow.Author.Needs.{needs}
 use Rattle.gives.proofs.event_at.Statement.{statement}
 use Rattle.gives.proofs.event_at.Tie as tie
-use Rattle.gives.proofs.event_at.Reads as reads
-use Rattle.gives.proofs.event_at.Lts as lts
-use Rattle.gives.proofs.delay_at.Reads as delay-at-reads
-use Rattle.gives.proofs.last_at.Reads as last-at-reads
-use Rattle.gives.proofs.unit_at.Reads as unit-at-reads
-use Rattle.held.proofs.find.Reads as find-reads
-use Rattle.table.proofs.one_at.Reads as one-at-reads
-use Rattle.table.proofs.two_at.Reads as two-at-reads
 
--- src/lib.rt:118:19
 enum-told : tie.Need-enum-told
 enum-told c = search needs
 
--- src/lib.rt:119:20
 enum-told-2 : tie.Need-enum-told-2
 enum-told-2 c = search needs
 
--- src/lib.rt:120:21
 enum-told-3 : tie.Need-enum-told-3
 enum-told-3 c = search needs
 
--- src/lib.rt:120:21
 unit-at-requires : tie.Need-unit-at-requires
 unit-at-requires c κs = search needs
 
--- src/lib.rt:121:17
 enum-known-op : tie.Need-enum-known-op
 enum-known-op c = search needs
 
--- src/lib.rt:122:17
 find-requires : tie.Need-find-requires
 find-requires c κs = search needs
 
--- src/lib.rt:123:13
 one-at-requires : tie.Need-one-at-requires
 one-at-requires c κs = search needs
 
--- src/lib.rt:125:17
 enum-known-op-2 : tie.Need-enum-known-op-2
 enum-known-op-2 c = search needs
 
--- src/lib.rt:126:17
 find-requires-2 : tie.Need-find-requires-2
 find-requires-2 c κs = search needs
 
--- src/lib.rt:127:17
 find-requires-3 : tie.Need-find-requires-3
 find-requires-3 c κs = search needs
 
--- src/lib.rt:128:13
 two-at-requires : tie.Need-two-at-requires
 two-at-requires c κs = search needs
 
--- src/lib.rt:131:17
 enum-told-4 : tie.Need-enum-told-4
 enum-told-4 c = search needs
 
--- src/lib.rt:132:13
 last-at-requires : tie.Need-last-at-requires
 last-at-requires c κs = search needs
 
--- src/lib.rt:135:17
 enum-told-5 : tie.Need-enum-told-5
 enum-told-5 c = search needs
 
--- src/lib.rt:136:13
 delay-at-requires : tie.Need-delay-at-requires
 delay-at-requires c κs = search needs
 
--- src/lib.rt:112:1
 returns : tie.Need-returns
-returns c = let x = c .before .before .before .before .args in let A = now (x .a) in let B = now (x .b) in let t = x .t in law.gives-arm (x .l) A B t (c .enum-told .given .1)
+returns c = let x = c .before .before .before .before .before .args in let A = now (x .a) in let B = now (x .b) in let t = x .t in law.gives-arm (x .l) A B t (c .enum-told .given .1)
 
--- src/lib.rt:112:1
 returns-2 : tie.Need-returns-2
-returns-2 c = let x = c .before .before .before .before .args in let A = now (x .a) in let B = now (x .b) in let t = x .t in law.gives-arm (x .l) A B t (c .enum-told2 .given .1)
+returns-2 c = let x = c .before .before .before .before .before .args in let A = now (x .a) in let B = now (x .b) in let t = x .t in law.gives-arm (x .l) A B t (c .enum-told2 .given .1)
 
--- src/lib.rt:112:1
 returns-3 : tie.Need-returns-3
-returns-3 c = let x = c .before .before .before .before .before .args in let A = now (x .a) in let B = now (x .b) in let t = x .t in c .unit-at .ensures ∙ law.gives-arm (x .l) A B t (c .before .enum-told3 .given .1)
+returns-3 c = let x = c .before .before .before .before .before .before .args in let A = now (x .a) in let B = now (x .b) in let t = x .t in c .unit-at .ensures ∙ law.gives-arm (x .l) A B t (c .before .enum-told3 .given .1)
 
--- src/lib.rt:112:1
 returns-4 : tie.Need-returns-4
-returns-4 c = let x = c .before .before .before .before .before .before .before .args in let A = now (x .a) in let B = now (x .b) in let t = x .t in c .one-at .ensures ∙ ap (one-at (unary (c .before .before .before .op .given .0 .0)) t) (c .before .find .ensures) ∙ law.gives-arm (x .l) A B t (c .before .before .before .op .given .1)
+returns-4 c = let x = c .before .before .before .before .before .before .before .before .args in let A = now (x .a) in let B = now (x .b) in let t = x .t in c .one-at .ensures ∙ ap (one-at (unary (c .before .before .before .op .given .0 .0)) t) (c .before .find .ensures) ∙ law.gives-arm (x .l) A B t (c .before .before .before .op .given .1)
 
--- src/lib.rt:112:1
 returns-5 : tie.Need-returns-5
-returns-5 c = let x = c .before .before .before .before .before .before .before .before .args in let A = now (x .a) in let B = now (x .b) in let t = x .t in c .two-at .ensures ∙ ap₂ (two-at (binary (c .before .before .before .before .op2 .given .0 .0))) (c .before .before .find2 .ensures) (c .before .find3 .ensures) ∙ law.gives-arm (x .l) A B t (c .before .before .before .before .op2 .given .1)
+returns-5 c = let x = c .before .before .before .before .before .before .before .before .before .args in let A = now (x .a) in let B = now (x .b) in let t = x .t in c .two-at .ensures ∙ ap₂ (two-at (binary (c .before .before .before .before .op2 .given .0 .0))) (c .before .before .find2 .ensures) (c .before .find3 .ensures) ∙ law.gives-arm (x .l) A B t (c .before .before .before .before .op2 .given .1)
 
--- src/lib.rt:112:1
 returns-6 : tie.Need-returns-6
-returns-6 c = let x = c .before .before .before .before .before .before .args in let A = now (x .a) in let B = now (x .b) in let t = x .t in c .last-at .ensures ∙ law.gives-arm (x .l) A B t (c .before .before .enum-told4 .given .1)
+returns-6 c = let x = c .before .before .before .before .before .before .before .args in let A = now (x .a) in let B = now (x .b) in let t = x .t in c .last-at .ensures ∙ law.gives-arm (x .l) A B t (c .before .before .enum-told4 .given .1)
 
--- src/lib.rt:112:1
 returns-7 : tie.Need-returns-7
 unfolding machine.point
-returns-7 c = let x = c .before .before .before .before .before .before .args in let A = now (x .a) in let B = now (x .b) in let t = x .t in c .delay-at .ensures ∙ law.gives-arm (x .l) A B t (c .before .before .enum-told5 .given .1)
+returns-7 c = let x = c .before .before .before .before .before .before .before .args in let A = now (x .a) in let B = now (x .b) in let t = x .t in c .delay-at .ensures ∙ law.gives-arm (x .l) A B t (c .before .before .enum-told5 .given .1)
 
 pub event-at-spec : {M : Type 1} → statement M
 event-at-spec =

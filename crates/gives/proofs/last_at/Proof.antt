@@ -6,41 +6,30 @@ use Rattle.meaning.specs.Events.{found, orElse}
 use Rattle.meaning.specs.Table.{latest, last-at}
 use Rattle.layout.specs.Record.{decRaw}
 use Rattle.cells.specs.Back.{heldOf}
-use Rattle.held.specs.Found.{asOption}
+use Rattle.queue.specs.Found.{asOption}
 use borrow.Author.Needs.{needs}
 use Rattle.gives.proofs.last_at.Statement.{statement}
 use Rattle.gives.proofs.last_at.Tie as tie
-use Rattle.gives.proofs.last_at.Reads as reads
-use Rattle.gives.proofs.last_at.Lts as lts
-use Rattle.held.proofs.find.Reads as find-reads
-use Rattle.held.proofs.latest_before.Reads as latest-before-reads
-use Rattle.table.proofs.or_else.Reads as or-else-reads
 
--- src/lib.rt:80:9
 find-requires : tie.Need-find-requires
 find-requires c κs = search needs
 
 enum-told : tie.Need-enum-told
 enum-told c = search needs
 
--- src/lib.rt:82:9
 enum-told-2 : tie.Need-enum-told-2
 enum-told-2 c = search needs
 
--- src/lib.rt:82:9
 returns : tie.Need-returns
 unfolding last-at
 returns c = let a = c .before .before .before .before .before .args in let v = asOption (a .k .prev) in let w = latest (found (heldOf (decRaw (now (a .a))))) (a .t) in ap (λ (o : Option ℤ). last-at o (orElse w v)) (ap asOption (sym (c .enum-told2 .given .1)) ∙ c .before .before .find .ensures)
 
--- src/lib.rt:85:9
 latest-before-requires : tie.Need-latest-before-requires
 latest-before-requires c κs = search needs
 
--- src/lib.rt:86:5
 or-else-requires : tie.Need-or-else-requires
 or-else-requires c κs = search needs
 
--- src/lib.rt:76:1
 returns-2 : tie.Need-returns-2
 unfolding last-at
 returns-2 c = let a = c .before .before .before .before .before .before .before .args in let v = asOption (a .k .prev) in let w = latest (found (heldOf (decRaw (now (a .a))))) (a .t) in c .or-else .ensures ∙ ap (λ (o : Option ℤ). orElse o v) (c .before .latest-before .ensures) ∙ ap (λ (o : Option ℤ). last-at o (orElse w v)) (ap asOption (sym (c .before .before .enum-told .given .1)) ∙ c .before .before .before .before .find .ensures)

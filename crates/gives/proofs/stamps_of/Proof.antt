@@ -1,8 +1,8 @@
 use mathlib.Core.Path.{sym, ap, _∙_}
 use lib.IntN.{pos}
 use lib.Signed.{ltZ}
-use Rattle.held.specs.declared.Found.{Found}
-use Rattle.held.specs.Found.{asOption}
+use Rattle.queue.specs.declared.Found.{Found}
+use Rattle.queue.specs.Found.{asOption}
 use Rattle.table.proofs.Rows.{back}
 use Rattle.gives.specs.Near.{size}
 use Rattle.gives.proofs.Laws as law
@@ -10,30 +10,22 @@ use borrow.Author.Needs.{needs}
 use native.Mathlib.Omega.{arith}
 use Rattle.gives.proofs.stamps_of.Statement.{statement}
 use Rattle.gives.proofs.stamps_of.Tie as tie
-use Rattle.gives.proofs.stamps_of.Reads as reads
-use Rattle.gives.proofs.stamps_of.Lts as lts
 
--- src/lib.rt:54:22
 enum-known-x : tie.Need-enum-known-x
 enum-known-x c = search needs
 
--- src/lib.rt:55:9
 enum-told : tie.Need-enum-told
 enum-told c = search needs
 
--- src/lib.rt:55:9
 returns : tie.Need-returns
 returns c = search needs
 
--- src/lib.rt:58:9
 returns-2 : tie.Need-returns-2
 returns-2 c = let e = back (c .before .before .x .given .0 .0) (c .before .known-told .given .0 .1) in (law.size-neg (c .before .before .x .given .0 .0) (ap (λ z. ltZ z (pos 0)) (sym e) ∙ c .if1 .taken) ∙ ap (λ (x : Found). size (asOption x)) (sym (c .before .before .x .given .1)), omega arith)
 
--- src/lib.rt:60:5
 cast-result : tie.Need-cast-result
 cast-result c = let e = back (c .before .before .x .given .0 .0) (c .before .known-told .given .0 .1) in rw e (law.size-cast (c .before .before .x .given .0 .0) (c .before .known-told .given .0 .1) (ap (λ z. ltZ z (pos 0)) (sym e) ∙ c .if1 .left))
 
--- src/lib.rt:51:1
 returns-3 : tie.Need-returns-3
 returns-3 c = let e = back (c .before .before .x .given .0 .0) (c .before .known-told .given .0 .1) in let p = law.size-pos (c .before .before .x .given .0 .0) (c .before .known-told .given .0 .1) (ap (λ z. ltZ z (pos 0)) (sym e) ∙ c .if1 .left) in rw e (p .0 ∙ ap (λ (x : Found). size (asOption x)) (sym (c .before .before .x .given .1)), p .1)
 

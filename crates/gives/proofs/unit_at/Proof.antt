@@ -1,14 +1,10 @@
 use Rattle.gives.proofs.Laws as law
 use Rattle.gives.proofs.unit_at.Statement.{statement}
 use Rattle.gives.proofs.unit_at.Tie as tie
-use Rattle.gives.proofs.unit_at.Reads as reads
-use Rattle.gives.proofs.unit_at.Lts as lts
 
--- src/lib.rt:106:9
 returns : tie.Need-returns
 returns c = law.unit-zero (c .before .args .t) (c .if1 .taken)
 
--- src/lib.rt:102:1
 returns-2 : tie.Need-returns-2
 returns-2 c = law.unit-later (c .before .args .t) (c .if1 .left)
 

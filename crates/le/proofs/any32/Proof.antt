@@ -1,4 +1,3 @@
-use Prim.Native.Nat.{_-_}
 use denote.Ref.{now}
 use Rattle.le.proofs.AllZero
 use borrow.Author.Needs.{needs}
@@ -8,19 +7,15 @@ use Rattle.le.proofs.any32.Reads as reads
 use Rattle.le.proofs.any32.Lts as lts
 use Rattle.le.proofs.any16.Reads as any16-reads
 
--- src/lib.rt:103:9
 any16-requires : tie.Need-any16-requires
 any16-requires c κs = search needs
 
--- src/lib.rt:104:22
 add-any16 : tie.Need-add-any16
 add-any16 c = search needs
 
--- src/lib.rt:104:9
 any16-requires-2 : tie.Need-any16-requires-2
 any16-requires-2 c κs = search needs
 
--- src/lib.rt:99:1
 returns : tie.Need-returns
 returns c = AllZero.zero-join (now (c .before .before .before .args .s)) (c .before .before .before .args .at) 16 16 (c .before .any16 .result) (c .any162 .result) (c .before .any16 .ensures) (c .any162 .ensures)
 

@@ -19,51 +19,39 @@ Inv-loop s₀ at by n moved₀ s moved = (moved ≤ n) × (length s ≡ length s
 abbrev μ-loop : tie.MeasureT-loop
 μ-loop s₀ at by n moved₀ s moved = n - moved
 
--- src/lib.rt:89:5
 loop-holds : tie.Need-loop-holds Inv-loop μ-loop
 loop-holds c = (omega arith, refl, simp (add-zero, sub-zero))
 
--- src/lib.rt:89:17
 sub-loop : tie.Need-sub-loop Inv-loop μ-loop
 sub-loop c = omega arith
 
--- src/lib.rt:90:20
 add-shift12 : tie.Need-add-shift12 Inv-loop μ-loop
 add-shift12 c = omega arith
 
--- src/lib.rt:90:9
 shift12-requires : tie.Need-shift12-requires Inv-loop μ-loop
 shift12-requires c κs = omega arith
 
--- src/lib.rt:91:9
 add-moved : tie.Need-add-moved Inv-loop μ-loop
 add-moved c = omega arith
 
--- src/lib.rt:89:5
 loop-less : tie.Need-loop-less Inv-loop μ-loop
 loop-less c = omega arith
 
--- src/lib.rt:89:5
 loop-again : tie.Need-loop-again Inv-loop μ-loop
 loop-again c = let a = c .before .before .before .before .before .before .before .args in let l = c .before .before .before .before .before .loop in let t = c .before .before .shift12 .last .0 in (omega arith, ap length (c .before .before .shift12 .ensures) ∙ length-sets (l .s) (a .at + l .moved) (part (l .s) (a .at + l .moved + a .by) 12) ∙ l .inv .1, shift-turns (l .s) t (a .at) (a .by) (l .moved) 12 (a .n) (omega arith) (omega arith) (omega arith) (c .before .before .shift12 .ensures) ∙ l .inv .2)
 
--- src/lib.rt:93:21
 add-shift-singly : tie.Need-add-shift-singly Inv-loop μ-loop
 add-shift-singly c = omega arith
 
--- src/lib.rt:93:37
 sub-shift-singly : tie.Need-sub-shift-singly Inv-loop μ-loop
 sub-shift-singly c = omega arith
 
--- src/lib.rt:93:5
 shift-singly-requires : tie.Need-shift-singly-requires Inv-loop μ-loop
 shift-singly-requires c κs = omega arith
 
--- src/lib.rt:84:1
 same-length : tie.Need-same-length Inv-loop μ-loop
 same-length c = let a = c .before .before .before .before .before .before .before .args in let l = c .before .before .before .before .before .loop in ap length (c .before .before .shift-singly .ensures) ∙ length-sets (l .s) (a .at + l .moved) (part (l .s) (a .at + l .moved + a .by) (a .n - l .moved)) ∙ l .inv .1
 
--- src/lib.rt:84:1
 returns : tie.Need-returns Inv-loop μ-loop
 returns c = let a = c .before .before .before .before .before .before .before .args in let l = c .before .before .before .before .before .loop in let e : a .at + l .moved + a .by ≡ a .at + a .by + l .moved = omega arith in c .before .before .shift-singly .ensures ∙ ap (λ (j : ℕ). sets (l .s) (a .at + l .moved) (part (l .s) j (a .n - l .moved))) e ∙ l .inv .2
 

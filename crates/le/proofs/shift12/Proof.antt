@@ -1,4 +1,3 @@
-use Prim.Native.Nat.{_-_}
 use denote.Ref.{now}
 use Rattle.le.proofs.Laws.{shift-three}
 use borrow.Author.Needs.{needs}
@@ -9,31 +8,24 @@ use Rattle.le.proofs.shift12.Reads as reads
 use Rattle.le.proofs.shift12.Lts as lts
 use Rattle.le.proofs.shift4.Reads as shift4-reads
 
--- src/lib.rt:78:5
 shift4-requires : tie.Need-shift4-requires
 shift4-requires c κs = search needs
 
--- src/lib.rt:79:15
 add-shift4 : tie.Need-add-shift4
 add-shift4 c = search needs
 
--- src/lib.rt:79:5
 shift4-requires-2 : tie.Need-shift4-requires-2
 shift4-requires-2 c κs = search needs
 
--- src/lib.rt:80:15
 add-shift4-2 : tie.Need-add-shift4-2
 add-shift4-2 c = search needs
 
--- src/lib.rt:80:5
 shift4-requires-3 : tie.Need-shift4-requires-3
 shift4-requires-3 c κs = search needs
 
--- src/lib.rt:74:1
 same-length : tie.Need-same-length
 same-length c = search needs
 
--- src/lib.rt:74:1
 returns : tie.Need-returns
 returns c = let a = c .before .before .before .before .before .before .before .before .before .before .before .before .before .args in shift-three (now (a .s)) (c .before .before .before .before .before .before .before .before .before .before .shift4 .last .0) (c .before .before .before .before .before .before .shift42 .last .0) (c .before .before .shift43 .last .0) (a .at) (a .by) (omega arith) (c .before .before .before .before .before .before .before .before .before .before .shift4 .ensures) (c .before .before .before .before .before .before .shift42 .ensures) (c .before .before .shift43 .ensures)
 

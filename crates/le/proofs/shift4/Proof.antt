@@ -1,6 +1,6 @@
-use Prim.Native.Nat.{_+_, _-_}
+use Prim.Native.Nat.{_+_}
 use Rattle.le.proofs.Laws.{shift-four}
-use Prim.Native.Nat.{_+_, _-_}
+use Prim.Native.Nat.{_+_}
 use lib.ListN.{length-set}
 use denote.Ref.{now}
 use Rattle.le.proofs.Laws.{shift-four}
@@ -11,71 +11,54 @@ use Rattle.le.proofs.shift4.Tie as tie
 use Rattle.le.proofs.shift4.Reads as reads
 use Rattle.le.proofs.shift4.Lts as lts
 
--- src/lib.rt:62:16
 add-from : tie.Need-add-from
 add-from c = search needs
 
--- src/lib.rt:63:13
 slice-read-a : tie.Need-slice-read-a
 slice-read-a c = search needs
 
--- src/lib.rt:64:15
 add-b : tie.Need-add-b
 add-b c = search needs
 
--- src/lib.rt:64:13
 slice-read-b : tie.Need-slice-read-b
 slice-read-b c = search needs
 
--- src/lib.rt:65:15
 add-c : tie.Need-add-c
 add-c c = search needs
 
--- src/lib.rt:65:13
 slice-read-c : tie.Need-slice-read-c
 slice-read-c c = search needs
 
--- src/lib.rt:66:15
 add-d : tie.Need-add-d
 add-d c = search needs
 
--- src/lib.rt:66:13
 slice-read-d : tie.Need-slice-read-d
 slice-read-d c = search needs
 
--- src/lib.rt:67:5
 slice-write-s : tie.Need-slice-write-s
 slice-write-s c = search needs
 
--- src/lib.rt:68:7
 add-s : tie.Need-add-s
 add-s c = search needs
 
--- src/lib.rt:68:5
 slice-write-s-2 : tie.Need-slice-write-s-2
 slice-write-s-2 c = simp length-set (omega arith)
 
--- src/lib.rt:69:7
 add-s-2 : tie.Need-add-s-2
 add-s-2 c = search needs
 
--- src/lib.rt:69:5
 slice-write-s-3 : tie.Need-slice-write-s-3
 slice-write-s-3 c = simp length-set (omega arith)
 
--- src/lib.rt:70:7
 add-s-3 : tie.Need-add-s-3
 add-s-3 c = search needs
 
--- src/lib.rt:70:5
 slice-write-s-4 : tie.Need-slice-write-s-4
 slice-write-s-4 c = simp length-set (omega arith)
 
--- src/lib.rt:58:1
 same-length : tie.Need-same-length
 same-length c = search needs
 
--- src/lib.rt:58:1
 returns : tie.Need-returns
 returns c = shift-four (now (c .before .before .before .before .args .s)) (c .before .before .before .before .args .at) (c .before .before .before .before .args .at + c .before .before .before .before .args .by) (omega arith)
 

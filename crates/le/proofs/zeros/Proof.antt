@@ -19,39 +19,30 @@ Inv-loop s at i₀ i = (at ≤ i) × (i ≤ length s) × (allZero (drop i s) ≡
 abbrev μ-loop : tie.MeasureT-loop
 μ-loop s at i₀ i = length s - i
 
--- src/lib.rt:129:5
 loop-holds : tie.Need-loop-holds Inv-loop μ-loop
 loop-holds c = (omega arith, omega arith, refl)
 
--- src/lib.rt:129:17
 sub-loop : tie.Need-sub-loop Inv-loop μ-loop
 sub-loop c = search needs
 
--- src/lib.rt:130:12
 any32-requires : tie.Need-any32-requires Inv-loop μ-loop
 any32-requires c κs = omega arith
 
--- src/lib.rt:131:13
 returns : tie.Need-returns Inv-loop μ-loop
 returns c = AllZero.zero-not (now (c .before .before .before .before .before .args .s)) (c .before .before .before .loop .i) 32 (c .before .any32 .result) (c .before .any32 .ensures) (c .if1 .taken) ∙ c .before .before .before .loop .inv .2
 
--- src/lib.rt:133:9
 add-i : tie.Need-add-i Inv-loop μ-loop
 add-i c = search needs
 
--- src/lib.rt:129:5
 loop-less : tie.Need-loop-less Inv-loop μ-loop
 loop-less c = omega arith
 
--- src/lib.rt:129:5
 loop-again : tie.Need-loop-again Inv-loop μ-loop
 loop-again c = (omega arith, omega arith, AllZero.zero-turn (now (c .before .before .before .before .before .args .s)) (c .before .before .before .loop .i) 32 (c .before .any32 .result) (c .before .any32 .ensures) (c .if1 .left) ∙ c .before .before .before .loop .inv .2)
 
--- src/lib.rt:135:5
 zeros-singly-requires : tie.Need-zeros-singly-requires Inv-loop μ-loop
 zeros-singly-requires c κs = search needs
 
--- src/lib.rt:124:1
 returns-2 : tie.Need-returns-2 Inv-loop μ-loop
 returns-2 c = c .zeros-singly .ensures ∙ c .before .before .loop .inv .2
 

@@ -17,31 +17,24 @@ Inv-loop s at i₀ i = (at ≤ i) × (i ≤ length s) × (allZero (drop i s) ≡
 abbrev μ-loop : tie.MeasureT-loop
 μ-loop s at i₀ i = length s - i
 
--- src/lib.rt:114:5
 loop-holds : tie.Need-loop-holds Inv-loop μ-loop
 loop-holds c = (omega arith, omega arith, refl)
 
--- src/lib.rt:115:12
 shared-slice-read-if1 : tie.Need-shared-slice-read-if1 Inv-loop μ-loop
 shared-slice-read-if1 c = search needs
 
--- src/lib.rt:116:13
 returns : tie.Need-returns Inv-loop μ-loop
 returns c = AllZero.zero-not (now (c .before .before .before .before .args .s)) (c .before .before .before .loop .i) 1 (getD (now (c .before .before .before .before .args .s)) (c .before .before .before .loop .i) 0) (sym (AllZero.zero-one (now (c .before .before .before .before .args .s)) (c .before .before .before .loop .i) (omega arith))) (c .if1 .taken) ∙ c .before .before .before .loop .inv .2
 
--- src/lib.rt:118:9
 add-i : tie.Need-add-i Inv-loop μ-loop
 add-i c = search needs
 
--- src/lib.rt:114:5
 loop-less : tie.Need-loop-less Inv-loop μ-loop
 loop-less c = omega arith
 
--- src/lib.rt:114:5
 loop-again : tie.Need-loop-again Inv-loop μ-loop
 loop-again c = (omega arith, omega arith, AllZero.zero-turn (now (c .before .before .before .before .args .s)) (c .before .before .before .loop .i) 1 (getD (now (c .before .before .before .before .args .s)) (c .before .before .before .loop .i) 0) (sym (AllZero.zero-one (now (c .before .before .before .before .args .s)) (c .before .before .before .loop .i) (omega arith))) (c .if1 .left) ∙ c .before .before .before .loop .inv .2)
 
--- src/lib.rt:109:1
 returns-2 : tie.Need-returns-2 Inv-loop μ-loop
 returns-2 c = sym (AllZero.zero-end (now (c .before .before .args .s)) (c .before .loop .i) (omega arith)) ∙ c .before .loop .inv .2
 

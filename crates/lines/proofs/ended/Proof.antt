@@ -1,6 +1,5 @@
 -- `lines::ended` meets its contract.
 use mathlib.Core.Path.{sym, _∙_}
-use Prim.Native.Nat.{_-_}
 use Rattle.lines.specs.Form.{ended}
 use borrow.Author.Needs.{needs}
 use Rattle.lines.proofs.ended.Statement.{statement}

@@ -1,6 +1,5 @@
 -- `lines::out_line` meets its contract.
 use mathlib.Core.Path.{sym, _∙_}
-use Prim.Native.Nat.{_-_}
 use borrow.Author.Tests.{le-leb, lt-leb}
 use Rattle.lines.specs.Form.{outLine}
 use borrow.Author.Needs.{needs}

@@ -1,6 +1,5 @@
 -- `lines::value_line` meets its contract.
 use mathlib.Core.Path.{sym, _∙_}
-use Prim.Native.Nat.{_-_}
 use Rattle.lines.specs.Form.{valueLine}
 use borrow.Author.Needs.{needs}
 use Rattle.lines.proofs.value_line.Statement.{statement}

@@ -1,6 +1,5 @@
 -- `lines::whole` meets its contract.
 use mathlib.Core.Path.{sym, _∙_}
-use Prim.Native.Nat.{_-_}
 use borrow.Author.Tests.{eq-eqb, ne-eqb}
 use Rattle.lines.specs.Form.{whole}
 use borrow.Author.Needs.{needs}

@@ -24,71 +24,54 @@ Inv-loop state₀ text n at p₀ i₀ state p i = (i ≤ n) × (length state ≡
 abbrev μ-loop : tie.MeasureT-loop
 μ-loop state₀ text n at p₀ i₀ state p i = n - i
 
--- src/lib.rt:30:5
 loop-holds : tie.Need-loop-holds Inv-loop μ-loop
 loop-holds c = (omega arith, refl, (λ j. omega (arith, c .before .slice-known .given j)), simp sub-zero)
 
--- src/lib.rt:31:15
 read-stream-requires : tie.Need-read-stream-requires Inv-loop μ-loop
 read-stream-requires c κs = search needs
 
--- src/lib.rt:32:27
 enum-known-f : tie.Need-enum-known-f Inv-loop μ-loop
 enum-known-f c = search needs
 
--- src/lib.rt:33:29
 mul-start : tie.Need-mul-start Inv-loop μ-loop
 mul-start c = omega arith
 
--- src/lib.rt:34:27
 add-end : tie.Need-add-end Inv-loop μ-loop
 add-end c = omega arith
 
--- src/lib.rt:35:23
 sub-store : tie.Need-sub-store Inv-loop μ-loop
 sub-store c = omega arith
 
--- src/lib.rt:35:23
 part-store-start : tie.Need-part-store-start Inv-loop μ-loop
 part-store-start c = omega arith
 
--- src/lib.rt:35:23
 part-store-end : tie.Need-part-store-end Inv-loop μ-loop
 part-store-end c = omega arith
 
--- src/lib.rt:35:17
 store-requires : tie.Need-store-requires Inv-loop μ-loop
 store-requires c κs = let a = c .before .before .before .before .before .before .before .before .before .args in let l = c .before .before .before .before .before .before .loop in let k = l .i * 256 + 256 - l .i * 256 in row-len (a .n) (l .state) (l .i) (omega arith) (omega arith)
 
--- src/lib.rt:37:17
 add-i : tie.Need-add-i Inv-loop μ-loop
 add-i c = omega arith
 
--- src/lib.rt:30:5
 loop-less : tie.Need-loop-less Inv-loop μ-loop
 loop-less c = omega arith
 
--- src/lib.rt:30:5
 loop-again : tie.Need-loop-again Inv-loop μ-loop
 loop-again c = let a = c .before .before .before .before .before .before .before .before .before .before .before .before .args in let l = c .before .before .before .before .before .before .before .before .before .loop in let k = l .i * 256 + 256 - l .i * 256 in let q = c .before .before .store .last .0 in let f = c .before .before .before .before .before .f .given .0 .0 in let e = c .before .before .before .before .before .before .before .read-stream .ensures in let lq : length q ≡ 256 = ap length (c .before .before .store .ensures) ∙ raw-len (stored f (decRaw (midOf (l .i * 256) k (l .state)))) in (omega arith, same-len-mid (l .i * 256) k (l .state) q (lq ∙ sym (row-len (a .n) (l .state) (l .i) (omega arith) (omega arith))) ∙ l .inv .1, (λ j. omega (arith, c .slice-known2 .given j)), ap (encode (a .n)) (Passes.write-turn (a .n) (now (a .text)) (l .state) q (l .p) (l .i) k f (omega arith) (omega arith) (omega arith) (omega arith) (l .inv .2) (omega arith) (sym e ∙ c .before .before .before .before .before .f .given .1) (c .before .before .store .ensures)) ∙ l .inv .3)
 
--- src/lib.rt:39:34
 enum-told : tie.Need-enum-told Inv-loop μ-loop
 enum-told c = search needs
 
--- src/lib.rt:39:34
 same-length : tie.Need-same-length Inv-loop μ-loop
 same-length c = c .before .before .before .before .loop .inv .1
 
--- src/lib.rt:39:34
 returns : tie.Need-returns Inv-loop μ-loop
 returns c = let a = c .before .before .before .before .before .before .before .args in let l = c .before .before .before .before .loop in sym (encode-decode (a .n) (l .state) (omega (arith, l .inv .1)) (l .inv .2)) ∙ ap (encode (a .n)) (sym (Passes.write-halt (now (a .text)) (l .p) (a .n - l .i) (l .i) (c .enum-told .given .0 .0) (decode (a .n) (l .state)) (omega arith) (sym (c .before .before .read-stream .ensures) ∙ c .enum-told .given .1))) ∙ l .inv .3
 
--- src/lib.rt:24:1
 same-length-2 : tie.Need-same-length-2 Inv-loop μ-loop
 same-length-2 c = c .before .loop .inv .1
 
--- src/lib.rt:24:1
 returns-2 : tie.Need-returns-2 Inv-loop μ-loop
 returns-2 c = let a = c .before .before .before .before .args in let l = c .before .loop in sym (encode-decode (a .n) (l .state) (omega (arith, l .inv .1)) (l .inv .2)) ∙ ap (encode (a .n)) (sym (Passes.write-end (now (a .text)) (l .p) (a .n - l .i) (l .i) (decode (a .n) (l .state)) (omega arith))) ∙ l .inv .3
 

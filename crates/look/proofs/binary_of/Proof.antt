@@ -4,25 +4,18 @@ use Rattle.operators.specs.Operators.{eqnOf}
 use native.Mathlib.Omega.{arith}
 use Rattle.look.proofs.binary_of.Statement.{statement}
 use Rattle.look.proofs.binary_of.Tie as tie
-use Rattle.look.proofs.binary_of.Reads as reads
-use Rattle.look.proofs.binary_of.Lts as lts
-use Rattle.look.proofs.calc_of.Reads as calc-of-reads
 
--- src/lib.rt:85:17
 calc-of-requires : tie.Need-calc-of-requires
 calc-of-requires c κs = let n = c .before .args .n in let p : n ≡ 16 → ⊥ = c .match .rest .0 .1 in let q : n ≡ 17 → ⊥ = c .match .rest .1 in (omega arith, omega arith)
 
--- src/lib.rt:77:1
 returns : tie.Need-returns
 unfolding eqnOf
 returns c = λ a b k. ap (λ (m : ℕ). eqnOf m a b k) (sym (c .match .keys1))
 
--- src/lib.rt:77:1
 returns-2 : tie.Need-returns-2
 unfolding eqnOf
 returns-2 c = λ a b k. ap (λ (m : ℕ). eqnOf m a b k) (sym (c .match .keys2))
 
--- src/lib.rt:77:1
 returns-3 : tie.Need-returns-3
 returns-3 c = c .calc-of .ensures
 

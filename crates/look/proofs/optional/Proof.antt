@@ -5,19 +5,13 @@ use Rattle.look.proofs.Laws as law
 use borrow.Author.Needs.{needs}
 use Rattle.look.proofs.optional.Statement.{statement}
 use Rattle.look.proofs.optional.Tie as tie
-use Rattle.look.proofs.optional.Reads as reads
-use Rattle.look.proofs.optional.Lts as lts
-use Rattle.num.proofs.of_bits.Reads as of-bits-reads
 
--- src/lib.rt:153:9
 returns : tie.Need-returns
 returns c = law.optional-none (c .before .args .has) (c .before .args .bits) (c .if1 .taken)
 
--- src/lib.rt:155:18
 of-bits-requires : tie.Need-of-bits-requires
 of-bits-requires c κs = search needs
 
--- src/lib.rt:149:1
 returns-2 : tie.Need-returns-2
 returns-2 c = ap some (toZ-ofZ (record { sfits = c .of-bits .ok }) ∙ c .of-bits .ensures) ∙ law.optional-some (c .before .before .args .has) (c .before .before .args .bits) (c .before .if1 .left)
 

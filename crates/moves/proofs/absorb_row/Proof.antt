@@ -1,101 +1,89 @@
-use Prim.Native.Nat.{_+_, _-_, _*_}
-use mathlib.Core.Path.{_≡_, sym, ap, _∙_}
-use borrow.Rule.Slice.PartMut.{midOf}
+use mathlib.Core.Path.{sym, ap, _∙_}
 use denote.Ref.{now}
-use Rattle.machine.specs.State.{Kept}
-use Rattle.layout.specs.Record.{decRaw, encode, decode, num, rowAt, change, opF}
-use Rattle.layout.proofs.Laws.{row-mid, lent, encode-decode}
-use Rattle.look.specs.Look.{keptIn}
-use Rattle.absorb.specs.Keep.{keptRow}
+use Rattle.layout.specs.Record.{encode, decode}
+use Rattle.look.specs.declared.Op.{Op}
+use Rattle.look.specs.Look.{equation, keptIn}
+use Rattle.look.proofs.Laws.{keeps}
 use Rattle.moves.specs.Move.{absorbedRaw}
 use Rattle.moves.proofs.Steps
 use borrow.Author.Needs.{needs}
 use native.Mathlib.Omega.{arith}
 use Rattle.moves.proofs.absorb_row.Statement.{statement}
 use Rattle.moves.proofs.absorb_row.Tie as tie
-use Rattle.moves.proofs.absorb_row.Reads as reads
-use Rattle.moves.proofs.absorb_row.Lts as lts
-use Rattle.absorb.proofs.keep.Reads as keep-reads
-use Rattle.layout.proofs.byte_at.Reads as byte-at-reads
-use Rattle.moves.proofs.kept.Reads as kept-reads
 
--- src/lib.rt:102:14
-mul-at : tie.Need-mul-at
-mul-at c = search needs
+enum-told : tie.Need-enum-told
+enum-told c = search needs
 
--- src/lib.rt:103:15
-add-end : tie.Need-add-end
-add-end c = search needs
+enum-told-2 : tie.Need-enum-told-2
+enum-told-2 c = search needs
 
--- src/lib.rt:104:30
-sub-byte-at : tie.Need-sub-byte-at
-sub-byte-at c = search needs
+enum-told-3 : tie.Need-enum-told-3
+enum-told-3 c = search needs
 
--- src/lib.rt:104:30
-part-byte-at-start : tie.Need-part-byte-at-start
-part-byte-at-start c = search needs
+enum-told-4 : tie.Need-enum-told-4
+enum-told-4 c = search needs
 
--- src/lib.rt:104:30
-part-byte-at-end : tie.Need-part-byte-at-end
-part-byte-at-end c = search needs
+enum-told-5 : tie.Need-enum-told-5
+enum-told-5 c = search needs
 
--- src/lib.rt:104:9
-byte-at-requires : tie.Need-byte-at-requires
-byte-at-requires c κs = search needs
+enum-known-op : tie.Need-enum-known-op
+enum-known-op c = search needs
 
--- src/lib.rt:106:9
+keep-row-requires : tie.Need-keep-row-requires
+keep-row-requires c κs = search needs
+
+enum-known-op-2 : tie.Need-enum-known-op-2
+enum-known-op-2 c = search needs
+
+keep-row-requires-2 : tie.Need-keep-row-requires-2
+keep-row-requires-2 c κs = search needs
+
+returns : tie.Need-returns
+returns c = let a = c .before .before .before .args in let n = a .n in let s = now (a .state) in let st = decode n s in let e = equation (a .op) in Steps.absorb-stays n (a .i) e (keptIn (a .k)) (a .y) s (omega arith) (λ j. omega (arith, c .before .before .slice-known .given j)) (ap (λ (o : Op). keeps (equation o)) (c .enum-told .given .1))
+
+returns-2 : tie.Need-returns-2
+returns-2 c = let a = c .before .before .before .args in let n = a .n in let s = now (a .state) in let st = decode n s in let e = equation (a .op) in Steps.absorb-stays n (a .i) e (keptIn (a .k)) (a .y) s (omega arith) (λ j. omega (arith, c .before .before .slice-known .given j)) (ap (λ (o : Op). keeps (equation o)) (c .enum-told2 .given .1))
+
+returns-3 : tie.Need-returns-3
+returns-3 c = let a = c .before .before .before .args in let n = a .n in let s = now (a .state) in let st = decode n s in let e = equation (a .op) in Steps.absorb-stays n (a .i) e (keptIn (a .k)) (a .y) s (omega arith) (λ j. omega (arith, c .before .before .slice-known .given j)) (ap (λ (o : Op). keeps (equation o)) (c .enum-told3 .given .1))
+
+returns-4 : tie.Need-returns-4
+returns-4 c = let a = c .before .before .before .args in let n = a .n in let s = now (a .state) in let st = decode n s in let e = equation (a .op) in Steps.absorb-stays n (a .i) e (keptIn (a .k)) (a .y) s (omega arith) (λ j. omega (arith, c .before .before .slice-known .given j)) (ap (λ (o : Op). keeps (equation o)) (c .enum-told4 .given .1))
+
+returns-5 : tie.Need-returns-5
+returns-5 c = let a = c .before .before .before .args in let n = a .n in let s = now (a .state) in let st = decode n s in let e = equation (a .op) in Steps.absorb-stays n (a .i) e (keptIn (a .k)) (a .y) s (omega arith) (λ j. omega (arith, c .before .before .slice-known .given j)) (ap (λ (o : Op). keeps (equation o)) (c .enum-told5 .given .1))
+
 same-length : tie.Need-same-length
 same-length c = search needs
 
--- src/lib.rt:106:9
-returns : tie.Need-returns
-returns c = let a = c .before .before .before .before .before .args in let s = now (a .state) in let i = a .i in let k = i * 256 + 256 - i * 256 in let mid : rowAt (decode (a .n) s) i ≡ decRaw (midOf (i * 256) k s) = row-mid (a .n) s i k (omega arith) (omega arith) in let o : c .before .byte-at .result ≡ num opF (rowAt (decode (a .n) s) i) = c .before .byte-at .ensures .0 ∙ ap (num opF) (sym mid) in sym (ap (encode (a .n)) (Steps.absorb-none (a .n) i (decode (a .n) s) (omega arith)) ∙ encode-decode (a .n) s (omega arith) (λ j. omega (arith, c .before .before .before .before .slice-known .given j)))
+returns-6 : tie.Need-returns-6
+returns-6 c = let a = c .before .before .before .before .before .before .before .before .args in let n = a .n in let s = now (a .state) in let st = decode n s in let e = equation (a .op) in c .before .before .keep-row .ensures ∙ ap (λ (o : Op). encode n (absorbedRaw n (a .i) (equation o) (keptIn (a .k)) (a .y) st)) (sym (c .before .before .before .before .before .op .given .1))
 
--- src/lib.rt:108:9
-kept-requires : tie.Need-kept-requires
-kept-requires c κs = search needs
-
--- src/lib.rt:109:18
-sub-keep : tie.Need-sub-keep
-sub-keep c = search needs
-
--- src/lib.rt:109:18
-part-keep-start : tie.Need-part-keep-start
-part-keep-start c = search needs
-
--- src/lib.rt:109:18
-part-keep-end : tie.Need-part-keep-end
-part-keep-end c = search needs
-
--- src/lib.rt:109:5
-keep-requires : tie.Need-keep-requires
-keep-requires c κs = search needs
-
--- src/lib.rt:98:1
 same-length-2 : tie.Need-same-length-2
 same-length-2 c = search needs
 
--- src/lib.rt:98:1
-returns-2 : tie.Need-returns-2
-unfolding absorbedRaw
-returns-2 c = let a = c .before .before .before .before .before .before .before .before .before .before .before .args in let s = now (a .state) in let i = a .i in let k = i * 256 + 256 - i * 256 in lent (a .n) s (c .before .before .keep .last .0) i k (keptRow (keptIn (c .before .before .before .before .kept .result))) (omega arith) (omega arith) (λ j. omega (arith, c .before .before .before .before .before .before .before .before .before .before .slice-known .given j)) (omega arith) (c .before .before .keep .ensures .0) ∙ ap (λ (z : Kept). encode (a .n) (change i (keptRow z) (decode (a .n) s))) (c .before .before .before .before .kept .ensures)
+returns-7 : tie.Need-returns-7
+returns-7 c = let a = c .before .before .before .before .before .before .before .before .args in let n = a .n in let s = now (a .state) in let st = decode n s in let e = equation (a .op) in c .before .before .keep-row2 .ensures ∙ ap (λ (o : Op). encode n (absorbedRaw n (a .i) (equation o) (keptIn (a .k)) (a .y) st)) (sym (c .before .before .before .before .before .op2 .given .1))
 
 pub absorb-row-spec : {M : Type 1} → statement M
 absorb-row-spec =
     tie.close
     (tie.spec
-    mul-at
-    add-end
-    sub-byte-at
-    part-byte-at-start
-    part-byte-at-end
-    byte-at-requires
-    same-length
+    enum-told
+    enum-told-2
+    enum-told-3
+    enum-told-4
+    enum-told-5
+    enum-known-op
+    keep-row-requires
+    enum-known-op-2
+    keep-row-requires-2
     returns
-    kept-requires
-    sub-keep
-    part-keep-start
-    part-keep-end
-    keep-requires
+    returns-2
+    returns-3
+    returns-4
+    returns-5
+    same-length
+    returns-6
     same-length-2
-    returns-2)
+    returns-7)

@@ -1,4 +1,3 @@
-use Prim.Native.Nat.{_-_}
 use mathlib.Core.Path.{sym}
 use borrow.Author.Tests.{le-leb, lt-leb}
 use Rattle.machine.specs.State.{room}
@@ -6,38 +5,28 @@ use borrow.Author.Needs.{needs}
 use native.Mathlib.Omega.{arith}
 use Rattle.moves.proofs.bound_after.Statement.{statement}
 use Rattle.moves.proofs.bound_after.Tie as tie
-use Rattle.moves.proofs.bound_after.Reads as reads
-use Rattle.moves.proofs.bound_after.Lts as lts
 
--- src/lib.rt:128:22
 enum-known-next : tie.Need-enum-known-next
 enum-known-next c = search needs
 
--- src/lib.rt:129:21
 enum-known-next-2 : tie.Need-enum-known-next-2
 enum-known-next-2 c = search needs
 
--- src/lib.rt:131:24
 cast-result : tie.Need-cast-result
 cast-result c = search needs
 
--- src/lib.rt:131:17
 returns : tie.Need-returns
 returns c = (sym (rw (c .before .before .next2 .given .1, le-leb room (c .before .before .before .before .args .held) (c .if1 .taken))), omega arith)
 
--- src/lib.rt:133:13
 cast-result-2 : tie.Need-cast-result-2
 cast-result-2 c = search needs
 
--- src/lib.rt:133:13
 add-result : tie.Need-add-result
 add-result c = search needs
 
--- src/lib.rt:123:1
 returns-2 : tie.Need-returns-2
 returns-2 c = (sym (rw (c .before .next .given .1)), rw (c .before .next .given .1) at (c .before .before .before .pre))
 
--- src/lib.rt:123:1
 returns-3 : tie.Need-returns-3
 returns-3 c = (sym (rw (c .before .before .next2 .given .1, lt-leb room (c .before .before .before .before .args .held) (c .if1 .left))), omega arith)
 

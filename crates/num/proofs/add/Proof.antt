@@ -10,19 +10,15 @@ use Rattle.num.proofs.add.Lts as lts
 use Rattle.num.proofs.split.Reads as split-reads
 use Rattle.num.proofs.sum.Reads as sum-reads
 
--- src/lib.rt:96:9
 split-requires : tie.Need-split-requires
 split-requires c κs = search needs
 
--- src/lib.rt:96:19
 split-requires-2 : tie.Need-split-requires-2
 split-requires-2 c κs = search needs
 
--- src/lib.rt:96:5
 sum-requires : tie.Need-sum-requires
 sum-requires c κs = search needs
 
--- src/lib.rt:93:1
 returns : tie.Need-returns
 unfolding added
 returns c =

@@ -11,27 +11,21 @@ use Rattle.num.proofs.div.Lts as lts
 use Rattle.num.proofs.join.Reads as join-reads
 use Rattle.num.proofs.split.Reads as split-reads
 
--- src/lib.rt:177:9
 split-requires : tie.Need-split-requires
 split-requires c κs = search needs
 
--- src/lib.rt:178:9
 split-requires-2 : tie.Need-split-requires-2
 split-requires-2 c κs = search needs
 
--- src/lib.rt:182:9
 returns : tie.Need-returns
 returns c = sym (div-none _ (c .before .split2 .result .neg) (c .before .split2 .result .mag) (c .if1 .taken)) ∙ ap₂ divided (c .before .before .split .ensures .0 ∙ toZ-ofZ (c .before .before .before .fits .a)) (c .before .split2 .ensures .0 ∙ toZ-ofZ (c .before .before .before .fits .b))
 
--- src/lib.rt:184:26
 div-join : tie.Need-div-join
 div-join c = search needs
 
--- src/lib.rt:184:5
 join-requires : tie.Need-join-requires
 join-requires c κs = search needs
 
--- src/lib.rt:174:1
 returns-2 : tie.Need-returns-2
 returns-2 c = c .join .ensures ∙ sym (div-some (c .before .before .before .before .before .split .result .neg) (c .before .before .before .before .split2 .result .neg) (c .before .before .before .before .before .split .result .mag) (c .before .before .before .before .split2 .result .mag) (omega arith)) ∙ ap₂ divided (c .before .before .before .before .before .split .ensures .0 ∙ toZ-ofZ (c .before .before .before .before .before .before .fits .a)) (c .before .before .before .before .split2 .ensures .0 ∙ toZ-ofZ (c .before .before .before .before .before .before .fits .b))
 

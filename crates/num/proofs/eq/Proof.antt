@@ -8,11 +8,9 @@ use Rattle.num.proofs.eq.Reads as reads
 use Rattle.num.proofs.eq.Lts as lts
 use Rattle.num.proofs.one_or_zero.Reads as one-or-zero-reads
 
--- src/lib.rt:223:5
 one-or-zero-requires : tie.Need-one-or-zero-requires
 one-or-zero-requires c κs = search needs
 
--- src/lib.rt:220:1
 returns : tie.Need-returns
 unfolding equal
 returns c = c .one-or-zero .ensures ∙ ap truth (same-bits (c .before .args .a) (c .before .args .b) (c .before .fits .a) (c .before .fits .b))

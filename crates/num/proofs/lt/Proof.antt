@@ -10,11 +10,9 @@ use Rattle.num.proofs.lt.Reads as reads
 use Rattle.num.proofs.lt.Lts as lts
 use Rattle.num.proofs.one_or_zero.Reads as one-or-zero-reads
 
--- src/lib.rt:211:5
 one-or-zero-requires : tie.Need-one-or-zero-requires
 one-or-zero-requires c κs = search needs
 
--- src/lib.rt:208:1
 returns : tie.Need-returns
 unfolding less
 returns c = c .one-or-zero .ensures ∙ ap₂ (λ (x y : ℤ). truth (ltZ x y)) (toZ-ofZ (c .before .fits .a)) (toZ-ofZ (c .before .fits .b))

@@ -15,23 +15,18 @@ use Rattle.num.proofs.join.Reads as join-reads
 use Rattle.num.proofs.product.Reads as product-reads
 use Rattle.num.proofs.split.Reads as split-reads
 
--- src/lib.rt:168:9
 split-requires : tie.Need-split-requires
 split-requires c κs = search needs
 
--- src/lib.rt:169:9
 split-requires-2 : tie.Need-split-requires-2
 split-requires-2 c κs = search needs
 
--- src/lib.rt:170:26
 product-requires : tie.Need-product-requires
 product-requires c κs = search needs
 
--- src/lib.rt:170:5
 join-requires : tie.Need-join-requires
 join-requires c κs = search needs
 
--- src/lib.rt:165:1
 returns : tie.Need-returns
 unfolding multiplied
 returns c = c .join .ensures ∙ ap (λ (n : ℕ). fit (signed (not (Bool·beq (c .before .before .before .before .before .split .result .neg) (c .before .before .before .before .split2 .result .neg))) n)) (c .before .product .ensures) ∙ capped (not (Bool·beq (c .before .before .before .before .before .split .result .neg) (c .before .before .before .before .split2 .result .neg))) (c .before .before .before .before .before .split .result .mag * c .before .before .before .before .split2 .result .mag) ∙ ap fit (sym (product (c .before .before .before .before .before .split .result .neg) (c .before .before .before .before .split2 .result .neg) (c .before .before .before .before .before .split .result .mag) (c .before .before .before .before .split2 .result .mag)) ∙ ap₂ _*ℤ_ (c .before .before .before .before .before .split .ensures .0 ∙ toZ-ofZ (c .before .before .before .before .before .before .fits .a)) (c .before .before .before .before .split2 .ensures .0 ∙ toZ-ofZ (c .before .before .before .before .before .before .fits .b)))

@@ -11,15 +11,12 @@ use Rattle.num.proofs.neg.Lts as lts
 use Rattle.num.proofs.join.Reads as join-reads
 use Rattle.num.proofs.split.Reads as split-reads
 
--- src/lib.rt:142:9
 split-requires : tie.Need-split-requires
 split-requires c κs = search needs
 
--- src/lib.rt:143:5
 join-requires : tie.Need-join-requires
 join-requires c κs = search needs
 
--- src/lib.rt:139:1
 returns : tie.Need-returns
 unfolding negated
 returns c = c .join .ensures ∙ ap fit (negated-parts (c .before .before .split .result .neg) (c .before .before .split .result .mag) ∙ ap negℤ (c .before .before .split .ensures .0 ∙ toZ-ofZ (c .before .before .before .fits .a)))

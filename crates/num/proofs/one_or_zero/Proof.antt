@@ -4,12 +4,10 @@ use Rattle.num.proofs.one_or_zero.Tie as tie
 use Rattle.num.proofs.one_or_zero.Reads as reads
 use Rattle.num.proofs.one_or_zero.Lts as lts
 
--- src/lib.rt:202:1
 returns : tie.Need-returns
 unfolding truth
 returns c = rw (c .if1 .taken)
 
--- src/lib.rt:202:1
 returns-2 : tie.Need-returns-2
 unfolding truth
 returns-2 c = rw (c .if1 .left)

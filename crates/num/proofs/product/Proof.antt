@@ -8,43 +8,33 @@ use Rattle.num.proofs.product.Reads as reads
 use Rattle.num.proofs.product.Lts as lts
 use Rattle.num.proofs.shifted_sum.Reads as shifted-sum-reads
 
--- src/lib.rt:118:28
 mul-shifted-sum : tie.Need-mul-shifted-sum
 mul-shifted-sum c = low-low _ _ (omega arith) (omega arith)
 
--- src/lib.rt:118:37
 mul-shifted-sum-2 : tie.Need-mul-shifted-sum-2
 mul-shifted-sum-2 c = low-low _ _ (omega arith) (omega arith)
 
--- src/lib.rt:118:9
 shifted-sum-requires : tie.Need-shifted-sum-requires
 shifted-sum-requires c κs = search needs
 
--- src/lib.rt:118:9
 returns : tie.Need-returns
 returns c = c .shifted-sum .ensures ∙ halves-low (c .before .before .args .m) (c .before .before .args .n) (c .before .if1 .taken)
 
--- src/lib.rt:121:28
 mul-shifted-sum-3 : tie.Need-mul-shifted-sum-3
 mul-shifted-sum-3 c = low-low _ _ (omega arith) (omega arith)
 
--- src/lib.rt:121:37
 mul-shifted-sum-4 : tie.Need-mul-shifted-sum-4
 mul-shifted-sum-4 c = low-low _ _ (omega arith) (omega arith)
 
--- src/lib.rt:121:9
 shifted-sum-requires-2 : tie.Need-shifted-sum-requires-2
 shifted-sum-requires-2 c κs = search needs
 
--- src/lib.rt:121:9
 returns-2 : tie.Need-returns-2
 returns-2 c = c .shifted-sum2 .ensures ∙ by-halves (c .before .before .before .args .m) (c .before .before .before .args .n) (c .before .if2 .taken)
 
--- src/lib.rt:123:5
 add-result : tie.Need-add-result
 add-result c = search needs
 
--- src/lib.rt:109:1
 returns-3 : tie.Need-returns-3
 returns-3 c = high-high (c .before .before .args .m) (c .before .before .args .n) (c .before .if1 .left) (c .if2 .left)
 

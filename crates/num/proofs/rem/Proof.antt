@@ -11,27 +11,21 @@ use Rattle.num.proofs.rem.Lts as lts
 use Rattle.num.proofs.join.Reads as join-reads
 use Rattle.num.proofs.split.Reads as split-reads
 
--- src/lib.rt:191:9
 split-requires : tie.Need-split-requires
 split-requires c κs = search needs
 
--- src/lib.rt:192:9
 split-requires-2 : tie.Need-split-requires-2
 split-requires-2 c κs = search needs
 
--- src/lib.rt:196:9
 returns : tie.Need-returns
 returns c = sym (rem-none _ (c .before .split2 .result .neg) (c .before .split2 .result .mag) (c .if1 .taken)) ∙ ap₂ remainder (c .before .before .split .ensures .0 ∙ toZ-ofZ (c .before .before .before .fits .a)) (c .before .split2 .ensures .0 ∙ toZ-ofZ (c .before .before .before .fits .b))
 
--- src/lib.rt:198:17
 rem-join : tie.Need-rem-join
 rem-join c = search needs
 
--- src/lib.rt:198:5
 join-requires : tie.Need-join-requires
 join-requires c κs = search needs
 
--- src/lib.rt:188:1
 returns-2 : tie.Need-returns-2
 returns-2 c = c .join .ensures ∙ sym (rem-some (c .before .before .before .split .result .neg) (c .before .before .split2 .result .neg) (c .before .before .before .split .result .mag) (c .before .before .split2 .result .mag) (omega arith)) ∙ ap₂ remainder (c .before .before .before .split .ensures .0 ∙ toZ-ofZ (c .before .before .before .before .fits .a)) (c .before .before .split2 .ensures .0 ∙ toZ-ofZ (c .before .before .before .before .fits .b))
 

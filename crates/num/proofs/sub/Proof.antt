@@ -11,19 +11,15 @@ use Rattle.num.proofs.sub.Lts as lts
 use Rattle.num.proofs.split.Reads as split-reads
 use Rattle.num.proofs.sum.Reads as sum-reads
 
--- src/lib.rt:102:9
 split-requires : tie.Need-split-requires
 split-requires c κs = search needs
 
--- src/lib.rt:103:9
 split-requires-2 : tie.Need-split-requires-2
 split-requires-2 c κs = search needs
 
--- src/lib.rt:103:5
 sum-requires : tie.Need-sum-requires
 sum-requires c κs = search needs
 
--- src/lib.rt:99:1
 returns : tie.Need-returns
 unfolding subtracted
 returns c =

@@ -11,49 +11,39 @@ use Rattle.num.proofs.sum.Reads as reads
 use Rattle.num.proofs.sum.Lts as lts
 use Rattle.num.proofs.join.Reads as join-reads
 
--- src/lib.rt:81:12
 sub-if2 : tie.Need-sub-if2
 sub-if2 c = search needs
 
--- src/lib.rt:84:25
 add-join : tie.Need-add-join
 add-join c = search needs
 
--- src/lib.rt:84:13
 join-requires : tie.Need-join-requires
 join-requires c κs = search needs
 
--- src/lib.rt:87:9
 join-requires-2 : tie.Need-join-requires-2
 join-requires-2 c κs = search needs
 
--- src/lib.rt:89:21
 sub-join : tie.Need-sub-join
 sub-join c = search needs
 
--- src/lib.rt:89:9
 join-requires-3 : tie.Need-join-requires-3
 join-requires-3 c κs = search needs
 
--- src/lib.rt:74:1
 returns : tie.Need-returns
 returns c =
     let a = c .before .before .before .before .args in
     sym (ap fit (sum-same (a .p .neg) (a .q .neg) (a .p .mag) (a .q .mag) (c .before .if1 .taken)) ∙ too-big (a .p .neg) (a .p .mag + a .q .mag) (omega arith))
 
--- src/lib.rt:74:1
 returns-2 : tie.Need-returns-2
 returns-2 c =
     let a = c .before .before .before .before .before .args in
     c .join .ensures ∙ ap fit (sym (sum-same (a .p .neg) (a .q .neg) (a .p .mag) (a .q .mag) (c .before .before .if1 .taken)))
 
--- src/lib.rt:74:1
 returns-3 : tie.Need-returns-3
 returns-3 c =
     let a = c .before .before .before .before .before .args in
     c .join2 .ensures ∙ ap fit (sym (sum-other (a .p .neg) (a .q .neg) (a .p .mag) (a .q .mag) (c .before .before .if1 .left) (c .before .if3 .taken)))
 
--- src/lib.rt:74:1
 returns-4 : tie.Need-returns-4
 returns-4 c =
     let a = c .before .before .before .before .before .args in

@@ -1,5 +1,4 @@
 -- `printer::put_event` meets its contract.
-use Prim.Native.Nat.{_-_}
 use mir.Facts.{toZ-ofZ}
 use Rattle.printer.specs.Print.{eventText}
 use Rattle.decimal.proofs.Puts.{put-then, put-length, digits-most, value-most}

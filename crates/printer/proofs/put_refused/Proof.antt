@@ -1,5 +1,4 @@
 -- `printer::put_refused` meets its contract.
-use Prim.Native.Nat.{_-_}
 use Rattle.printer.specs.Print.{refusedText}
 use Rattle.decimal.proofs.Puts.{put-then, put-length, digits-most}
 use borrow.Author.Needs.{needs}

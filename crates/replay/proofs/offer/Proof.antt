@@ -1,7 +1,6 @@
 use Rattle.replaying.specs.Replay.{callOf}
 use Rattle.engine.specs.Reply.{reply}
 use mathlib.Core.Path.{sym}
-use Prim.Native.Nat.{_-_}
 use denote.Ref.{now}
 use lib.Seq.{length-take-le}
 use Rattle.decimal.proofs.Puts.{put-length}
@@ -16,35 +15,27 @@ use Rattle.io.proofs.buffer.Reads as buffer-reads
 use Rattle.io.proofs.write_all.Reads as write-all-reads
 use Rattle.replaying.proofs.offer.Reads as offer-reads
 
--- src/main.rt:47:19
 buffer-requires : tie.Need-buffer-requires
 buffer-requires c κs = search needs
 
--- src/main.rt:48:45
 slice-aggregate-offer : tie.Need-slice-aggregate-offer
 slice-aggregate-offer c = search needs
 
--- src/main.rt:48:9
 offer-requires : tie.Need-offer-requires
 offer-requires c κs = search needs
 
--- src/main.rt:49:34
 array-share-prefix-out : tie.Need-array-share-prefix-out
 array-share-prefix-out c = omega (arith, c .before .before .before .offer .ensures .0 .past, refusal-most (reply (callOf (c .before .before .before .before .before .before .before .before .args .read)) (now (c .before .before .before .before .before .before .before .before .args .state)) .number), put-length (c .before .before .before .offer .ensures .0))
 
--- src/main.rt:49:34
 slice-aggregate-write-all : tie.Need-slice-aggregate-write-all
 slice-aggregate-write-all c = sym (length-take-le (c .before .before .before .before .offer .result) (c .before .before .before .before .offer .last .1 .1 .0) (omega (arith, c .before .before .before .before .offer .ensures .0 .past, refusal-most (reply (callOf (c .before .before .before .before .before .before .before .before .before .args .read)) (now (c .before .before .before .before .before .before .before .before .before .args .state)) .number), put-length (c .before .before .before .before .offer .ensures .0))))
 
--- src/main.rt:49:5
 write-all-requires : tie.Need-write-all-requires
 write-all-requires c κs = search needs
 
--- src/main.rt:44:1
 same-length : tie.Need-same-length
 same-length c = search needs
 
--- src/main.rt:44:1
 returns : tie.Need-returns
 returns c = search needs
 

@@ -11,39 +11,30 @@ use Rattle.replay.proofs.open.Reads as open-reads
 use Rattle.replay.proofs.replay_trace.Reads as replay-trace-reads
 use Rattle.replay.proofs.settle.Reads as settle-reads
 
--- src/main.rt:170:5
 settle-requires : tie.Need-settle-requires
 settle-requires c κs = search needs
 
--- src/main.rt:171:19
 slice-aggregate-open : tie.Need-slice-aggregate-open
 slice-aggregate-open c = search needs
 
--- src/main.rt:171:9
 open-requires : tie.Need-open-requires
 open-requires c κs = search needs
 
--- src/main.rt:173:9
 same-length : tie.Need-same-length
 same-length c = search needs
 
--- src/main.rt:173:9
 returns : tie.Need-returns
 returns c = let p = Order.played (c .before .before .before .before .before .settle .ensures) none in ([], p .0, p .1)
 
--- src/main.rt:175:5
 replay-trace-requires : tie.Need-replay-trace-requires
 replay-trace-requires c κs = search needs
 
--- src/main.rt:176:5
 close-requires : tie.Need-close-requires
 close-requires c κs = search needs
 
--- src/main.rt:167:1
 same-length-2 : tie.Need-same-length-2
 same-length-2 c = search needs
 
--- src/main.rt:167:1
 returns-2 : tie.Need-returns-2
 returns-2 c = let x = c .before .before .before .replay-trace .ensures in let p = Order.played (c .before .before .before .before .before .before .before .before .before .before .settle .ensures) (x .1) in (x .0, p .0, p .1)
 

@@ -1,6 +1,5 @@
 -- `replay::print_refused` meets its contract.
 use mathlib.Core.Path.{sym}
-use Prim.Native.Nat.{_-_}
 use lib.Seq.{length-take-le}
 use Rattle.decimal.proofs.Puts.{put-length}
 use Rattle.printer.proofs.Lines.{refused-most}

@@ -1,5 +1,5 @@
 use mathlib.Core.Path.{refl, sym, subst, _∙_}
-use Prim.Native.Nat.{_-_, ℕ}
+use Prim.Native.Nat.{ℕ}
 use denote.Ref.{now}
 use Rattle.trace.proofs.Ends.{line-ends}
 use mathlib.Core.List.{List}

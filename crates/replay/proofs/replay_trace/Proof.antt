@@ -1,5 +1,5 @@
 use mathlib.Core.Path.{_≡_, refl, sym, _∙_}
-use Prim.Native.Nat.{_-_, _≤_}
+use Prim.Native.Nat.{_≤_}
 use lib.ListN.{length, take}
 use lib.Seq.{length-take-le}
 use mathlib.Core.List.{List, []}
@@ -23,75 +23,57 @@ Inv-loop fd state₀ n buffer₀ from₀ end₀ lines₀ state buffer from end l
 abbrev μ-loop : tie.MeasureT-loop
 μ-loop fd state₀ n buffer₀ from₀ end₀ lines₀ state buffer from end lines = lines
 
--- src/main.rt:111:22
 buffer-requires : tie.Need-buffer-requires Inv-loop μ-loop
 buffer-requires c κs = search needs
 
--- src/main.rt:115:5
 loop-holds : tie.Need-loop-holds Inv-loop μ-loop
 loop-holds c = (omega arith, omega arith, c .buffer .ensures, refl, ([], none))
 
--- src/main.rt:116:32
 slice-aggregate-ready : tie.Need-slice-aggregate-ready Inv-loop μ-loop
 slice-aggregate-ready c = c .before .before .loop .inv .2
 
--- src/main.rt:116:13
 ready-requires : tie.Need-ready-requires Inv-loop μ-loop
 ready-requires c κs = omega arith
 
--- src/main.rt:120:13
 same-length : tie.Need-same-length Inv-loop μ-loop
 same-length c = c .before .before .before .before .before .loop .inv .3
 
--- src/main.rt:120:13
 returns : tie.Need-returns Inv-loop μ-loop
 returns c = c .before .before .before .before .before .loop .inv .4
 
--- src/main.rt:122:52
 array-share-prefix-buffer : tie.Need-array-share-prefix-buffer Inv-loop μ-loop
 array-share-prefix-buffer c = omega arith
 
--- src/main.rt:122:52
 slice-aggregate-replay-line : tie.Need-slice-aggregate-replay-line Inv-loop μ-loop
 slice-aggregate-replay-line c = sym (length-take-le (c .before .before .before .before .ready .result .end) (c .before .before .before .before .ready .last .1 .0) (omega arith))
 
--- src/main.rt:122:33
 replay-line-requires : tie.Need-replay-line-requires Inv-loop μ-loop
 replay-line-requires c κs = search needs
 
--- src/main.rt:122:25
 enum-known-next : tie.Need-enum-known-next Inv-loop μ-loop
 enum-known-next c = search needs
 
--- src/main.rt:123:13
 enum-told : tie.Need-enum-told Inv-loop μ-loop
 enum-told c = search needs
 
--- src/main.rt:123:13
 same-length-2 : tie.Need-same-length-2 Inv-loop μ-loop
 same-length-2 c = c .before .before .before .before .replay-line .kept .0 ∙ c .before .before .before .before .before .before .before .before .before .before .before .before .loop .inv .3
 
--- src/main.rt:123:13
 returns-2 : tie.Need-returns-2 Inv-loop μ-loop
 returns-2 c = Order.offered-end (c .before .before .before .before .before .before .before .before .before .before .before .before .loop .inv .4) ((rw (c .enum-told .given .1) at (c .before .before .before .before .replay-line .ensures .1)) .1)
 
--- src/main.rt:126:9
 sub-lines : tie.Need-sub-lines Inv-loop μ-loop
 sub-lines c = omega arith
 
--- src/main.rt:115:5
 loop-less : tie.Need-loop-less Inv-loop μ-loop
 loop-less c = omega arith
 
--- src/main.rt:115:5
 loop-again : tie.Need-loop-again Inv-loop μ-loop
 loop-again c = let w : c .before .next .given .0 .0 ≤ length (take (c .before .before .before .before .before .before .before .before .before .before .ready .result .end) (c .before .before .before .before .before .before .before .before .before .before .ready .last .1 .0)) = rw (c .before .next .given .1) at (c .before .before .before .before .before .replay-line .ensures .0) in let l = length-take-le (c .before .before .before .before .before .before .before .before .before .before .ready .result .end) (c .before .before .before .before .before .before .before .before .before .before .ready .last .1 .0) (omega arith) in (omega arith, c .before .before .before .before .before .before .before .before .before .before .ready .ensures .0 .1, c .before .before .before .before .before .before .before .before .before .before .before .before .before .loop .inv .2 ∙ sym (c .before .before .before .before .before .before .before .before .before .before .ready .kept .1 .0), c .before .before .before .before .before .replay-line .kept .0 ∙ c .before .before .before .before .before .before .before .before .before .before .before .before .before .loop .inv .3, let f : Follows (c .before .before .before .before .before .before .before .before .before .before .before .before .before .before .before .before .args .n) (take (c .before .before .before .before .before .before .before .before .before .before .ready .result .end) (c .before .before .before .before .before .before .before .before .before .before .ready .last .1 .0)) (c .before .before .before .before .before .before .before .before .before .before .ready .result .from) (c .before .before .before .before .before .before .before .before .before .before .before .before .before .loop .state) (Line (c .before .next .given .0 .0)) (c .before .before .before .before .before .replay-line .last .0) = rw (c .before .next .given .1) at (c .before .before .before .before .before .replay-line .ensures .1) in Order.offered-more (c .before .before .before .before .before .before .before .before .before .before .before .before .before .loop .inv .4) (f .0) (f .2))
 
--- src/main.rt:108:1
 same-length-3 : tie.Need-same-length-3 Inv-loop μ-loop
 same-length-3 c = c .before .loop .inv .3
 
--- src/main.rt:108:1
 returns-3 : tie.Need-returns-3 Inv-loop μ-loop
 returns-3 c = c .before .loop .inv .4
 

@@ -1,5 +1,4 @@
 use mathlib.Core.Path.{_≡_, refl, sym, _∙_}
-use Prim.Native.Nat.{_-_}
 use borrow.Author.Tests.{not-true, not-false}
 use lib.ListN.{length}
 use denote.Ref.{now}
@@ -21,31 +20,24 @@ Inv-loop state₀ n place₀ state place = (length state ≡ length state₀) ×
 abbrev μ-loop : tie.MeasureT-loop
 μ-loop state₀ n place₀ state place = rank n place state
 
--- src/main.rt:69:5
 loop-holds : tie.Need-loop-holds Inv-loop μ-loop
 loop-holds c = (refl, Order.goes-here (c .before .args .n) start (now (c .before .args .state)))
 
--- src/main.rt:69:12
 is-rest-requires : tie.Need-is-rest-requires Inv-loop μ-loop
 is-rest-requires c κs = search needs
 
--- src/main.rt:70:9
 print-some-requires : tie.Need-print-some-requires Inv-loop μ-loop
 print-some-requires c κs = search needs
 
--- src/main.rt:69:5
 loop-less : tie.Need-loop-less Inv-loop μ-loop
 loop-less c = c .before .before .print-some .ensures .1 (sym (c .before .before .before .before .before .is-rest .ensures) ∙ not-true (c .before .before .before .before .before .is-rest .result) (c .before .before .before .before .if1 .taken))
 
--- src/main.rt:69:5
 loop-again : tie.Need-loop-again Inv-loop μ-loop
 loop-again c = (c .before .before .print-some .kept .0 ∙ c .before .before .before .before .before .before .loop .inv .0, Order.goes-on (c .before .before .before .before .before .before .loop .inv .1) (c .before .before .print-some .ensures .0))
 
--- src/main.rt:65:1
 same-length : tie.Need-same-length Inv-loop μ-loop
 same-length c = c .before .before .loop .inv .0
 
--- src/main.rt:65:1
 returns : tie.Need-returns Inv-loop μ-loop
 returns c = Order.goes-rest (c .before .before .loop .place) (sym (c .before .is-rest .ensures) ∙ not-false (c .before .is-rest .result) (c .if1 .left)) (c .before .before .loop .inv .1)
 

@@ -1,6 +1,5 @@
 -- `replaying::after_output` meets its contract.
 use mathlib.Core.Path.{sym, ap, _∙_}
-use Prim.Native.Nat.{_-_}
 use Rattle.replaying.specs.Replay.{roundAfter}
 use Rattle.replaying.proofs.Steps.{after-next, after-last}
 use borrow.Author.Needs.{needs}

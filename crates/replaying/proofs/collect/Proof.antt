@@ -1,11 +1,10 @@
 -- `replaying::collect` meets its contract.
 use mathlib.Core.Path.{refl, sym, _∙_}
-use Prim.Native.Nat.{_-_}
 use mir.Val.{SFits}
 use Rattle.machine.specs.Calls.{collecting}
 use Rattle.decimal.proofs.Puts.{put-none}
 use Rattle.replaying.proofs.Steps.{collected-event, collected-none}
-use Rattle.resting.proofs.Bytes.{collect-is-value}
+use Rattle.engine.proofs.Replies.{collect-is-value}
 use denote.Ref.{now}
 use mir.Syntax.{w64}
 use mir.Facts.{toZ-ofZ}

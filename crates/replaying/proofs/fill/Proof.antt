@@ -1,7 +1,7 @@
 -- `replaying::fill` meets its contract.
 use mathlib.Core.Path.{_≡_, refl, sym, ap, _∙_}
 use mathlib.Core.Bool.{true≢false}
-use Prim.Native.Nat.{_-_, _<_, _≤_}
+use Prim.Native.Nat.{_<_, _≤_}
 use Rattle.replaying.proofs.Nearer.{turn-nearer, began, further}
 use mathlib.Core.Logic.{_⊎_, inl, inr}
 use Rattle.replaying.specs.Rank.{isRest, rank}

@@ -1,6 +1,5 @@
 -- `replaying::offer` meets its contract.
 use mathlib.Core.Path.{sym, _∙_}
-use Prim.Native.Nat.{_-_}
 use Rattle.decimal.proofs.Puts.{put-none}
 use Rattle.replaying.specs.Replay.{callOf}
 use Rattle.replaying.proofs.Steps.{refusal-none, refusal-some}

@@ -1,5 +1,4 @@
 -- `replaying::offered` meets its contract.
-use Prim.Native.Nat.{_-_}
 use mir.Val.{SFits}
 use mir.Syntax.{w64}
 use mir.Facts.{toZ-ofZ}

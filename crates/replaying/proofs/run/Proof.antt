@@ -1,6 +1,5 @@
 -- `replaying::run` meets its contract.
 use mathlib.Core.Path.{sym, ap, _∙_}
-use Prim.Native.Nat.{_-_}
 use Rattle.machine.specs.Calls.{running}
 use Rattle.replaying.proofs.Steps.{ran-rest, ran-moved}
 use Rattle.replaying.specs.Replay.{allMoves}

@@ -1,6 +1,5 @@
 -- `replaying::turn` meets its contract.
 use mathlib.Core.Path.{refl, sym, _∙_}
-use Prim.Native.Nat.{_-_}
 use Rattle.machine.specs.Calls.{running}
 use Rattle.decimal.proofs.Puts.{put-none}
 use Rattle.replaying.proofs.Steps.{ran-state}

@@ -21,39 +21,30 @@ Inv-loop state₀ n i₀ state i = (i ≤ n) × (state ≡ state₀) × ((j : �
 abbrev μ-loop : tie.MeasureT-loop
 μ-loop state₀ n i₀ state i = n - i
 
--- src/lib.rt:19:5
 loop-holds : tie.Need-loop-holds Inv-loop μ-loop
 loop-holds c = (omega arith, refl, λ j h. absurd (omega arith))
 
--- src/lib.rt:20:12
 move-one-requires : tie.Need-move-one-requires Inv-loop μ-loop
 move-one-requires c κs = let a = c .before .before .before .before .args in let s = now (a .state) in let l = c .before .before .loop in let rf = In.room-for s (λ j. omega (arith, c .before .before .before .slice-known .given j)) (a .n) (c .before .before .before .before .pre) in (rw (ap length (l .inv .1)) rf, omega arith)
 
--- src/lib.rt:21:13
 same-length : tie.Need-same-length Inv-loop μ-loop
 same-length c = let a = c .before .before .before .before .before .before .before .before .args in let s = now (a .state) in let l = c .before .before .before .before .before .before .loop in Turns.turn-length s (λ j. omega (arith, c .before .before .before .before .before .before .before .slice-known .given j)) (a .n) (c .before .before .before .before .before .before .before .before .pre) (l .state) (c .before .before .before .move-one .last .0) (l .inv .1) (c .before .before .before .move-one .result) (l .i) (omega arith) (c .before .before .before .move-one .ensures .0) (c .before .before .before .move-one .ensures .1) (c .if1 .taken) (l .inv .2)
 
--- src/lib.rt:21:13
 returns : tie.Need-returns Inv-loop μ-loop
 returns c = let a = c .before .before .before .before .before .before .before .before .args in let s = now (a .state) in let l = c .before .before .before .before .before .before .loop in (Turns.turn-lowest s (λ j. omega (arith, c .before .before .before .before .before .before .before .slice-known .given j)) (a .n) (c .before .before .before .before .before .before .before .before .pre) (l .state) (c .before .before .before .move-one .last .0) (l .inv .1) (c .before .before .before .move-one .result) (l .i) (omega arith) (c .before .before .before .move-one .ensures .0) (c .before .before .before .move-one .ensures .1) (c .if1 .taken) (l .inv .2), Turns.turn-moved s (λ j. omega (arith, c .before .before .before .before .before .before .before .slice-known .given j)) (a .n) (c .before .before .before .before .before .before .before .before .pre) (l .state) (c .before .before .before .move-one .last .0) (l .inv .1) (c .before .before .before .move-one .result) (l .i) (omega arith) (c .before .before .before .move-one .ensures .0) (c .before .before .before .move-one .ensures .1) (c .if1 .taken) (l .inv .2))
 
--- src/lib.rt:23:9
 add-i : tie.Need-add-i Inv-loop μ-loop
 add-i c = omega arith
 
--- src/lib.rt:19:5
 loop-less : tie.Need-loop-less Inv-loop μ-loop
 loop-less c = omega arith
 
--- src/lib.rt:19:5
 loop-again : tie.Need-loop-again Inv-loop μ-loop
 loop-again c = let a = c .before .before .before .before .before .before .before .before .args in let s = now (a .state) in let l = c .before .before .before .before .before .before .loop in let p = Turns.turn-stays s (λ j. omega (arith, c .before .before .before .before .before .before .before .slice-known .given j)) (a .n) (c .before .before .before .before .before .before .before .before .pre) (l .state) (c .before .before .before .move-one .last .0) (l .inv .1) (c .before .before .before .move-one .result) (l .i) (omega arith) (c .before .before .before .move-one .ensures .0) (c .before .before .before .move-one .ensures .1) (c .if1 .left) in (omega arith, p .0, below-more _ _ (l .inv .2) (p .1))
 
--- src/lib.rt:13:1
 same-length-2 : tie.Need-same-length-2 Inv-loop μ-loop
 same-length-2 c = ap length (c .before .loop .inv .1)
 
--- src/lib.rt:13:1
 returns-2 : tie.Need-returns-2 Inv-loop μ-loop
 returns-2 c = let a = c .before .before .before .args in let s = now (a .state) in let l = c .before .loop in let before : (j : ℕ) → j < a .n → canMove j (stateIn s) ≡ false = λ j h. l .inv .2 j (omega arith) in (sym (Turns.lowest-none s (λ j. omega (arith, c .before .before .slice-known .given j)) (a .n) (c .before .before .before .pre) before), Turns.none-left s (λ j. omega (arith, c .before .before .slice-known .given j)) (a .n) (c .before .before .before .pre) before (l .state) (l .inv .1))
 

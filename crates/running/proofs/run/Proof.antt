@@ -8,6 +8,7 @@ use denote.Ref.{now}
 use Rattle.machine.specs.Calls.{lowest}
 use Rattle.state.specs.In.{stateIn, IsState}
 use Rattle.running.proofs.Turns
+use Rattle.running.proofs.Replies
 use Rattle.le.specs.Bytes.{Bytes}
 use native.Mathlib.Omega.{arith}
 use Rattle.running.proofs.run.Statement.{statement}
@@ -22,41 +23,32 @@ Inv-loop state₀ n most made₀ state made = (made ≤ most) × (length state �
 abbrev μ-loop : tie.MeasureT-loop
 μ-loop state₀ n most made₀ state made = most - made
 
--- src/lib.rt:35:5
 loop-holds : tie.Need-loop-holds Inv-loop μ-loop
 loop-holds c = let a = c .before .args in (omega arith, refl, (λ j. omega (arith, c .slice-known .given j)), c .before .pre, Turns.left-start (a .most) (now (a .state)))
 
--- src/lib.rt:36:13
 move-lowest-requires : tie.Need-move-lowest-requires Inv-loop μ-loop
 move-lowest-requires c κs = c .before .before .loop .inv .3
 
--- src/lib.rt:37:13
 same-length : tie.Need-same-length Inv-loop μ-loop
 same-length c = let a = c .before .before .before .before .before .before .before .before .args in let s₀ = now (a .state) in let l = c .before .before .before .before .before .before .loop in let q : ltb (lowest (stateIn (l .state))) (a .n) ≡ false = sym (c .before .before .before .move-lowest .ensures .0) ∙ not-true (c .before .before .before .move-lowest .result) (c .if1 .taken) in let e : c .before .before .before .move-lowest .last .0 ≡ l .state = c .before .before .before .move-lowest .ensures .1 ∙ rw q in ap length e ∙ l .inv .1
 
--- src/lib.rt:37:13
 returns : tie.Need-returns Inv-loop μ-loop
-returns c = let a = c .before .before .before .before .before .before .before .before .args in let s₀ = now (a .state) in let l = c .before .before .before .before .before .before .loop in let q : ltb (lowest (stateIn (l .state))) (a .n) ≡ false = sym (c .before .before .before .move-lowest .ensures .0) ∙ not-true (c .before .before .before .move-lowest .result) (c .if1 .taken) in Turns.run-ended (a .most) (l .made) (a .n) s₀ (l .state) (c .before .before .before .move-lowest .last .0) (l .inv .2) (l .inv .3) (l .inv .4) (c .before .before .before .move-lowest .ensures .1) q (l .inv .1)
+returns c = let a = c .before .before .before .before .before .before .before .before .args in let s₀ = now (a .state) in let l = c .before .before .before .before .before .before .loop in let q : ltb (lowest (stateIn (l .state))) (a .n) ≡ false = sym (c .before .before .before .move-lowest .ensures .0) ∙ not-true (c .before .before .before .move-lowest .result) (c .if1 .taken) in let r = Replies.run-finished s₀ (λ j. omega (arith, c .before .before .before .before .before .before .before .slice-known .given j)) (a .n) (c .before .before .before .before .before .before .before .before .pre) (a .most) (l .made) (c .before .before .before .move-lowest .last .0) (Turns.run-ended (a .most) (l .made) (a .n) s₀ (l .state) (c .before .before .before .move-lowest .last .0) (l .inv .2) (l .inv .3) (l .inv .4) (c .before .before .before .move-lowest .ensures .1) q (l .inv .1)) in (r .0, (r .1, r .2))
 
--- src/lib.rt:39:9
 add-made : tie.Need-add-made Inv-loop μ-loop
 add-made c = omega arith
 
--- src/lib.rt:35:5
 loop-less : tie.Need-loop-less Inv-loop μ-loop
 loop-less c = omega arith
 
--- src/lib.rt:35:5
 loop-again : tie.Need-loop-again Inv-loop μ-loop
 loop-again c = let a = c .before .before .before .before .before .before .before .before .args in let s₀ = now (a .state) in let l = c .before .before .before .before .before .before .loop in let q : ltb (lowest (stateIn (l .state))) (a .n) ≡ true = sym (c .before .before .before .move-lowest .ensures .0) ∙ not-false (c .before .before .before .move-lowest .result) (c .if1 .left) in (omega arith, Turns.next-length-is (a .most) (l .made) (a .n) s₀ (l .state) (c .before .before .before .move-lowest .last .0) (l .inv .2) (l .inv .3) (l .inv .4) (c .before .before .before .move-lowest .ensures .1) (omega arith) q ∙ l .inv .1, (λ j. omega (arith, c .before .slice-known2 .given j)), Turns.next-is-state (a .most) (l .made) (a .n) s₀ (l .state) (c .before .before .before .move-lowest .last .0) (l .inv .2) (l .inv .3) (l .inv .4) (c .before .before .before .move-lowest .ensures .1) (omega arith) q, Turns.next-left (a .most) (l .made) (a .n) s₀ (l .state) (c .before .before .before .move-lowest .last .0) (l .inv .2) (l .inv .3) (l .inv .4) (c .before .before .before .move-lowest .ensures .1) (omega arith) q)
 
--- src/lib.rt:29:1
 same-length-2 : tie.Need-same-length-2 Inv-loop μ-loop
 same-length-2 c = c .before .loop .inv .1
 
--- src/lib.rt:29:1
 returns-2 : tie.Need-returns-2 Inv-loop μ-loop
-returns-2 c = let a = c .before .before .before .args in let s₀ = now (a .state) in let l = c .before .loop in Turns.run-done (a .most) (l .made) (a .n) s₀ (l .state) (l .inv .2) (l .inv .3) (l .inv .4) (omega arith) (omega arith) (l .inv .1)
+returns-2 c = let a = c .before .before .before .args in let s₀ = now (a .state) in let l = c .before .loop in let r = Replies.run-finished s₀ (λ j. omega (arith, c .before .before .slice-known .given j)) (a .n) (c .before .before .before .pre) (a .most) (l .made) (l .state) (Turns.run-done (a .most) (l .made) (a .n) s₀ (l .state) (l .inv .2) (l .inv .3) (l .inv .4) (omega arith) (omega arith) (l .inv .1)) in (r .0, (r .1, r .2))
 
 pub run-spec : {M : Type 1} → statement M
 run-spec =

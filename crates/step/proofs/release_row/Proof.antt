@@ -4,7 +4,8 @@ use borrow.Rule.Slice.PartMut.{midOf}
 use denote.Ref.{now}
 use Rattle.layout.specs.Record.{Raw, decRaw, encode, decode, num, slotAt, rowAt, countF}
 use Rattle.layout.proofs.Laws.{row-mid, lent, encode-decode}
-use Rattle.step.specs.Step.{waitingRow, released}
+use Rattle.step.specs.Step.{waitingRow}
+use Rattle.queue.specs.Queue.{released}
 use Rattle.step.proofs.Rounds
 use borrow.Author.Needs.{needs}
 use native.Mathlib.Omega.{arith}
@@ -15,100 +16,77 @@ use Rattle.step.proofs.release_row.Lts as lts
 use Rattle.layout.proofs.byte_at.Reads as byte-at-reads
 use Rattle.layout.proofs.stamp_at.Reads as stamp-at-reads
 use Rattle.step.proofs.least_reader.Reads as least-reader-reads
-use Rattle.step.proofs.release.Reads as release-reads
+use Rattle.queue.proofs.drop_below.Reads as drop-below-reads
 use Rattle.step.proofs.waiting.Reads as waiting-reads
 
--- src/lib.rt:257:14
 mul-at : tie.Need-mul-at
 mul-at c = search needs
 
--- src/lib.rt:258:15
 add-end : tie.Need-add-end
 add-end c = search needs
 
--- src/lib.rt:259:33
 sub-byte-at : tie.Need-sub-byte-at
 sub-byte-at c = search needs
 
--- src/lib.rt:259:33
 part-byte-at-start : tie.Need-part-byte-at-start
 part-byte-at-start c = search needs
 
--- src/lib.rt:259:33
 part-byte-at-end : tie.Need-part-byte-at-end
 part-byte-at-end c = search needs
 
--- src/lib.rt:259:9
 byte-at-requires : tie.Need-byte-at-requires
 byte-at-requires c κs = search needs
 
--- src/lib.rt:261:9
 same-length : tie.Need-same-length
 same-length c = search needs
 
--- src/lib.rt:261:9
 returns : tie.Need-returns
 returns c = let a = c .before .before .before .before .before .args in let s = now (a .state) in let i = a .i in let k = i * 256 + 256 - i * 256 in let mid : rowAt (decode (a .n) s) i ≡ decRaw (midOf (i * 256) k s) = row-mid (a .n) s i k (omega arith) (omega arith) in sym (ap (encode (a .n)) (Rounds.release-row-none i (decode (a .n) s) (ap (num countF) mid ∙ sym (c .before .byte-at .ensures .0) ∙ c .if1 .taken)) ∙ encode-decode (a .n) s (omega arith) (λ j. omega (arith, c .before .before .before .before .slice-known .given j)))
 
--- src/lib.rt:263:34
 sub-stamp-at : tie.Need-sub-stamp-at
 sub-stamp-at c = search needs
 
--- src/lib.rt:263:34
 part-stamp-at-start : tie.Need-part-stamp-at-start
 part-stamp-at-start c = search needs
 
--- src/lib.rt:263:34
 part-stamp-at-end : tie.Need-part-stamp-at-end
 part-stamp-at-end c = search needs
 
--- src/lib.rt:263:9
 stamp-at-requires : tie.Need-stamp-at-requires
 stamp-at-requires c κs = search needs
 
--- src/lib.rt:264:9
 least-reader-requires : tie.Need-least-reader-requires
 least-reader-requires c κs = search needs
 
--- src/lib.rt:265:21
 sub-waiting : tie.Need-sub-waiting
 sub-waiting c = search needs
 
--- src/lib.rt:265:21
 part-waiting-start : tie.Need-part-waiting-start
 part-waiting-start c = search needs
 
--- src/lib.rt:265:21
 part-waiting-end : tie.Need-part-waiting-end
 part-waiting-end c = search needs
 
--- src/lib.rt:265:9
 waiting-requires : tie.Need-waiting-requires
 waiting-requires c κs = search needs
 
--- src/lib.rt:266:13
-sub-release : tie.Need-sub-release
-sub-release c = search needs
+sub-drop-below : tie.Need-sub-drop-below
+sub-drop-below c = search needs
 
--- src/lib.rt:266:13
-part-release-start : tie.Need-part-release-start
-part-release-start c = search needs
+part-drop-below-start : tie.Need-part-drop-below-start
+part-drop-below-start c = search needs
 
--- src/lib.rt:266:13
-part-release-end : tie.Need-part-release-end
-part-release-end c = search needs
+part-drop-below-end : tie.Need-part-drop-below-end
+part-drop-below-end c = search needs
 
--- src/lib.rt:266:5
-release-requires : tie.Need-release-requires
-release-requires c κs = search needs
+drop-below-requires : tie.Need-drop-below-requires
+drop-below-requires c κs = search needs
 
--- src/lib.rt:253:1
 same-length-2 : tie.Need-same-length-2
 same-length-2 c = search needs
 
--- src/lib.rt:253:1
 returns-2 : tie.Need-returns-2
-returns-2 c = let a = c .before .before .before .before .before .before .before .before .before .before .before .before .before .before .before .before .before .args in let s = now (a .state) in let i = a .i in let k = i * 256 + 256 - i * 256 in let mid : rowAt (decode (a .n) s) i ≡ decRaw (midOf (i * 256) k s) = row-mid (a .n) s i k (omega arith) (omega arith) in lent (a .n) s (c .before .before .release .last .0) i k (released (c .before .before .before .before .waiting .result)) (omega arith) (omega arith) (λ j. omega (arith, c .before .before .before .before .before .before .before .before .before .before .before .before .before .before .before .before .slice-known .given j)) (omega arith) (c .before .before .release .ensures) ∙ ap (encode (a .n)) (sym (Rounds.release-row-is i (c .before .before .before .before .waiting .result) (c .before .before .before .before .before .before .before .least-reader .result) (c .before .before .before .before .before .before .before .before .before .stamp-at .result) (decode (a .n) s) (c .before .before .before .before .before .before .before .before .before .stamp-at .ensures .0 ∙ ap (λ (r : Raw). slotAt 0 r .stamp) (sym mid)) (c .before .before .before .before .before .before .before .least-reader .ensures) (c .before .before .before .before .waiting .ensures ∙ ap (waitingRow (c .before .before .before .before .before .before .before .least-reader .result)) (sym mid))))
+returns-2 c = let a = c .before .before .before .before .before .before .before .before .before .before .before .before .before .before .before .before .before .args in let s = now (a .state) in let i = a .i in let k = i * 256 + 256 - i * 256 in let mid : rowAt (decode (a .n) s) i ≡ decRaw (midOf (i * 256) k s) = row-mid (a .n) s i k (omega arith) (omega arith) in lent (a .n) s (c .before .before .drop-below .last .0) i k (released (c .before .before .before .before .waiting .result)) (omega arith) (omega arith) (λ j. omega (arith, c .before .before .before .before .before .before .before .before .before .before .before .before .before .before .before .before .slice-known .given j)) (omega arith) (c .before .before .drop-below .ensures) ∙ ap (encode (a .n)) (sym (Rounds.release-row-is i (c .before .before .before .before .waiting .result) (c .before .before .before .before .before .before .before .least-reader .result) (c .before .before .before .before .before .before .before .before .before .stamp-at .result) (decode (a .n) s) (c .before .before .before .before .before .before .before .before .before .stamp-at .ensures .0 ∙ ap (λ (r : Raw). slotAt 0 r .stamp) (sym mid)) (c .before .before .before .before .before .before .before .least-reader .ensures) (c .before .before .before .before .waiting .ensures ∙ ap (waitingRow (c .before .before .before .before .before .before .before .least-reader .result)) (sym mid))))
 
 pub release-row-spec : {M : Type 1} → statement M
 release-row-spec =
@@ -131,9 +109,9 @@ release-row-spec =
     part-waiting-start
     part-waiting-end
     waiting-requires
-    sub-release
-    part-release-start
-    part-release-end
-    release-requires
+    sub-drop-below
+    part-drop-below-start
+    part-drop-below-end
+    drop-below-requires
     same-length-2
     returns-2)

@@ -22,51 +22,39 @@ Inv-loop state₀ n s t v i₀ state i = (i ≤ n) × (length state ≡ length s
 abbrev μ-loop : tie.MeasureT-loop
 μ-loop state₀ n s t v i₀ state i = n - i
 
--- src/lib.rt:149:5
 loop-holds : tie.Need-loop-holds Inv-loop μ-loop
 loop-holds c = (omega arith, refl, simp sub-zero)
 
--- src/lib.rt:150:18
 mul-at : tie.Need-mul-at Inv-loop μ-loop
 mul-at c = omega arith
 
--- src/lib.rt:151:19
 add-end : tie.Need-add-end Inv-loop μ-loop
 add-end c = omega arith
 
--- src/lib.rt:152:14
 sub-tell : tie.Need-sub-tell Inv-loop μ-loop
 sub-tell c = omega arith
 
--- src/lib.rt:152:14
 part-tell-start : tie.Need-part-tell-start Inv-loop μ-loop
 part-tell-start c = omega arith
 
--- src/lib.rt:152:14
 part-tell-end : tie.Need-part-tell-end Inv-loop μ-loop
 part-tell-end c = omega arith
 
--- src/lib.rt:152:9
 tell-requires : tie.Need-tell-requires Inv-loop μ-loop
 tell-requires c κs = let a = c .before .before .before .before .args in let l = c .before .before .loop in let k = l .i * 256 + 256 - l .i * 256 in row-len (a .n) (l .state) (l .i) (omega arith) (omega arith)
 
--- src/lib.rt:153:9
 add-i : tie.Need-add-i Inv-loop μ-loop
 add-i c = omega arith
 
--- src/lib.rt:149:5
 loop-less : tie.Need-loop-less Inv-loop μ-loop
 loop-less c = omega arith
 
--- src/lib.rt:149:5
 loop-again : tie.Need-loop-again Inv-loop μ-loop
 loop-again c = let a = c .before .before .before .before .before .before .before .args in let l = c .before .before .before .before .before .loop in let k = l .i * 256 + 256 - l .i * 256 in let g : List ℕ → List ℕ = λ q. encRaw (toldRow (a .s) (a .t) (a .v) (decRaw q)) in let q = c .before .before .tell .last .0 in let lq : length q ≡ 256 = ap length (c .before .before .tell .ensures) ∙ raw-len (toldRow (a .s) (a .t) (a .v) (decRaw (midOf (l .i * 256) k (l .state)))) in (omega arith, same-len-mid (l .i * 256) k (l .state) q (lq ∙ sym (row-len (a .n) (l .state) (l .i) (omega arith) (omega arith))) ∙ l .inv .1, each-turn g (a .n) (l .state) q (l .i) k (omega arith) (omega arith) (omega arith) lq (c .before .before .tell .ensures) ∙ l .inv .2)
 
--- src/lib.rt:144:1
 same-length : tie.Need-same-length Inv-loop μ-loop
 same-length c = c .before .loop .inv .1
 
--- src/lib.rt:144:1
 returns : tie.Need-returns Inv-loop μ-loop
 returns c = let a = c .before .before .before .args in let l = c .before .loop in let g : List ℕ → List ℕ = λ q. encRaw (toldRow (a .s) (a .t) (a .v) (decRaw q)) in sym (each-end g (l .state) (l .i) (a .n - l .i) (omega arith)) ∙ l .inv .2 ∙ each-all (toldRow (a .s) (a .t) (a .v)) (a .n) (now (a .state))
 

@@ -1,7 +1,7 @@
-use Prim.Native.Nat.{_-_}
 use denote.Ref.{now}
 use Rattle.layout.specs.Record.{decRaw}
 use Rattle.step.specs.Step.{toldValue, toldPrior, toldSince, toldDelay}
+use Rattle.layout.proofs.Stores
 use Rattle.step.proofs.Leaves
 use borrow.Author.Needs.{needs}
 use native.Mathlib.Omega.{arith}
@@ -13,25 +13,20 @@ use Rattle.step.proofs.tell_prior.Reads as tell-prior-reads
 use Rattle.step.proofs.tell_since.Reads as tell-since-reads
 use Rattle.step.proofs.tell_value.Reads as tell-value-reads
 
--- src/lib.rt:119:5
 tell-value-requires : tie.Need-tell-value-requires
 tell-value-requires c κs = search needs
 
--- src/lib.rt:120:5
 tell-prior-requires : tie.Need-tell-prior-requires
 tell-prior-requires c κs = search needs
 
--- src/lib.rt:121:5
 tell-since-requires : tie.Need-tell-since-requires
 tell-since-requires c κs = search needs
 
--- src/lib.rt:115:1
 same-length : tie.Need-same-length
 same-length c = search needs
 
--- src/lib.rt:115:1
 returns : tie.Need-returns
-returns c = let a = c .before .before .before .before .before .before .before .before .before .before .before .before .before .args in let p = now (a .r) in let r = decRaw p in Leaves.three p (c .before .before .before .before .before .before .before .before .before .before .tell-value .last .0) (c .before .before .before .before .before .before .tell-prior .last .0) (c .before .before .tell-since .last .0) (toldDelay (a .s) (a .t) (a .v)) (toldValue (a .s) (a .t) (a .v)) (toldPrior (a .s) (a .t) (a .v)) (toldSince (a .s) (a .t)) (λ i. omega (arith, c .before .before .before .before .before .before .before .before .before .before .before .before .slice-known .given i)) (λ x ok. Leaves.value-ok (a .v) (omega arith) (a .s) (a .t) x ok) (λ x ok. Leaves.prior-ok (a .v) (omega arith) (a .s) (a .t) x ok) (c .before .before .before .before .before .before .before .before .before .before .tell-value .ensures) (c .before .before .before .before .before .before .tell-prior .ensures) (c .before .before .tell-since .ensures) (Leaves.delay-is (a .s) r (a .t) (a .v))
+returns c = let a = c .before .before .before .before .before .before .before .before .before .before .before .before .before .args in let p = now (a .r) in let r = decRaw p in Stores.three p (c .before .before .before .before .before .before .before .before .before .before .tell-value .last .0) (c .before .before .before .before .before .before .tell-prior .last .0) (c .before .before .tell-since .last .0) (toldDelay (a .s) (a .t) (a .v)) (toldValue (a .s) (a .t) (a .v)) (toldPrior (a .s) (a .t) (a .v)) (toldSince (a .s) (a .t)) (λ i. omega (arith, c .before .before .before .before .before .before .before .before .before .before .before .before .slice-known .given i)) (λ x ok. Leaves.value-ok (a .v) (omega arith) (a .s) (a .t) x ok) (λ x ok. Leaves.prior-ok (a .v) (omega arith) (a .s) (a .t) x ok) (c .before .before .before .before .before .before .before .before .before .before .tell-value .ensures) (c .before .before .before .before .before .before .tell-prior .ensures) (c .before .before .tell-since .ensures) (Leaves.delay-is (a .s) r (a .t) (a .v))
 
 pub tell-delay-spec : {M : Type 1} → statement M
 tell-delay-spec =

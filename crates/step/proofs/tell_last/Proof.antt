@@ -1,9 +1,9 @@
-use Prim.Native.Nat.{_-_}
 use mathlib.Core.Path.{_∙_}
 use denote.Ref.{now}
 use Rattle.layout.specs.Record.{decRaw, withNum, flagF, keptF}
 use Rattle.layout.proofs.Laws.{num-ok}
 use Rattle.step.specs.Step.{toldLast}
+use Rattle.layout.proofs.Stores
 use Rattle.step.proofs.Leaves
 use borrow.Author.Needs.{needs}
 use native.Mathlib.Omega.{arith}
@@ -15,33 +15,26 @@ use Rattle.layout.proofs.byte_at.Reads as byte-at-reads
 use Rattle.layout.proofs.put_byte.Reads as put-byte-reads
 use Rattle.layout.proofs.put_word.Reads as put-word-reads
 
--- src/lib.rt:53:9
 byte-at-requires : tie.Need-byte-at-requires
 byte-at-requires c κs = search needs
 
--- src/lib.rt:55:9
 same-length : tie.Need-same-length
 same-length c = search needs
 
--- src/lib.rt:55:9
 returns : tie.Need-returns
-returns c = let a = c .before .before .before .before .args in let p = now (a .r) in let r = decRaw p in Leaves.none p (toldLast (a .s) (a .v)) (omega arith) (λ i. omega (arith, c .before .before .before .slice-known .given i)) (Leaves.last-no (a .s) r (a .v) (λ e. c .if1 .taken (c .before .byte-at .ensures .0 ∙ e)))
+returns c = let a = c .before .before .before .before .args in let p = now (a .r) in let r = decRaw p in Stores.none p (toldLast (a .s) (a .v)) (omega arith) (λ i. omega (arith, c .before .before .before .slice-known .given i)) (Leaves.last-no (a .s) r (a .v) (λ e. c .if1 .taken (c .before .byte-at .ensures .0 ∙ e)))
 
--- src/lib.rt:57:5
 put-byte-requires : tie.Need-put-byte-requires
 put-byte-requires c κs = search needs
 
--- src/lib.rt:58:5
 put-word-requires : tie.Need-put-word-requires
 put-word-requires c κs = search needs
 
--- src/lib.rt:49:1
 same-length-2 : tie.Need-same-length-2
 same-length-2 c = search needs
 
--- src/lib.rt:49:1
 returns-2 : tie.Need-returns-2
-returns-2 c = let a = c .before .before .before .before .before .before .before .before .before .before .before .before .args in let p = now (a .r) in let r = decRaw p in Leaves.two p (c .before .before .before .before .before .before .put-byte .last .0) (c .before .before .put-word .last .0) (toldLast (a .s) (a .v)) (withNum flagF 1) (withNum keptF (a .v)) (λ i. omega (arith, c .before .before .before .before .before .before .before .before .before .before .before .slice-known .given i)) (λ x ok. num-ok x flagF 1 ok (omega arith)) (c .before .before .before .before .before .before .put-byte .ensures) (c .before .before .put-word .ensures) (Leaves.last-yes (a .s) r (a .v) (omega arith))
+returns-2 c = let a = c .before .before .before .before .before .before .before .before .before .before .before .before .args in let p = now (a .r) in let r = decRaw p in Stores.two p (c .before .before .before .before .before .before .put-byte .last .0) (c .before .before .put-word .last .0) (toldLast (a .s) (a .v)) (withNum flagF 1) (withNum keptF (a .v)) (λ i. omega (arith, c .before .before .before .before .before .before .before .before .before .before .before .slice-known .given i)) (λ x ok. num-ok x flagF 1 ok (omega arith)) (c .before .before .before .before .before .before .put-byte .ensures) (c .before .before .put-word .ensures) (Leaves.last-yes (a .s) r (a .v) (omega arith))
 
 pub tell-last-spec : {M : Type 1} → statement M
 tell-last-spec =

@@ -1,4 +1,3 @@
-use Prim.Native.Nat.{_-_}
 use mathlib.Core.Path.{sym, _∙_}
 use denote.Ref.{now}
 use Rattle.layout.specs.Record.{decRaw}
@@ -12,23 +11,18 @@ use Rattle.step.proofs.waiting.Lts as lts
 use Rattle.layout.proofs.byte_at.Reads as byte-at-reads
 use Rattle.layout.proofs.word_at.Reads as word-at-reads
 
--- src/lib.rt:193:9
 byte-at-requires : tie.Need-byte-at-requires
 byte-at-requires c κs = search needs
 
--- src/lib.rt:195:9
 returns : tie.Need-returns
 returns c = let a = c .before .before .before .args in let p = now (a .r) in let r = decRaw p in sym (Leaves.waiting-in (a .least) r (omega arith))
 
--- src/lib.rt:197:9
 word-at-requires : tie.Need-word-at-requires
 word-at-requires c κs = search needs
 
--- src/lib.rt:199:9
 returns-2 : tie.Need-returns-2
 returns-2 c = let a = c .before .before .before .before .before .args in let p = now (a .r) in let r = decRaw p in c .before .word-at .ensures ∙ sym (Leaves.waiting-less (a .least) r (λ e. c .before .before .if1 .left (c .before .before .before .byte-at .ensures .0 ∙ e)) (omega arith))
 
--- src/lib.rt:189:1
 returns-3 : tie.Need-returns-3
 returns-3 c = let a = c .before .before .before .before .before .args in let p = now (a .r) in let r = decRaw p in sym (Leaves.waiting-else (a .least) r (λ e. c .before .before .if1 .left (c .before .before .before .byte-at .ensures .0 ∙ e)) (omega arith))
 

@@ -11,41 +11,32 @@ use Rattle.table.proofs.calc_at.Lts as lts
 use Rattle.table.proofs.calculate.Reads as calculate-reads
 use Rattle.table.proofs.value_of.Reads as value-of-reads
 
--- src/lib.rt:85:22
 enum-known-x : tie.Need-enum-known-x
 enum-known-x c = search needs
 
--- src/lib.rt:86:9
 enum-told : tie.Need-enum-told
 enum-told c = search needs
 
--- src/lib.rt:86:9
 returns : tie.Need-returns
 unfolding two-at
 returns c = Rows.two-arm (plan.calc (calculation (c .before .before .args .g))) (c .enum-told .given .1) (refl {a = c .before .before .args .y})
 
--- src/lib.rt:88:22
 enum-known-y : tie.Need-enum-known-y
 enum-known-y c = search needs
 
--- src/lib.rt:89:9
 enum-told-2 : tie.Need-enum-told-2
 enum-told-2 c = search needs
 
--- src/lib.rt:89:9
 returns-2 : tie.Need-returns-2
 unfolding two-at
 returns-2 c = Rows.two-arm (plan.calc (calculation (c .before .before .before .before .before .args .g))) (c .before .before .before .x .given .1) (c .enum-told2 .given .1)
 
--- src/lib.rt:91:14
 calculate-requires : tie.Need-calculate-requires
 calculate-requires c κs = search needs
 
--- src/lib.rt:91:5
 value-of-requires : tie.Need-value-of-requires
 value-of-requires c κs = search needs
 
--- src/lib.rt:82:1
 returns-3 : tie.Need-returns-3
 unfolding two-at
 returns-3 c = let v = c .before .before .before .before .before .before .x .given .0 .0 in let ev = Rows.back v (c .before .before .before .before .before .known-told .given .0 .1) in let w = c .before .before .before .y .given .0 .0 in let ew = Rows.back w (c .before .before .known-told2 .given .0 .1) in let g = calculation (c .before .before .before .before .before .before .before .before .args .g) in c .value-of .ensures ∙ ap valueOf (c .before .calculate .ensures ∙ ap₂ (calculated g) ev ew) ∙ Rows.two-arm (plan.calc g) (c .before .before .before .before .before .before .x .given .1) (c .before .before .before .y .given .1)

@@ -16,106 +16,82 @@ use Rattle.num.proofs.mul.Reads as mul-reads
 use Rattle.num.proofs.rem.Reads as rem-reads
 use Rattle.num.proofs.sub.Reads as sub-reads
 
--- src/lib.rt:70:22
 enum-told : tie.Need-enum-told
 enum-told c = search needs
 
--- src/lib.rt:70:22
 add-requires : tie.Need-add-requires
 add-requires c κs = search needs
 
--- src/lib.rt:71:22
 enum-told-2 : tie.Need-enum-told-2
 enum-told-2 c = search needs
 
--- src/lib.rt:71:22
 sub-requires : tie.Need-sub-requires
 sub-requires c κs = search needs
 
--- src/lib.rt:72:22
 enum-told-3 : tie.Need-enum-told-3
 enum-told-3 c = search needs
 
--- src/lib.rt:72:22
 mul-requires : tie.Need-mul-requires
 mul-requires c κs = search needs
 
--- src/lib.rt:73:22
 enum-told-4 : tie.Need-enum-told-4
 enum-told-4 c = search needs
 
--- src/lib.rt:73:22
 div-requires : tie.Need-div-requires
 div-requires c κs = search needs
 
--- src/lib.rt:74:22
 enum-told-5 : tie.Need-enum-told-5
 enum-told-5 c = search needs
 
--- src/lib.rt:74:22
 rem-requires : tie.Need-rem-requires
 rem-requires c κs = search needs
 
--- src/lib.rt:75:21
 enum-told-6 : tie.Need-enum-told-6
 enum-told-6 c = search needs
 
--- src/lib.rt:75:21
 lt-requires : tie.Need-lt-requires
 lt-requires c κs = search needs
 
--- src/lib.rt:76:21
 enum-told-7 : tie.Need-enum-told-7
 enum-told-7 c = search needs
 
--- src/lib.rt:76:21
 le-requires : tie.Need-le-requires
 le-requires c κs = search needs
 
--- src/lib.rt:77:21
 enum-told-8 : tie.Need-enum-told-8
 enum-told-8 c = search needs
 
--- src/lib.rt:77:21
 eq-requires : tie.Need-eq-requires
 eq-requires c κs = search needs
 
--- src/lib.rt:66:1
 returns : tie.Need-returns
 unfolding calculated
 returns c = let s = c .before .before .before in Rows.called added (s .fits .v) (s .fits .w) (c .add .ensures) ∙ Rows.calc-arm (s .args .v) (s .args .w) (c .before .enum-told .given .1)
 
--- src/lib.rt:66:1
 returns-2 : tie.Need-returns-2
 unfolding calculated
 returns-2 c = let s = c .before .before .before in Rows.called subtracted (s .fits .v) (s .fits .w) (c .sub .ensures) ∙ Rows.calc-arm (s .args .v) (s .args .w) (c .before .enum-told2 .given .1)
 
--- src/lib.rt:66:1
 returns-3 : tie.Need-returns-3
 unfolding calculated
 returns-3 c = let s = c .before .before .before in Rows.called multiplied (s .fits .v) (s .fits .w) (c .mul .ensures) ∙ Rows.calc-arm (s .args .v) (s .args .w) (c .before .enum-told3 .given .1)
 
--- src/lib.rt:66:1
 returns-4 : tie.Need-returns-4
 unfolding calculated
 returns-4 c = let s = c .before .before .before in Rows.called divided (s .fits .v) (s .fits .w) (c .div .ensures) ∙ Rows.calc-arm (s .args .v) (s .args .w) (c .before .enum-told4 .given .1)
 
--- src/lib.rt:66:1
 returns-5 : tie.Need-returns-5
 unfolding calculated
 returns-5 c = let s = c .before .before .before in Rows.called remainder (s .fits .v) (s .fits .w) (c .rem .ensures) ∙ Rows.calc-arm (s .args .v) (s .args .w) (c .before .enum-told5 .given .1)
 
--- src/lib.rt:66:1
 returns-6 : tie.Need-returns-6
 unfolding calculated
 returns-6 c = let s = c .before .before .before in Rows.called less (s .fits .v) (s .fits .w) (c .lt .ensures) ∙ Rows.calc-arm (s .args .v) (s .args .w) (c .before .enum-told6 .given .1)
 
--- src/lib.rt:66:1
 returns-7 : tie.Need-returns-7
 unfolding calculated
 returns-7 c = let s = c .before .before .before in Rows.called atMost (s .fits .v) (s .fits .w) (c .le .ensures) ∙ Rows.calc-arm (s .args .v) (s .args .w) (c .before .enum-told7 .given .1)
 
--- src/lib.rt:66:1
 returns-8 : tie.Need-returns-8
 unfolding calculated
 returns-8 c = let s = c .before .before .before in Rows.called equal (s .fits .v) (s .fits .w) (c .eq .ensures) ∙ Rows.calc-arm (s .args .v) (s .args .w) (c .before .enum-told8 .given .1)

@@ -10,11 +10,9 @@ use Rattle.table.proofs.is_zero.Reads as reads
 use Rattle.table.proofs.is_zero.Lts as lts
 use Rattle.num.proofs.bits.Reads as bits-reads
 
--- src/lib.rt:97:5
 bits-requires : tie.Need-bits-requires
 bits-requires c κs = search needs
 
--- src/lib.rt:94:1
 returns : tie.Need-returns
 returns c = ap (λ (u : ℕ). lib.Dec.eqb u 0) (c .bits .ensures ∙ ap (mir.Val.ofZ w64) (toZ-ofZ (c .before .fits .v))) ∙ Rows.zero-bits (c .before .args .v) (c .before .fits .v)
 

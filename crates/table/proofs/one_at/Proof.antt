@@ -16,71 +16,55 @@ use Rattle.num.proofs.add.Reads as add-reads
 use Rattle.num.proofs.neg.Reads as neg-reads
 use Rattle.table.proofs.value_of.Reads as value-of-reads
 
--- src/lib.rt:55:22
 enum-known-x : tie.Need-enum-known-x
 enum-known-x c = search needs
 
--- src/lib.rt:56:9
 enum-told : tie.Need-enum-told
 enum-told c = search needs
 
--- src/lib.rt:56:9
 returns : tie.Need-returns
 unfolding one-at
 returns c = Rows.one-arm (c .before .before .args .t) (refl {a = c .before .before .args .f}) (c .enum-told .given .1)
 
--- src/lib.rt:59:37
 enum-told-2 : tie.Need-enum-told-2
 enum-told-2 c = search needs
 
--- src/lib.rt:59:37
 cast-t8 : tie.Need-cast-t8
 cast-t8 c = search needs
 
--- src/lib.rt:60:20
 enum-known-f : tie.Need-enum-known-f
 enum-known-f c = search needs
 
--- src/lib.rt:61:21
 enum-known-f-2 : tie.Need-enum-known-f-2
 enum-known-f-2 c = search needs
 
--- src/lib.rt:61:36
 add-requires : tie.Need-add-requires
 add-requires c κs = search needs
 
--- src/lib.rt:61:27
 value-of-requires : tie.Need-value-of-requires
 value-of-requires c κs = search needs
 
--- src/lib.rt:62:32
 enum-told-3 : tie.Need-enum-told-3
 enum-told-3 c = search needs
 
--- src/lib.rt:62:32
 neg-requires : tie.Need-neg-requires
 neg-requires c κs = search needs
 
--- src/lib.rt:62:23
 value-of-requires-2 : tie.Need-value-of-requires-2
 value-of-requires-2 c κs = search needs
 
--- src/lib.rt:51:1
 returns-2 : tie.Need-returns-2
 unfolding one-at
 returns-2 c = let h : c .before .before .before .before .before .args .t < 2 ^ 63 = omega arith in ap some (toZ-pos w64 h) ∙ Rows.one-arm (c .before .before .before .before .before .args .t) (c .enum-told2 .given .1) (c .before .before .before .x .given .1)
 
--- src/lib.rt:51:1
 returns-3 : tie.Need-returns-3
 unfolding one-at
 returns-3 c = ap some (Rows.back (c .before .f .given .0 .0) (c .known-told2 .given .0 .1)) ∙ Rows.one-arm (c .before .before .before .before .before .before .args .t) (c .before .f .given .1) (c .before .before .before .before .x .given .1)
 
--- src/lib.rt:51:1
 returns-4 : tie.Need-returns-4
 unfolding one-at
 returns-4 c = let v = c .before .before .before .before .before .before .x .given .0 .0 in let ev = Rows.back v (c .before .before .before .before .before .known-told .given .0 .1) in let k = c .before .before .before .f2 .given .0 .0 in c .value-of .ensures ∙ ap valueOf (c .before .add .ensures ∙ ap₂ added ev (Rows.back k (c .before .before .known-told3 .given .0 .1))) ∙ Rows.one-arm (c .before .before .before .before .before .before .before .before .args .t) (c .before .before .before .f2 .given .1) (c .before .before .before .before .before .before .x .given .1)
 
--- src/lib.rt:51:1
 returns-5 : tie.Need-returns-5
 unfolding one-at
 returns-5 c = let v = c .before .before .before .before .before .x .given .0 .0 in let ev = Rows.back v (c .before .before .before .before .known-told .given .0 .1) in c .value-of2 .ensures ∙ ap valueOf (c .before .neg .ensures ∙ ap negated ev) ∙ Rows.one-arm (c .before .before .before .before .before .before .before .args .t) (c .before .before .enum-told3 .given .1) (c .before .before .before .before .before .x .given .1)

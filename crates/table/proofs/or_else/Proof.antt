@@ -1,6 +1,6 @@
 use mathlib.Core.Path.{ap, _∙_}
 use mathlib.Core.Option.{some}
-use Rattle.held.specs.Found.{asOption}
+use Rattle.queue.specs.Found.{asOption}
 use Rattle.table.proofs.Rows
 use borrow.Author.Needs.{needs}
 use Rattle.table.proofs.or_else.Statement.{statement}
@@ -8,19 +8,15 @@ use Rattle.table.proofs.or_else.Tie as tie
 use Rattle.table.proofs.or_else.Reads as reads
 use Rattle.table.proofs.or_else.Lts as lts
 
--- src/lib.rt:121:22
 enum-known-x : tie.Need-enum-known-x
 enum-known-x c = search needs
 
--- src/lib.rt:122:27
 enum-told : tie.Need-enum-told
 enum-told c = search needs
 
--- src/lib.rt:117:1
 returns : tie.Need-returns
 returns c = ap some (Rows.back (c .before .x .given .0 .0) (c .known-told .given .0 .1)) ∙ Rows.or-arm (asOption (c .before .before .before .args .y)) (c .before .x .given .1)
 
--- src/lib.rt:117:1
 returns-2 : tie.Need-returns-2
 returns-2 c = Rows.or-arm (asOption (c .before .before .args .y)) (c .enum-told .given .1)
 

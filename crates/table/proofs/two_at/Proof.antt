@@ -1,5 +1,5 @@
 use mathlib.Core.Path.{_∙_}
-use Rattle.held.specs.Found.{asOption}
+use Rattle.queue.specs.Found.{asOption}
 use Rattle.table.proofs.Rows
 use borrow.Author.Needs.{needs}
 use Rattle.table.proofs.two_at.Statement.{statement}
@@ -10,39 +10,30 @@ use Rattle.table.proofs.calc_at.Reads as calc-at-reads
 use Rattle.table.proofs.keep_at.Reads as keep-at-reads
 use Rattle.table.proofs.or_else.Reads as or-else-reads
 
--- src/lib.rt:131:23
 enum-known-g : tie.Need-enum-known-g
 enum-known-g c = search needs
 
--- src/lib.rt:131:29
 calc-at-requires : tie.Need-calc-at-requires
 calc-at-requires c κs = search needs
 
--- src/lib.rt:132:25
 enum-told : tie.Need-enum-told
 enum-told c = search needs
 
--- src/lib.rt:132:25
 keep-at-requires : tie.Need-keep-at-requires
 keep-at-requires c κs = search needs
 
--- src/lib.rt:133:26
 enum-told-2 : tie.Need-enum-told-2
 enum-told-2 c = search needs
 
--- src/lib.rt:133:26
 or-else-requires : tie.Need-or-else-requires
 or-else-requires c κs = search needs
 
--- src/lib.rt:127:1
 returns : tie.Need-returns
 returns c = let x = asOption (c .before .before .before .before .args .x) in let y = asOption (c .before .before .before .before .args .y) in c .calc-at .ensures ∙ Rows.group-arm x y (c .before .before .g .given .1)
 
--- src/lib.rt:127:1
 returns-2 : tie.Need-returns-2
 returns-2 c = let x = asOption (c .before .before .before .args .x) in let y = asOption (c .before .before .before .args .y) in c .keep-at .ensures ∙ Rows.group-arm x y (c .before .enum-told .given .1)
 
--- src/lib.rt:127:1
 returns-3 : tie.Need-returns-3
 returns-3 c = let x = asOption (c .before .before .before .args .x) in let y = asOption (c .before .before .before .args .y) in c .or-else .ensures ∙ Rows.merge-is x y ∙ Rows.group-arm x y (c .before .enum-told2 .given .1)
 

@@ -8,29 +8,23 @@ use Rattle.table.proofs.value_of.Tie as tie
 use Rattle.table.proofs.value_of.Reads as reads
 use Rattle.table.proofs.value_of.Lts as lts
 
--- src/lib.rt:44:23
 enum-known-x : tie.Need-enum-known-x
 enum-known-x c = search needs
 
--- src/lib.rt:45:28
 enum-told : tie.Need-enum-told
 enum-told c = search needs
 
--- src/lib.rt:46:32
 enum-told-2 : tie.Need-enum-told-2
 enum-told-2 c = search needs
 
--- src/lib.rt:40:1
 returns : tie.Need-returns
 unfolding valueOf
 returns c = ap some (Rows.back (c .before .x .given .0 .0) (c .known-told .given .0 .1)) ∙ Rows.value-arm (c .before .x .given .1)
 
--- src/lib.rt:40:1
 returns-2 : tie.Need-returns-2
 unfolding valueOf
 returns-2 c = Rows.value-arm (c .enum-told .given .1)
 
--- src/lib.rt:40:1
 returns-3 : tie.Need-returns-3
 unfolding valueOf
 returns-3 c = Rows.value-arm (c .enum-told2 .given .1)

@@ -1,6 +1,5 @@
 -- `text::field_lines` meets its contract.
 use mathlib.Core.Path.{sym, _∙_}
-use Prim.Native.Nat.{_-_}
 use Rattle.text.specs.Grammar.{fieldsAfter}
 use borrow.Author.Needs.{needs}
 use Rattle.text.proofs.field_lines.Statement.{statement}

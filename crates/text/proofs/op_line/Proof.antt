@@ -1,6 +1,5 @@
 -- `text::op_line` meets its contract.
 use mathlib.Core.Path.{sym, _∙_}
-use Prim.Native.Nat.{_-_}
 use denote.Ref.{now}
 use Rattle.text.specs.Grammar.{opLine}
 use Rattle.text.specs.Lookup.{numberPacked}

@@ -1,6 +1,5 @@
 -- `text::operator` meets its contract.
 use mathlib.Core.Path.{sym, ap}
-use Prim.Native.Nat.{_-_}
 use Rattle.text.specs.Lookup.{numberPacked, placePacked, pack}
 use Rattle.text.proofs.Names.{no-operator}
 use Rattle.text.proofs.operator.Statement.{statement}

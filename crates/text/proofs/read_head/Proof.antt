@@ -1,6 +1,5 @@
 -- `text::read_head` meets its contract.
 use mathlib.Core.Path.{sym, _∙_}
-use Prim.Native.Nat.{_-_}
 use Rattle.text.specs.Grammar.{head}
 use borrow.Author.Needs.{needs}
 use Rattle.text.proofs.read_head.Statement.{statement}

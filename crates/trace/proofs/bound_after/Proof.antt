@@ -1,6 +1,5 @@
 -- `trace::bound_after` meets its contract.
 use mathlib.Core.Path.{sym, _∙_}
-use Prim.Native.Nat.{_-_}
 use Rattle.trace.specs.Trace.{boundAfter}
 use borrow.Author.Needs.{needs}
 use Rattle.trace.proofs.bound_after.Statement.{statement}

@@ -1,6 +1,5 @@
 -- `trace::input_after` meets its contract.
 use mathlib.Core.Path.{sym, _∙_}
-use Prim.Native.Nat.{_-_}
 use Rattle.trace.specs.Trace.{inputAfter}
 use borrow.Author.Needs.{needs}
 use Rattle.trace.proofs.input_after.Statement.{statement}

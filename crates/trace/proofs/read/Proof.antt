@@ -1,6 +1,5 @@
 -- `trace::read` meets its contract.
 use mathlib.Core.Path.{sym, _∙_}
-use Prim.Native.Nat.{_-_}
 use denote.Ref.{now}
 use Rattle.trace.specs.Trace.{line}
 use Rattle.trace.proofs.Bounds.{whole-small}

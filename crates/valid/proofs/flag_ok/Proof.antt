@@ -5,11 +5,9 @@ use Rattle.valid.proofs.flag_ok.Tie as tie
 use Rattle.valid.proofs.flag_ok.Reads as reads
 use Rattle.valid.proofs.flag_ok.Lts as lts
 
--- src/lib.rt:126:9
 returns : tie.Need-returns
 returns c = rw (eq-eqb (c .before .args .has) 0 (c .if1 .taken))
 
--- src/lib.rt:122:1
 returns-2 : tie.Need-returns-2
 returns-2 c = rw (ne-eqb (c .before .args .has) 0 (c .if1 .left))
 

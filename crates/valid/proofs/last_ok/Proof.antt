@@ -17,59 +17,46 @@ use Rattle.layout.proofs.word_at.Reads as word-at-reads
 use Rattle.valid.proofs.flag_ok.Reads as flag-ok-reads
 use Rattle.valid.proofs.none_if.Reads as none-if-reads
 
--- src/lib.rt:167:9
 byte-at-requires : tie.Need-byte-at-requires
 byte-at-requires c κs = search needs
 
--- src/lib.rt:168:23
 word-at-requires : tie.Need-word-at-requires
 word-at-requires c κs = search needs
 
--- src/lib.rt:168:9
 flag-ok-requires : tie.Need-flag-ok-requires
 flag-ok-requires c κs = search needs
 
--- src/lib.rt:169:9
 returns : tie.Need-returns
 unfolding lastOk
 returns c = let a = c .before .before .before .before .before .args in let p = now (a .r) in let r = decRaw p in Tests.stop (flagOk (num flagF r) (num keptF r)) (c .before .flag-ok .result) ((noneIf (num boundF r) (num flagF r)) && (eqb (num priorFlagF r) 0 && (eqb (num valueF r) 0 && (eqb (num priorF r) 0)))) (c .before .flag-ok .ensures ∙ ap₂ flagOk (c .before .before .before .byte-at .ensures .0) (c .before .before .word-at .ensures)) (c .if1 .taken)
 
--- src/lib.rt:171:17
 word-at-requires-2 : tie.Need-word-at-requires-2
 word-at-requires-2 c κs = search needs
 
--- src/lib.rt:171:9
 none-if-requires : tie.Need-none-if-requires
 none-if-requires c κs = search needs
 
--- src/lib.rt:172:9
 returns-2 : tie.Need-returns-2
 unfolding lastOk
 returns-2 c = let a = c .before .before .before .before .before .before .before .before .args in let p = now (a .r) in let r = decRaw p in Tests.pass (flagOk (num flagF r) (num keptF r)) (c .before .before .before .before .flag-ok .result) ((noneIf (num boundF r) (num flagF r)) && (eqb (num priorFlagF r) 0 && (eqb (num valueF r) 0 && (eqb (num priorF r) 0)))) _ (c .before .before .before .before .flag-ok .ensures ∙ ap₂ flagOk (c .before .before .before .before .before .before .byte-at .ensures .0) (c .before .before .before .before .before .word-at .ensures)) (c .before .before .before .if1 .left) (Tests.stop (noneIf (num boundF r) (num flagF r)) (c .before .none-if .result) (eqb (num priorFlagF r) 0 && (eqb (num valueF r) 0 && (eqb (num priorF r) 0))) (c .before .none-if .ensures ∙ ap₂ noneIf (c .before .before .word-at2 .ensures) (c .before .before .before .before .before .before .byte-at .ensures .0)) (c .if2 .taken))
 
--- src/lib.rt:174:9
 byte-at-requires-2 : tie.Need-byte-at-requires-2
 byte-at-requires-2 c κs = search needs
 
--- src/lib.rt:176:9
 returns-3 : tie.Need-returns-3
 unfolding lastOk
 returns-3 c = let a = c .before .before .before .before .before .before .before .before .before .before .args in let p = now (a .r) in let r = decRaw p in Tests.pass (flagOk (num flagF r) (num keptF r)) (c .before .before .before .before .before .before .flag-ok .result) ((noneIf (num boundF r) (num flagF r)) && (eqb (num priorFlagF r) 0 && (eqb (num valueF r) 0 && (eqb (num priorF r) 0)))) _ (c .before .before .before .before .before .before .flag-ok .ensures ∙ ap₂ flagOk (c .before .before .before .before .before .before .before .before .byte-at .ensures .0) (c .before .before .before .before .before .before .before .word-at .ensures)) (c .before .before .before .before .before .if1 .left) (Tests.pass (noneIf (num boundF r) (num flagF r)) (c .before .before .before .none-if .result) (eqb (num priorFlagF r) 0 && (eqb (num valueF r) 0 && (eqb (num priorF r) 0))) _ (c .before .before .before .none-if .ensures ∙ ap₂ noneIf (c .before .before .before .before .word-at2 .ensures) (c .before .before .before .before .before .before .before .before .byte-at .ensures .0)) (c .before .before .if2 .left) (Tests.stop-eq (num priorFlagF r) 0 (eqb (num valueF r) 0 && (eqb (num priorF r) 0)) (λ e. c .if3 .taken (c .before .byte-at2 .ensures .0 ∙ e))))
 
--- src/lib.rt:178:9
 word-at-requires-3 : tie.Need-word-at-requires-3
 word-at-requires-3 c κs = search needs
 
--- src/lib.rt:180:9
 returns-4 : tie.Need-returns-4
 unfolding lastOk
 returns-4 c = let a = c .before .before .before .before .before .before .before .before .before .before .before .before .args in let p = now (a .r) in let r = decRaw p in Tests.pass (flagOk (num flagF r) (num keptF r)) (c .before .before .before .before .before .before .before .before .flag-ok .result) ((noneIf (num boundF r) (num flagF r)) && (eqb (num priorFlagF r) 0 && (eqb (num valueF r) 0 && (eqb (num priorF r) 0)))) _ (c .before .before .before .before .before .before .before .before .flag-ok .ensures ∙ ap₂ flagOk (c .before .before .before .before .before .before .before .before .before .before .byte-at .ensures .0) (c .before .before .before .before .before .before .before .before .before .word-at .ensures)) (c .before .before .before .before .before .before .before .if1 .left) (Tests.pass (noneIf (num boundF r) (num flagF r)) (c .before .before .before .before .before .none-if .result) (eqb (num priorFlagF r) 0 && (eqb (num valueF r) 0 && (eqb (num priorF r) 0))) _ (c .before .before .before .before .before .none-if .ensures ∙ ap₂ noneIf (c .before .before .before .before .before .before .word-at2 .ensures) (c .before .before .before .before .before .before .before .before .before .before .byte-at .ensures .0)) (c .before .before .before .before .if2 .left) (Tests.pass-eq (num priorFlagF r) 0 (eqb (num valueF r) 0 && (eqb (num priorF r) 0)) _ (omega arith) (Tests.stop-eq (num valueF r) 0 (eqb (num priorF r) 0) (λ e. c .if4 .taken (c .before .word-at3 .ensures ∙ e)))))
 
--- src/lib.rt:182:5
 word-at-requires-4 : tie.Need-word-at-requires-4
 word-at-requires-4 c κs = search needs
 
--- src/lib.rt:163:1
 returns-5 : tie.Need-returns-5
 unfolding lastOk
 returns-5 c = let a = c .before .before .before .before .before .before .before .before .before .before .before .before .before .args in let p = now (a .r) in let r = decRaw p in Tests.pass (flagOk (num flagF r) (num keptF r)) (c .before .before .before .before .before .before .before .before .before .flag-ok .result) ((noneIf (num boundF r) (num flagF r)) && (eqb (num priorFlagF r) 0 && (eqb (num valueF r) 0 && (eqb (num priorF r) 0)))) _ (c .before .before .before .before .before .before .before .before .before .flag-ok .ensures ∙ ap₂ flagOk (c .before .before .before .before .before .before .before .before .before .before .before .byte-at .ensures .0) (c .before .before .before .before .before .before .before .before .before .before .word-at .ensures)) (c .before .before .before .before .before .before .before .before .if1 .left) (Tests.pass (noneIf (num boundF r) (num flagF r)) (c .before .before .before .before .before .before .none-if .result) (eqb (num priorFlagF r) 0 && (eqb (num valueF r) 0 && (eqb (num priorF r) 0))) _ (c .before .before .before .before .before .before .none-if .ensures ∙ ap₂ noneIf (c .before .before .before .before .before .before .before .word-at2 .ensures) (c .before .before .before .before .before .before .before .before .before .before .before .byte-at .ensures .0)) (c .before .before .before .before .before .if2 .left) (Tests.pass-eq (num priorFlagF r) 0 (eqb (num valueF r) 0 && (eqb (num priorF r) 0)) _ (omega arith) (Tests.pass-eq (num valueF r) 0 (eqb (num priorF r) 0) _ (omega arith) (ap (λ (x : ℕ). eqb x 0) (c .word-at4 .ensures)))))

@@ -5,11 +5,9 @@ use Rattle.valid.proofs.next_ok.Tie as tie
 use Rattle.valid.proofs.next_ok.Reads as reads
 use Rattle.valid.proofs.next_ok.Lts as lts
 
--- src/lib.rt:77:9
 returns : tie.Need-returns
 returns c = rw (eq-eqb (c .before .args .out) 0 (c .if1 .taken))
 
--- src/lib.rt:73:1
 returns-2 : tie.Need-returns-2
 returns-2 c = rw (ne-eqb (c .before .args .out) 0 (c .if1 .left))
 

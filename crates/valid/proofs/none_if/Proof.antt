@@ -5,11 +5,9 @@ use Rattle.valid.proofs.none_if.Tie as tie
 use Rattle.valid.proofs.none_if.Reads as reads
 use Rattle.valid.proofs.none_if.Lts as lts
 
--- src/lib.rt:135:9
 returns : tie.Need-returns
 returns c = rw (eq-eqb (c .before .args .a) 0 (c .if1 .taken))
 
--- src/lib.rt:131:1
 returns-2 : tie.Need-returns-2
 returns-2 c = rw (ne-eqb (c .before .args .a) 0 (c .if1 .left))
 

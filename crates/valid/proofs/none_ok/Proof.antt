@@ -15,47 +15,37 @@ use Rattle.valid.proofs.none_ok.Lts as lts
 use Rattle.layout.proofs.byte_at.Reads as byte-at-reads
 use Rattle.layout.proofs.word_at.Reads as word-at-reads
 
--- src/lib.rt:144:9
 byte-at-requires : tie.Need-byte-at-requires
 byte-at-requires c κs = search needs
 
--- src/lib.rt:146:9
 returns : tie.Need-returns
 unfolding noneOk
 returns c = let a = c .before .before .before .args in let p = now (a .r) in let r = decRaw p in Tests.stop-eq (num flagF r) 0 (eqb (num priorFlagF r) 0 && (eqb (num keptF r) 0 && (eqb (num valueF r) 0 && (eqb (num priorF r) 0)))) (λ e. c .if1 .taken (c .before .byte-at .ensures .0 ∙ e))
 
--- src/lib.rt:148:9
 byte-at-requires-2 : tie.Need-byte-at-requires-2
 byte-at-requires-2 c κs = search needs
 
--- src/lib.rt:150:9
 returns-2 : tie.Need-returns-2
 unfolding noneOk
 returns-2 c = let a = c .before .before .before .before .before .args in let p = now (a .r) in let r = decRaw p in Tests.pass-eq (num flagF r) 0 (eqb (num priorFlagF r) 0 && (eqb (num keptF r) 0 && (eqb (num valueF r) 0 && (eqb (num priorF r) 0)))) _ (omega arith) (Tests.stop-eq (num priorFlagF r) 0 (eqb (num keptF r) 0 && (eqb (num valueF r) 0 && (eqb (num priorF r) 0))) (λ e. c .if2 .taken (c .before .byte-at2 .ensures .0 ∙ e)))
 
--- src/lib.rt:152:9
 word-at-requires : tie.Need-word-at-requires
 word-at-requires c κs = search needs
 
--- src/lib.rt:154:9
 returns-3 : tie.Need-returns-3
 unfolding noneOk
 returns-3 c = let a = c .before .before .before .before .before .before .before .args in let p = now (a .r) in let r = decRaw p in Tests.pass-eq (num flagF r) 0 (eqb (num priorFlagF r) 0 && (eqb (num keptF r) 0 && (eqb (num valueF r) 0 && (eqb (num priorF r) 0)))) _ (omega arith) (Tests.pass-eq (num priorFlagF r) 0 (eqb (num keptF r) 0 && (eqb (num valueF r) 0 && (eqb (num priorF r) 0))) _ (omega arith) (Tests.stop-eq (num keptF r) 0 (eqb (num valueF r) 0 && (eqb (num priorF r) 0)) (λ e. c .if3 .taken (c .before .word-at .ensures ∙ e))))
 
--- src/lib.rt:156:9
 word-at-requires-2 : tie.Need-word-at-requires-2
 word-at-requires-2 c κs = search needs
 
--- src/lib.rt:158:9
 returns-4 : tie.Need-returns-4
 unfolding noneOk
 returns-4 c = let a = c .before .before .before .before .before .before .before .before .before .args in let p = now (a .r) in let r = decRaw p in Tests.pass-eq (num flagF r) 0 (eqb (num priorFlagF r) 0 && (eqb (num keptF r) 0 && (eqb (num valueF r) 0 && (eqb (num priorF r) 0)))) _ (omega arith) (Tests.pass-eq (num priorFlagF r) 0 (eqb (num keptF r) 0 && (eqb (num valueF r) 0 && (eqb (num priorF r) 0))) _ (omega arith) (Tests.pass-eq (num keptF r) 0 (eqb (num valueF r) 0 && (eqb (num priorF r) 0)) _ (omega arith) (Tests.stop-eq (num valueF r) 0 (eqb (num priorF r) 0) (λ e. c .if4 .taken (c .before .word-at2 .ensures ∙ e)))))
 
--- src/lib.rt:160:5
 word-at-requires-3 : tie.Need-word-at-requires-3
 word-at-requires-3 c κs = search needs
 
--- src/lib.rt:140:1
 returns-5 : tie.Need-returns-5
 unfolding noneOk
 returns-5 c = let a = c .before .before .before .before .before .before .before .before .before .before .args in let p = now (a .r) in let r = decRaw p in Tests.pass-eq (num flagF r) 0 (eqb (num priorFlagF r) 0 && (eqb (num keptF r) 0 && (eqb (num valueF r) 0 && (eqb (num priorF r) 0)))) _ (omega arith) (Tests.pass-eq (num priorFlagF r) 0 (eqb (num keptF r) 0 && (eqb (num valueF r) 0 && (eqb (num priorF r) 0))) _ (omega arith) (Tests.pass-eq (num keptF r) 0 (eqb (num valueF r) 0 && (eqb (num priorF r) 0)) _ (omega arith) (Tests.pass-eq (num valueF r) 0 (eqb (num priorF r) 0) _ (omega arith) (ap (λ (x : ℕ). eqb x 0) (c .word-at3 .ensures)))))

@@ -21,35 +21,27 @@ Inv-loop r n top low₀ i₀ low i = (i ≤ n) × (low ≤ 4294967296) × (risen
 abbrev μ-loop : tie.MeasureT-loop
 μ-loop r n top low₀ i₀ low i = n - i
 
--- src/lib.rt:111:5
 loop-holds : tie.Need-loop-holds Inv-loop μ-loop
 loop-holds c = (omega arith, omega arith, simp sub-zero)
 
--- src/lib.rt:112:13
 stamp-at-requires : tie.Need-stamp-at-requires Inv-loop μ-loop
 stamp-at-requires c κs = (omega arith, omega arith)
 
--- src/lib.rt:114:13
 returns : tie.Need-returns Inv-loop μ-loop
 returns c = let a = c .before .before .before .before .before .args in let l = c .before .before .before .loop in let sl = decRaw (now (a .r)) .slots in let many = slots-many (now (a .r)) in let x = getD sl (l .i) noSlot .stamp in let turn = Tests.risen-turn (a .top) (l .low) (a .n) (l .i) sl (omega arith) (omega arith) in sym (turn ∙ rw (lt-leb (l .low) x (omega arith))) ∙ l .inv .2
 
--- src/lib.rt:116:15
 add-low : tie.Need-add-low Inv-loop μ-loop
 add-low c = omega arith
 
--- src/lib.rt:117:9
 add-i : tie.Need-add-i Inv-loop μ-loop
 add-i c = omega arith
 
--- src/lib.rt:111:5
 loop-less : tie.Need-loop-less Inv-loop μ-loop
 loop-less c = omega arith
 
--- src/lib.rt:111:5
 loop-again : tie.Need-loop-again Inv-loop μ-loop
 loop-again c = let a = c .before .before .before .before .before .args in let l = c .before .before .before .loop in let sl = decRaw (now (a .r)) .slots in let many = slots-many (now (a .r)) in let x = getD sl (l .i) noSlot .stamp in let turn = Tests.risen-turn (a .top) (l .low) (a .n) (l .i) sl (omega arith) (omega arith) in (omega arith, omega arith, ap (λ (j : ℕ). risen (a .top) (j + 1) (a .n - (l .i + 1)) (drop (l .i + 1) sl)) (c .before .stamp-at .ensures .0) ∙ sym (turn ∙ rw (le-leb (l .low) x (omega arith))) ∙ l .inv .2)
 
--- src/lib.rt:105:1
 returns-2 : tie.Need-returns-2 Inv-loop μ-loop
 returns-2 c = let a = c .before .before .before .args in let l = c .before .loop in let sl = decRaw (now (a .r)) .slots in sym (Tests.risen-none (a .top) (l .low) (a .n - l .i) (drop (l .i) sl) (omega arith)) ∙ l .inv .2
 

@@ -22,63 +22,49 @@ use Rattle.valid.proofs.plan_ok.Reads as plan-ok-reads
 use Rattle.valid.proofs.rises.Reads as rises-reads
 use Rattle.valid.proofs.sizes_ok.Reads as sizes-ok-reads
 
--- src/lib.rt:224:9
 plan-ok-requires : tie.Need-plan-ok-requires
 plan-ok-requires c κs = search needs
 
--- src/lib.rt:225:9
 returns : tie.Need-returns
 unfolding rowOk
 returns c = let a = c .before .before .before .args in let p = now (a .r) in let r = decRaw p in Tests.stop (planOk (a .n) r) (c .before .plan-ok .result) ((sizesOk r) && ((risen (num boundF r) 0 (num countF r) (r .slots)) && ((keptOk r) && (allZero (drop (64 + num countF r * 12) p))))) (c .before .plan-ok .ensures) (c .if1 .taken)
 
--- src/lib.rt:227:9
 sizes-ok-requires : tie.Need-sizes-ok-requires
 sizes-ok-requires c κs = search needs
 
--- src/lib.rt:228:9
 returns-2 : tie.Need-returns-2
 unfolding rowOk
 returns-2 c = let a = c .before .before .before .before .before .args in let p = now (a .r) in let r = decRaw p in Tests.pass (planOk (a .n) r) (c .before .before .before .plan-ok .result) ((sizesOk r) && ((risen (num boundF r) 0 (num countF r) (r .slots)) && ((keptOk r) && (allZero (drop (64 + num countF r * 12) p))))) _ (c .before .before .before .plan-ok .ensures) (c .before .before .if1 .left) (Tests.stop (sizesOk r) (c .before .sizes-ok .result) ((risen (num boundF r) 0 (num countF r) (r .slots)) && ((keptOk r) && (allZero (drop (64 + num countF r * 12) p)))) (c .before .sizes-ok .ensures) (c .if2 .taken))
 
--- src/lib.rt:230:17
 byte-at-requires : tie.Need-byte-at-requires
 byte-at-requires c κs = search needs
 
--- src/lib.rt:231:25
 word-at-requires : tie.Need-word-at-requires
 word-at-requires c κs = search needs
 
--- src/lib.rt:231:9
 rises-requires : tie.Need-rises-requires
 rises-requires c κs = let a = c .before .before .before .before .before .before .before .args in let p = now (a .r) in let r = decRaw p in let c16 = Tests.sizes-count r (sym (c .before .before .before .sizes-ok .ensures) ∙ not-false (c .before .before .before .sizes-ok .result) (c .before .before .if2 .left)) in omega arith
 
--- src/lib.rt:232:9
 returns-3 : tie.Need-returns-3
 unfolding rowOk
 returns-3 c = let a = c .before .before .before .before .before .before .before .before .before .args in let p = now (a .r) in let r = decRaw p in Tests.pass (planOk (a .n) r) (c .before .before .before .before .before .before .before .plan-ok .result) ((sizesOk r) && ((risen (num boundF r) 0 (num countF r) (r .slots)) && ((keptOk r) && (allZero (drop (64 + num countF r * 12) p))))) _ (c .before .before .before .before .before .before .before .plan-ok .ensures) (c .before .before .before .before .before .before .if1 .left) (Tests.pass (sizesOk r) (c .before .before .before .before .before .sizes-ok .result) ((risen (num boundF r) 0 (num countF r) (r .slots)) && ((keptOk r) && (allZero (drop (64 + num countF r * 12) p)))) _ (c .before .before .before .before .before .sizes-ok .ensures) (c .before .before .before .before .if2 .left) (Tests.stop (risen (num boundF r) 0 (num countF r) (r .slots)) (c .before .rises .result) ((keptOk r) && (allZero (drop (64 + num countF r * 12) p))) (c .before .rises .ensures ∙ ap₂ (λ (x y : ℕ). risen x 0 y (r .slots)) (c .before .before .word-at .ensures) (c .before .before .before .byte-at .ensures .0)) (c .if3 .taken)))
 
--- src/lib.rt:234:9
 kept-ok-requires : tie.Need-kept-ok-requires
 kept-ok-requires c κs = search needs
 
--- src/lib.rt:235:9
 returns-4 : tie.Need-returns-4
 unfolding rowOk
 returns-4 c = let a = c .before .before .before .before .before .before .before .before .before .before .before .args in let p = now (a .r) in let r = decRaw p in Tests.pass (planOk (a .n) r) (c .before .before .before .before .before .before .before .before .before .plan-ok .result) ((sizesOk r) && ((risen (num boundF r) 0 (num countF r) (r .slots)) && ((keptOk r) && (allZero (drop (64 + num countF r * 12) p))))) _ (c .before .before .before .before .before .before .before .before .before .plan-ok .ensures) (c .before .before .before .before .before .before .before .before .if1 .left) (Tests.pass (sizesOk r) (c .before .before .before .before .before .before .before .sizes-ok .result) ((risen (num boundF r) 0 (num countF r) (r .slots)) && ((keptOk r) && (allZero (drop (64 + num countF r * 12) p)))) _ (c .before .before .before .before .before .before .before .sizes-ok .ensures) (c .before .before .before .before .before .before .if2 .left) (Tests.pass (risen (num boundF r) 0 (num countF r) (r .slots)) (c .before .before .before .rises .result) ((keptOk r) && (allZero (drop (64 + num countF r * 12) p))) _ (c .before .before .before .rises .ensures ∙ ap₂ (λ (x y : ℕ). risen x 0 y (r .slots)) (c .before .before .before .before .word-at .ensures) (c .before .before .before .before .before .byte-at .ensures .0)) (c .before .before .if3 .left) (Tests.stop (keptOk r) (c .before .kept-ok .result) (allZero (drop (64 + num countF r * 12) p)) (c .before .kept-ok .ensures) (c .if4 .taken))))
 
--- src/lib.rt:237:23
 mul-zeros : tie.Need-mul-zeros
 mul-zeros c = search needs
 
--- src/lib.rt:237:18
 add-zeros : tie.Need-add-zeros
 add-zeros c = search needs
 
--- src/lib.rt:237:5
 zeros-requires : tie.Need-zeros-requires
 zeros-requires c κs = let a = c .before .before .before .before .before .before .before .before .before .before .before .args in let p = now (a .r) in let r = decRaw p in let c16 = Tests.sizes-count r (sym (c .before .before .before .before .before .before .before .sizes-ok .ensures) ∙ not-false (c .before .before .before .before .before .before .before .sizes-ok .result) (c .before .before .before .before .before .before .if2 .left)) in omega arith
 
--- src/lib.rt:220:1
 returns-5 : tie.Need-returns-5
 unfolding rowOk
 returns-5 c = let a = c .before .before .before .before .before .before .before .before .before .before .before .before .args in let p = now (a .r) in let r = decRaw p in Tests.pass (planOk (a .n) r) (c .before .before .before .before .before .before .before .before .before .before .plan-ok .result) ((sizesOk r) && ((risen (num boundF r) 0 (num countF r) (r .slots)) && ((keptOk r) && (allZero (drop (64 + num countF r * 12) p))))) _ (c .before .before .before .before .before .before .before .before .before .before .plan-ok .ensures) (c .before .before .before .before .before .before .before .before .before .if1 .left) (Tests.pass (sizesOk r) (c .before .before .before .before .before .before .before .before .sizes-ok .result) ((risen (num boundF r) 0 (num countF r) (r .slots)) && ((keptOk r) && (allZero (drop (64 + num countF r * 12) p)))) _ (c .before .before .before .before .before .before .before .before .sizes-ok .ensures) (c .before .before .before .before .before .before .before .if2 .left) (Tests.pass (risen (num boundF r) 0 (num countF r) (r .slots)) (c .before .before .before .before .rises .result) ((keptOk r) && (allZero (drop (64 + num countF r * 12) p))) _ (c .before .before .before .before .rises .ensures ∙ ap₂ (λ (x y : ℕ). risen x 0 y (r .slots)) (c .before .before .before .before .before .word-at .ensures) (c .before .before .before .before .before .before .byte-at .ensures .0)) (c .before .before .before .if3 .left) (Tests.pass (keptOk r) (c .before .before .kept-ok .result) (allZero (drop (64 + num countF r * 12) p)) _ (c .before .before .kept-ok .ensures) (c .before .if4 .left) (c .zeros .ensures ∙ ap (λ (x : ℕ). allZero (drop (64 + x * 12) p)) (c .before .before .before .before .before .before .byte-at .ensures .0)))))

@@ -20,51 +20,39 @@ Inv-loop state n i₀ i = (i ≤ n) × (allRows (rowOk n) (n - i) (drop (i * 256
 abbrev μ-loop : tie.MeasureT-loop
 μ-loop state n i₀ i = n - i
 
--- src/lib.rt:246:5
 loop-holds : tie.Need-loop-holds Inv-loop μ-loop
 loop-holds c = (omega arith, simp sub-zero)
 
--- src/lib.rt:247:18
 mul-at : tie.Need-mul-at Inv-loop μ-loop
 mul-at c = omega arith
 
--- src/lib.rt:248:19
 add-end : tie.Need-add-end Inv-loop μ-loop
 add-end c = omega arith
 
--- src/lib.rt:249:20
 sub-row-ok : tie.Need-sub-row-ok Inv-loop μ-loop
 sub-row-ok c = omega arith
 
--- src/lib.rt:249:20
 part-row-ok-start : tie.Need-part-row-ok-start Inv-loop μ-loop
 part-row-ok-start c = omega arith
 
--- src/lib.rt:249:20
 part-row-ok-end : tie.Need-part-row-ok-end Inv-loop μ-loop
 part-row-ok-end c = omega arith
 
--- src/lib.rt:249:13
 row-ok-requires : tie.Need-row-ok-requires Inv-loop μ-loop
 row-ok-requires c κs = let a = c .before .before .before .before .args in let l = c .before .before .loop in row-len (a .n) (now (a .state)) (l .i) (omega arith) (omega arith)
 
--- src/lib.rt:250:13
 returns : tie.Need-returns Inv-loop μ-loop
 returns c = let a = c .before .before .before .before .before .before .args in let l = c .before .before .before .before .loop in let s = now (a .state) in let k = l .i * 256 + 256 - l .i * 256 in let turn = Tests.rows-turn (rowOk (a .n)) (a .n) (l .i) k s (omega arith) (omega arith) in sym (turn ∙ rw (sym (c .before .row-ok .ensures) ∙ not-true (c .before .row-ok .result) (c .if1 .taken))) ∙ l .inv .1
 
--- src/lib.rt:252:9
 add-i : tie.Need-add-i Inv-loop μ-loop
 add-i c = omega arith
 
--- src/lib.rt:246:5
 loop-less : tie.Need-loop-less Inv-loop μ-loop
 loop-less c = omega arith
 
--- src/lib.rt:246:5
 loop-again : tie.Need-loop-again Inv-loop μ-loop
 loop-again c = let a = c .before .before .before .before .before .before .args in let l = c .before .before .before .before .loop in let s = now (a .state) in let k = l .i * 256 + 256 - l .i * 256 in let turn = Tests.rows-turn (rowOk (a .n)) (a .n) (l .i) k s (omega arith) (omega arith) in (omega arith, sym (turn ∙ rw (sym (c .before .row-ok .ensures) ∙ not-false (c .before .row-ok .result) (c .if1 .left))) ∙ l .inv .1)
 
--- src/lib.rt:241:1
 returns-2 : tie.Need-returns-2 Inv-loop μ-loop
 returns-2 c = let a = c .before .before .before .args in let l = c .before .loop in sym (Tests.rows-none (rowOk (a .n)) (a .n - l .i) (drop (l .i * 256) (now (a .state))) (omega arith)) ∙ l .inv .1
 
