@@ -14,11 +14,11 @@ use Rattle.layout.specs.Record.{Slot, Raw, noSlot, noRaw, headWidths, slotWidth
 use Rattle.machine.specs.State.{State}
 use Rattle.machine.specs.Calls.{Call, running, collecting, lowest, run, call}
 use Rattle.machine.proofs.Outcomes.{run-more, run-ends}
-use Rattle.cells.specs.View.{rawsOf, bytesOf}
+use Rattle.encoding.specs.View.{rawsOf, bytesOf}
 use Rattle.valid.specs.Valid.{valid}
-use Rattle.state.specs.In.{stateIn}
-use Rattle.state.proofs.Whole.{valid-bytes}
-use Rattle.running.specs.Reply.{Reply}
+use Rattle.roundtrip.specs.In.{stateIn}
+use Rattle.roundtrip.proofs.Whole.{valid-bytes}
+use Rattle.calls.specs.Reply.{Reply}
 use Rattle.engine.specs.Reply.{reply}
 use Rattle.engine.proofs.Replies.{reply-outcome, reply-none, reply-refused}
 

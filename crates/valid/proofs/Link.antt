@@ -27,7 +27,7 @@ use Rattle.cycle.proofs.Tied.{argsAt, cleared-acyclic}
 use Rattle.cycle.proofs.Graphs.{entry-length, entries-tied}
 use Rattle.layout.specs.Record.{Raw, noRaw, num, decRaw, decode, rowAt, opF, aF, bF, kF, outF, countF, boundF}
 use Rattle.layout.proofs.Laws.{row-at, rows-many, byte-get}
-use Rattle.cells.specs.Back.{toCell, stateOf}
+use Rattle.encoding.specs.Back.{toCell, stateOf}
 use Rattle.valid.specs.Valid.{planOk, sizesOk, risen, keptOk, rowOk, allRows, count, planIn, noted, clearIn}
 use Rattle.valid.proofs.Tests.{left, right, in-few}
 use Rattle.valid.proofs.Graph.{noted-length}

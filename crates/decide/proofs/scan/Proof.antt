@@ -4,7 +4,7 @@ use denote.Ref.{now}
 use Rattle.layout.specs.Record.{decRaw}
 use Rattle.layout.proofs.Slots.{slots-many}
 use Rattle.queue.proofs.Turns.{left, left-all}
-use Rattle.look.specs.Look.{equation, ownOf, argOf}
+use Rattle.streams.specs.Look.{equation, ownOf, argOf}
 use Rattle.decide.specs.Near.{searchIn}
 use Rattle.decide.proofs.Steps as step
 use borrow.Author.Needs.{needs}

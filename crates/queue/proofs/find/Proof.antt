@@ -9,7 +9,7 @@ use Rattle.layout.specs.Record.{decRaw}
 use Rattle.layout.proofs.Slots.{slots-many}
 use Rattle.meaning.specs.Events.{Event, found}
 use mathlib.Core.List.{List}
-use Rattle.cells.specs.Back.{heldOf}
+use Rattle.encoding.specs.Back.{heldOf}
 use Rattle.queue.proofs.Turns as turn
 use borrow.Author.Needs.{needs}
 use native.Mathlib.Omega.{arith}
