@@ -4,7 +4,7 @@ ghost use Prim.Native.Nat.{_+_, _*_, _<_};
 ghost use mathlib.Core.List.{[], _∷_};
 ghost use lib.Seq.{sets};
 ghost use lib.ListN.{length};
-ghost use Rattle.cycle.specs.Graph.{walked, followed, cleared, entryOf};
+ghost use Rattle.cycle.specs.Graph.{graphLength, walked, followed, cleared, entryOf};
 use operators::Group;
 use operators::Plan;
 
@@ -50,12 +50,14 @@ fn wide(x: u8) -> usize
 
 // Whether stream i is clear, followed at most this deep. A stream once found clear is not followed again.
 pub fn follow(graph: &mut [u8], i: u8, depth: u8) -> bool
+    requires { ⌜ length (now graph) ≡ graphLength ⌝ }
     ensures { λ r. ⌜ walked r (now (graph .exit)) ≡ followed depth i (now (graph .entry)) ⌝ }
 {
-    let at = 3 * wide(i);
-    if graph.len() <= at + 2 {
+    let stream = wide(i);
+    if Plan::MOST <= stream {
         return false;
     }
+    let at = 3 * stream;
     let how = graph[at];
     if how == CLEAR {
         return true;
@@ -81,6 +83,7 @@ pub fn follow(graph: &mut [u8], i: u8, depth: u8) -> bool
 
 // Whether all streams below n are clear, the last one followed first.
 pub fn clear(graph: &mut [u8], n: u8, depth: u8) -> bool
+    requires { ⌜ length (now graph) ≡ graphLength ⌝ }
     ensures { λ r. ⌜ walked r (now (graph .exit)) ≡ cleared depth n (now (graph .entry)) ⌝ }
 {
     let mut i = n;

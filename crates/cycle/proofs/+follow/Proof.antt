@@ -33,6 +33,14 @@ follow-wide-requires : (t : ℕ) → follow-lts.Need-wide-requires (
 ) (follow-at t) follow.Post
 follow-wide-requires t c κs = tt
 
+follow-returns : (t : ℕ) → follow-lts.Need-returns (
+  wide-reads.Asked,
+  wide-reads.Learnt,
+  follow-below t,
+  follow.Post,
+) (follow-at t) follow.Post
+follow-returns t c = absent (c .before .before .before .args .depth) (c .before .wide .result) (now (c .before .before .before .args .graph)) (omega arith) ∙ ap (λ (n : ℕ). followed (c .before .before .before .args .depth) n (now (c .before .before .before .args .graph))) (c .before .wide .ensures .0)
+
 follow-mul-at : (t : ℕ) → follow-lts.Need-mul-at (
   wide-reads.Asked,
   wide-reads.Learnt,
@@ -40,22 +48,6 @@ follow-mul-at : (t : ℕ) → follow-lts.Need-mul-at (
   follow.Post,
 ) (follow-at t) follow.Post
 follow-mul-at t c = omega arith
-
-follow-add-if1 : (t : ℕ) → follow-lts.Need-add-if1 (
-  wide-reads.Asked,
-  wide-reads.Learnt,
-  follow-below t,
-  follow.Post,
-) (follow-at t) follow.Post
-follow-add-if1 t c = search needs
-
-follow-returns : (t : ℕ) → follow-lts.Need-returns (
-  wide-reads.Asked,
-  wide-reads.Learnt,
-  follow-below t,
-  follow.Post,
-) (follow-at t) follow.Post
-follow-returns t c = absent (c .before .before .before .args .depth) (c .before .wide .result) (now (c .before .before .before .args .graph)) (c .if1 .taken) ∙ ap (λ (n : ℕ). followed (c .before .before .before .args .depth) n (now (c .before .before .before .args .graph))) (c .before .wide .ensures .0)
 
 follow-slice-read-how : (t : ℕ) → follow-lts.Need-slice-read-how (
   wide-reads.Asked,
@@ -235,9 +227,8 @@ pub +follow-spec : {M : Type 1} → statement M
     (follow-at t)
     follow.Post
     (follow-wide-requires t)
-    (follow-mul-at t)
-    (follow-add-if1 t)
     (follow-returns t)
+    (follow-mul-at t)
     (follow-slice-read-how t)
     (follow-returns-2 t)
     (follow-returns-3 t)
