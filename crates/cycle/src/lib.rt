@@ -4,7 +4,7 @@ ghost use Prim.Native.Nat.{_+_, _*_, _<_};
 ghost use mathlib.Core.List.{[], _∷_};
 ghost use lib.Seq.{sets};
 ghost use lib.ListN.{length};
-ghost use Rattle.cycle.specs.Graph.{graphLength, walked, followed, cleared, entryOf};
+ghost use Rattle.cycle.specs.Graph.{walked, followed, cleared, entryOf};
 use operators::Group;
 use operators::Plan;
 
@@ -49,8 +49,7 @@ fn wide(x: u8) -> usize
 }
 
 // Whether stream i is clear, followed at most this deep. A stream once found clear is not followed again.
-pub fn follow(graph: &mut [u8], i: u8, depth: u8) -> bool
-    requires { ⌜ length (now graph) ≡ graphLength ⌝ }
+pub fn follow(graph: &mut [u8; GRAPH], i: u8, depth: u8) -> bool
     ensures { λ r. ⌜ walked r (now (graph .exit)) ≡ followed depth i (now (graph .entry)) ⌝ }
 {
     let stream = wide(i);
@@ -82,8 +81,7 @@ pub fn follow(graph: &mut [u8], i: u8, depth: u8) -> bool
 }
 
 // Whether all streams below n are clear, the last one followed first.
-pub fn clear(graph: &mut [u8], n: u8, depth: u8) -> bool
-    requires { ⌜ length (now graph) ≡ graphLength ⌝ }
+pub fn clear(graph: &mut [u8; GRAPH], n: u8, depth: u8) -> bool
     ensures { λ r. ⌜ walked r (now (graph .exit)) ≡ cleared depth n (now (graph .entry)) ⌝ }
 {
     let mut i = n;
