@@ -49,13 +49,14 @@ fn wide(x: u8) -> usize
 }
 
 // Whether stream i is clear, followed at most this deep. A stream once found clear is not followed again.
-pub fn follow(graph: &mut [u8], i: u8, depth: u8) -> bool
+pub fn follow(graph: &mut [u8; GRAPH], i: u8, depth: u8) -> bool
     ensures { λ r. ⌜ walked r (now (graph .exit)) ≡ followed depth i (now (graph .entry)) ⌝ }
 {
-    let at = 3 * wide(i);
-    if graph.len() <= at + 2 {
+    let stream = wide(i);
+    if Plan::MOST <= stream {
         return false;
     }
+    let at = 3 * stream;
     let how = graph[at];
     if how == CLEAR {
         return true;
@@ -80,7 +81,7 @@ pub fn follow(graph: &mut [u8], i: u8, depth: u8) -> bool
 }
 
 // Whether all streams below n are clear, the last one followed first.
-pub fn clear(graph: &mut [u8], n: u8, depth: u8) -> bool
+pub fn clear(graph: &mut [u8; GRAPH], n: u8, depth: u8) -> bool
     ensures { λ r. ⌜ walked r (now (graph .exit)) ≡ cleared depth n (now (graph .entry)) ⌝ }
 {
     let mut i = n;

@@ -25,10 +25,10 @@ use Rattle.plan.specs.declared.Turn.{Turn}
 use Rattle.plan.specs.declared.Turn.the-variants as Turn
 use Rattle.plan.specs.Rules.{keeps, allKeep, Form, refused, formed}
 
--- the arguments of stream i; one that breaks rule 5 is noted without any, since the text is refused anyway
+-- what is noted of stream i: nothing if it breaks rule 5, since the text is refused anyway
 abbrev pub entryIf : Bool → Fields → List ℕ
 entryIf true f = entryOf (f .op) (f .a) (f .b)
-entryIf false f = entryOf 0 0 0
+entryIf false f = []
 
 unfoldable pub notedStream : ℕ → ℕ → Fields → List ℕ → List ℕ
 notedStream n i f g = sets g (3 * i) (entryIf (keeps n f) f)

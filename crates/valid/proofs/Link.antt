@@ -149,7 +149,7 @@ clear-is cap s n h ok l =
     let pl = plan-length n s in
     let gl : length g ≡ graphLength = noted-length n s (replicate graphLength 0) in
     ap (λ (m : ℕ). cleared cap m g .isClear) (sym pl)
-    ∙ cleared-acyclic plan (λ i k. below i (omega arith)) cap g
+    ∙ cleared-acyclic plan (omega arith) (λ i k. below i (omega arith)) cap g
     (entries-tied plan g (omega arith) (λ i j k m. byte i j (omega arith) m))
   where
     facts : (i : ℕ) → i < n → PlanFacts n (decRaw (part s (i * 256) 256))
