@@ -12,11 +12,11 @@ ghost use Rattle.events.specs.Near.{keeping, holding};
 ghost use Rattle.decide.specs.Search.{dueAt};
 ghost use Rattle.decide.specs.Near.{testIn, nearerIn, candidateIn, searchIn, reachIn, firstIn, nextIn, toNext, knownTo};
 use limits::Bound;
+use queue::Found;
 use streams::Kept;
 use streams::Look;
 use streams::Op;
 use streams::Stream;
-use queue::Found;
 
 // What a move finds: an event, or silence up to a bound.
 pub enum Next {

@@ -9,10 +9,10 @@ ghost use Rattle.layout.specs.Record.{decRaw};
 ghost use Rattle.encoding.specs.Back.{heldOf};
 ghost use Rattle.queue.specs.Found.{asOption};
 ghost use Rattle.events.specs.Near.{keeping, holding, size, givesIn};
+use queue::Found;
 use streams::Kept;
 use streams::Look;
 use streams::Op;
-use queue::Found;
 
 // One less, and 0 of 0.
 pub fn before(z: u64) -> u64

@@ -13,9 +13,9 @@ ghost use Rattle.queue.specs.Found.{asOption};
 ghost use Rattle.streams.specs.Look.{lookOf, equation, keptIn};
 ghost use Rattle.events.specs.Near.{holding};
 ghost use Rattle.keeping.specs.Keep.{movedCell, movedOf, valueKept, delayKept, keptRow};
+use queue::Found;
 use streams::Kept;
 use streams::Op;
-use queue::Found;
 
 // last: the first argument's latest event below the bound y, held or kept.
 fn absorb_last(k: Kept, y: u64, a: &[u8]) -> Kept

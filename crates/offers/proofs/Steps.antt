@@ -1,4 +1,5 @@
 -- The steps of collect one after the other.
+use Rattle.machine.specs.State.{room}
 use Prim.Native.Nat.{ℕ, _+_, _<_}
 use mathlib.Core.Path.{_≡_}
 use mathlib.Core.List.{List}
@@ -10,12 +11,12 @@ use Rattle.layout.proofs.Laws.{RawOk, SlotOk, raws-ok, row-ok, change-ok, num-o
 use Rattle.readers.specs.Step.{releasedRow}
 use Rattle.offers.specs.Numbers.{collectedRaw}
 
-marked-ok : (j : ℕ) → j < 16 → (r : Raw) → RawOk r → RawOk (withNum nextF (slotAt j r .stamp + 1) r)
+marked-ok : (j : ℕ) → j < room → (r : Raw) → RawOk r → RawOk (withNum nextF (slotAt j r .stamp + 1) r)
 marked-ok j h r ok =
     let s : SlotOk (slotAt j r) = all-at SlotOk (r .slots) j noSlot (ok .good) (rw (ok .many) h) in
     num-ok r nextF (slotAt j r .stamp + 1) ok (omega (arith, s .0))
 
-pub collect-is : (n : ℕ) (s s₁ s₂ : List ℕ) (i j : ℕ) → Bytes s → i < n → j < 16
+pub collect-is : (n : ℕ) (s s₁ s₂ : List ℕ) (i j : ℕ) → Bytes s → i < n → j < room
     → s₁ ≡ encode n (change i (λ r. withNum nextF (slotAt j r .stamp + 1) r) (decode n s)) → s₂ ≡ encode n (releasedRow i (decode n s₁))
     → s₂ ≡ encode n (collectedRaw i j (decode n s))
 unfolding collectedRaw

@@ -1,11 +1,11 @@
 -- What the pass notes of a plan that keeps rule 5 is the plan's graph, and so the code's test decides rule 6.
-use Prim.Native.Nat.{ℕ, zero, suc, _+_, _*_, _-_, _<_, _≤_}
+use Prim.Native.Nat.{ℕ, zero, suc, _+_, _*_, _<_, _≤_}
 use mathlib.Core.Path.{_≡_, refl, sym, ap, _∙_, subst}
 use mathlib.Core.Bool.{true}
 use mathlib.Core.List.{List, [], _∷_, _++_, append-assoc}
 use native.Mathlib.Omega.{arith}
 use Rattle.operators.proofs.Tests.{left, right}
-use lib.ListN.{length, drop, replicate, length-append, length-map, length-drop, length-replicate}
+use lib.ListN.{length, drop, length-append, length-map, length-drop}
 use lib.Seq.{sets-eq, take-at, drop-append-add, drop-drop}
 use mir.Syntax.{w64}
 use mir.Val.{toZ}

@@ -1,4 +1,5 @@
 -- What a call leaves is bytes, or no state; a run without a move and a refused collect leave the buffer as it is.
+use Rattle.machine.specs.State.{room}
 use Prim.Native.Nat.{ℕ, zero, suc, _*_, _-_}
 use mathlib.Core.Path.{_≡_, refl, sym, ap, _∙_}
 use mathlib.Core.Logic.{_⊎_, inl, inr}
@@ -47,7 +48,7 @@ slot-bytes e = fields-bytes slotWidths (slotNums e)
 
 raw-bytes : (r : Raw) → Bytes (encRaw r)
 unfolding encRaw
-raw-bytes r = append-bytes (encFields headWidths (r .nums)) (encRows encSlot noSlot 16 (r .slots)) (fields-bytes headWidths (r .nums)) (rows-bytes encSlot noSlot slot-bytes 16 (r .slots))
+raw-bytes r = append-bytes (encFields headWidths (r .nums)) (encRows encSlot noSlot room (r .slots)) (fields-bytes headWidths (r .nums)) (rows-bytes encSlot noSlot slot-bytes 16 (r .slots))
 
 zero-bytes : (n : ℕ) → Bytes (replicate n 0)
 zero-bytes zero i = lit< tt

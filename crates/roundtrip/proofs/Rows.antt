@@ -1,5 +1,5 @@
 -- A record that passes is the record of the cell that it gives, and that cell is sound.
-use Prim.Native.Nat.{ℕ, zero, suc, _-_, _<_, _≤_, min}
+use Prim.Native.Nat.{ℕ, zero, suc, min}
 use mathlib.Core.Path.{_≡_, refl, sym, ap, _∙_, subst}
 use mathlib.Core.List.{List, [], _∷_, map}
 use mathlib.Core.Bool.{Bool, true, false, not, cond}

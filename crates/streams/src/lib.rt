@@ -15,11 +15,11 @@ ghost use Rattle.encoding.specs.Back as cells;
 ghost use Rattle.queue.specs.Found.{asOption};
 ghost use Rattle.apply.specs.Named.{unary, calculation, binary};
 ghost use Rattle.streams.specs.Look.{lookOf, equation, keptIn, Sound, Is, Within};
-use limits::Bound;
-use queue::Found;
 use apply::Binary;
 use apply::Calc;
 use apply::Unary;
+use limits::Bound;
+use queue::Found;
 
 // An equation's operator, with just the arguments that it uses.
 pub enum Op {

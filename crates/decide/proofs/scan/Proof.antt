@@ -1,3 +1,4 @@
+use Rattle.machine.specs.State.{room}
 use Prim.Native.Nat.{ℕ, _+_, _-_, _≤_}
 use mathlib.Core.Path.{_≡_, refl, sym, ap, _∙_}
 use denote.Ref.{now}
@@ -13,7 +14,7 @@ use Rattle.decide.proofs.scan.Statement.{statement}
 use Rattle.decide.proofs.scan.Tie as tie
 
 abbrev Inv-loop : tie.InvT-loop
-Inv-loop give l a b q hi n best₀ i₀ best i = (i ≤ n) × (n ≤ 16) × (best ≤ hi) × (searchIn give l a b best (left (decRaw q .slots) i n) ≡ searchIn give l a b hi (left (decRaw q .slots) 0 n))
+Inv-loop give l a b q hi n best₀ i₀ best i = (i ≤ n) × (n ≤ room) × (best ≤ hi) × (searchIn give l a b best (left (decRaw q .slots) i n) ≡ searchIn give l a b hi (left (decRaw q .slots) 0 n))
 
 abbrev μ-loop : tie.MeasureT-loop
 μ-loop give l a b q hi n best₀ i₀ best i = n - i

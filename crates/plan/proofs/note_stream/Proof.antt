@@ -1,6 +1,5 @@
 -- `plan::note_stream` meets its contract.
 use mathlib.Core.Path.{sym, _∙_}
-use Prim.Native.Nat.{_-_}
 use denote.Ref.{now}
 use borrow.Author.Tests.{not-true, not-false}
 use Rattle.plan.proofs.Pass.{noted-kept, noted-broken}

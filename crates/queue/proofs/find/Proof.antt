@@ -1,3 +1,4 @@
+use Rattle.machine.specs.State.{room}
 use Prim.Native.Nat.{_-_, _≤_}
 use mathlib.Core.Path.{_≡_, sym, ap, _∙_}
 use mathlib.Core.Option.{some}
@@ -23,7 +24,7 @@ use Rattle.num.proofs.of_bits.Reads as of-bits-reads
 use Rattle.queue.proofs.count.Reads as count-reads
 
 abbrev Inv-loop : tie.InvT-loop
-Inv-loop r t n i₀ i = (i ≤ n) × (n ≤ 16) × (found (turn.left (decRaw r .slots) i n) t ≡ found (heldOf (decRaw r)) t)
+Inv-loop r t n i₀ i = (i ≤ n) × (n ≤ room) × (found (turn.left (decRaw r .slots) i n) t ≡ found (heldOf (decRaw r)) t)
 
 abbrev μ-loop : tie.MeasureT-loop
 μ-loop r t n i₀ i = n - i

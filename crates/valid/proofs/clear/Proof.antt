@@ -1,5 +1,5 @@
 -- `valid::clear` meets its contract.
-use Prim.Native.Nat.{ℕ, _-_}
+use Prim.Native.Nat.{ℕ}
 use mathlib.Core.Path.{ap, _∙_}
 use mathlib.Core.List.{List}
 use Rattle.valid.specs.Valid.{clearIn}
