@@ -2,14 +2,15 @@
 use Prim.Native.Nat.{ℕ, zero, suc, _+_, _*_, _-_, _<_, _≤_}
 use mathlib.Core.Path.{_≡_, refl, sym, ap, _∙_}
 use mathlib.Core.List.{List, [], _∷_}
-use mathlib.Core.Bool.{Bool, true, false, not, cond}
+use mathlib.Core.Bool.{Bool, true, false, not, cond, _&&_}
 use native.Mathlib.Omega.{arith}
 use lib.ListN.{getD, set}
 use lib.Dec.{eqb}
 use lib.Seq.{sets}
-use borrow.Author.Tests.{eq-eqb, ne-eqb, lt-ltb, le-ltb, not-true, not-false}
+use borrow.Author.Tests.{eq-eqb, eqb-true, ne-eqb, lt-ltb, ltb-true, le-ltb, not-true, not-false}
 use Rattle.operators.specs.Limits.{mostStreams}
-use Rattle.cycle.specs.Graph.{Walk, walked, marked, both, followed, rest, cleared}
+use Rattle.operators.proofs.Tests.{left, right}
+use Rattle.cycle.specs.Graph.{Walk, present, walked, marked, both, followed, rest, cleared}
 
 -- a stream that the graph does not have
 pub absent : (d i : ℕ) (g : List ℕ) → mostStreams ≤ i → walked false g ≡ followed d i g
@@ -21,6 +22,11 @@ pub seen : (d i : ℕ) (g : List ℕ) → i < mostStreams → getD g (3 * i) 0 �
 unfolding followed
 seen zero i g h e = sym (rw (lt-ltb i mostStreams h, eq-eqb (getD g (3 * i) 0) 1 e))
 seen (suc d) i g h e = sym (rw (lt-ltb i mostStreams h, eq-eqb (getD g (3 * i) 0) 1 e))
+
+-- a stream found clear before
+pub found-clear : (d i : ℕ) (g : List ℕ) → (present i && eqb (getD g (3 * i) 0) 1) ≡ true → walked true g ≡ followed d i g
+found-clear d i g e =
+    seen d i g (ltb-true i mostStreams (left (present i) (eqb (getD g (3 * i) 0) 1) e)) (eqb-true (getD g (3 * i) 0) 1 (right (present i) (eqb (getD g (3 * i) 0) 1) e))
 
 module _ (d i : ℕ) (g : List ℕ) (h : i < mostStreams) (e : getD g (3 * i) 0 ≡ 1 → ⊥) where
   deep : (n : ℕ) → n ≡ 0 → walked false g ≡ followed n i g

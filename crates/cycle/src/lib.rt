@@ -3,8 +3,10 @@ ghost use mathlib.Core.Path.{_≡_};
 ghost use Prim.Native.Nat.{_+_, _*_, _<_};
 ghost use mathlib.Core.List.{[], _∷_};
 ghost use lib.Seq.{sets};
-ghost use lib.ListN.{length};
-ghost use Rattle.cycle.specs.Graph.{walked, followed, cleared, entryOf};
+ghost use lib.ListN.{length, getD};
+ghost use lib.Dec.{eqb};
+ghost use mathlib.Core.Bool.{_&&_};
+ghost use Rattle.cycle.specs.Graph.{present, walked, followed, cleared, entryOf};
 use operators::Group;
 use operators::Plan;
 
@@ -48,6 +50,17 @@ fn wide(x: u8) -> usize
     x as usize
 }
 
+// Whether stream i was found clear before.
+fn found(graph: &[u8; GRAPH], i: u8) -> bool
+    ensures { λ r. ⌜ r ≡ (present i && eqb (getD (now (graph .entry)) (3 * i) 0) 1) ⌝ }
+{
+    let stream = wide(i);
+    if Plan::MOST <= stream {
+        return false;
+    }
+    graph[3 * stream] == CLEAR
+}
+
 // Whether stream i is clear, followed at most this deep. A stream once found clear is not followed again.
 pub fn follow(graph: &mut [u8; GRAPH], i: u8, depth: u8) -> bool
     ensures { λ r. ⌜ walked r (now (graph .exit)) ≡ followed depth i (now (graph .entry)) ⌝ }
@@ -73,6 +86,10 @@ pub fn follow(graph: &mut [u8; GRAPH], i: u8, depth: u8) -> bool
         return false;
     }
     let b = graph[at + 2];
+    if found(graph, b) {
+        graph[at] = CLEAR;
+        return true;
+    }
     if !follow(graph, b, depth - 1) {
         return false;
     }
@@ -87,6 +104,9 @@ pub fn clear(graph: &mut [u8; GRAPH], n: u8, depth: u8) -> bool
     let mut i = n;
     while 0 < i {
         i -= 1;
+        if found(graph, i) {
+            continue;
+        }
         if !follow(graph, i, depth) {
             return false;
         }
