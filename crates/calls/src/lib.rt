@@ -1,159 +1,131 @@
-// The offers' and collect's refusals and steps, on the bytes of n records.
+// The five calls on a state: each asks for bytes that are one and promises that they still are, so that whoever makes several
+// calls tests the bytes once.
 ghost use mathlib.Core.Path.{_≡_};
-ghost use Prim.Native.Nat.{_*_, _+_, _≤_, _<_};
+ghost use mathlib.Core.Bool.{cond};
+ghost use Prim.Native.Nat.{_*_, _≤_};
+ghost use lib.Dec.{ltb};
 ghost use lib.ListN.{length};
-ghost use Rattle.machine.specs.State.{room};
-ghost use Rattle.layout.specs.Record as layout;
-ghost use Rattle.layout.specs.Record.{decRaw, encode, decode, withNum, boundF, nextF, rowAt, slotAt, change};
-ghost use Rattle.calls.specs.Numbers.{readingRow, readingRaw, progressRow, progressRaw, waitingSlot, collectRow, collectRaw, collectedRaw};
-use limits::Bound;
-use limits::Queue;
+ghost use Rattle.machine.specs.Step.{move};
+ghost use Rattle.machine.specs.Calls.{reading, progress, moving, running, collecting, lowest};
+ghost use Rattle.layout.specs.Record.{decode};
+ghost use Rattle.encoding.specs.View.{bytesOf};
+ghost use Rattle.roundtrip.specs.In.{stateIn, IsState};
+ghost use Rattle.calls.specs.Equation.{equationRaw};
+ghost use Rattle.calls.specs.Reply.{replyIn};
 
-fn reading_row(r: &[u8], t: u32) -> u32
-    requires { ⌜ length (now r) ≡ 256 ⌝ }
-    ensures { λ x. ⌜ x ≡ readingRow (decRaw (now (r .entry))) t ⌝ }
+// Offers a reading (stream, stamp, value) of an input.
+pub fn offer_reading(state: &mut [u8], n: usize, stream: u32, stamp: u32, value: i64) -> u32
+    requires { ⌜ IsState (now state) n ⌝ }
+    ensures number { λ r. ⌜ r ≡ replyIn (reading stream stamp value) (now (state .entry)) .number ⌝ }
+    ensures buffer { λ _. ⌜ now (state .exit) ≡ replyIn (reading stream stamp value) (now (state .entry)) .buffer ⌝ }
+    ensures still { λ _. ⌜ IsState (now (state .exit)) n ⌝ }
 {
-    let op = layout::byte_at(r, layout::OP);
-    if !operators::is_in(operators::group_of(op)) {
-        return 7;
+    let number = offers::reading_number(state, n, stream, stamp);
+    if number != 0 {
+        return number;
     }
-    let bound = layout::word_at(r, layout::BOUND);
-    if (t as u64) < bound {
-        return 8;
+    readers::offer(state, n, stream as usize, stamp, num::bits(value));
+    0
+}
+
+// Offers progress (stream, new bound) of an input.
+pub fn offer_progress(state: &mut [u8], n: usize, stream: u32, bound: u64) -> u32
+    requires { ⌜ IsState (now state) n ⌝ }
+    ensures number { λ r. ⌜ r ≡ replyIn (progress stream bound) (now (state .entry)) .number ⌝ }
+    ensures buffer { λ _. ⌜ now (state .exit) ≡ replyIn (progress stream bound) (now (state .entry)) .buffer ⌝ }
+    ensures still { λ _. ⌜ IsState (now (state .exit)) n ⌝ }
+{
+    let number = offers::progress_number(state, n, stream, bound);
+    if number != 0 {
+        return number;
     }
-    let count = layout::byte_at(r, layout::COUNT);
-    if Queue::new(count).is_full() {
-        return 9;
+    offers::progress(state, n, stream as usize, bound);
+    0
+}
+
+// Moves one equation.
+pub fn move_stream(state: &mut [u8], n: usize, stream: u32) -> u32
+    requires { ⌜ IsState (now state) n ⌝ }
+    ensures number { λ r. ⌜ r ≡ replyIn (moving stream) (now (state .entry)) .number ⌝ }
+    ensures buffer { λ _. ⌜ now (state .exit) ≡ replyIn (moving stream) (now (state .entry)) .buffer ⌝ }
+    ensures still { λ _. ⌜ IsState (now (state .exit)) n ⌝ }
+{
+    if !is_equation(state, n, stream) {
+        return 11;
+    }
+    if !moves::move_one(state, n, stream as usize) {
+        return 12;
     }
     0
 }
 
-// The number that an offer of a reading gets, after 15.
-pub fn reading_number(state: &[u8], n: usize, stream: u32, t: u32) -> u32
-    requires { ⌜ n * 256 ≤ length (now state) ⌝ }
-    ensures { λ x. ⌜ x ≡ readingRaw n (decode n (now (state .entry))) stream t ⌝ }
+// Collects the oldest waiting event of an output.
+pub fn collect(state: &mut [u8], n: usize, stream: u32, stamp: &mut u32, value: &mut i64) -> u32
+    requires { ⌜ IsState (now state) n ⌝ }
+    ensures number { λ r. ⌜ r ≡ replyIn (collecting stream) (now (state .entry)) .number ⌝ }
+    ensures stamp { λ _. ⌜ now (stamp .exit) ≡ replyIn (collecting stream) (now (state .entry)) .stamp ⌝ }
+    ensures value { λ _. ⌜ now (value .exit) ≡ replyIn (collecting stream) (now (state .entry)) .value ⌝ }
+    ensures buffer { λ _. ⌜ now (state .exit) ≡ replyIn (collecting stream) (now (state .entry)) .buffer ⌝ }
+    ensures still { λ _. ⌜ IsState (now (state .exit)) n ⌝ }
 {
+    *stamp = 0;
+    *value = 0;
+    let number = offers::collect_number(state, n, stream);
+    if number != 0 {
+        return number;
+    }
     let i = stream as usize;
-    if n <= i {
-        return 7;
-    }
-    reading_row(layout::row_at(state, i), t)
-}
-
-fn progress_row(r: &[u8], y: u64) -> u32
-    requires { ⌜ length (now r) ≡ 256 ⌝ }
-    ensures { λ x. ⌜ x ≡ progressRow (decRaw (now (r .entry))) y ⌝ }
-{
-    let op = layout::byte_at(r, layout::OP);
-    if !operators::is_in(operators::group_of(op)) {
-        return 7;
-    }
-    if !Bound::new(y).fits() {
-        return 10;
-    }
-    let bound = layout::word_at(r, layout::BOUND);
-    if y < bound {
-        return 8;
-    }
+    let j = offers::oldest(state, n, i);
+    *stamp = offers::stamp_of(state, n, i, j);
+    *value = num::of_bits(offers::value_of(state, n, i, j));
+    offers::collect(state, n, i, j);
     0
 }
 
-// The number that an offer of progress gets, after 15.
-pub fn progress_number(state: &[u8], n: usize, stream: u32, y: u64) -> u32
+// Moves the lowest-numbered equation that can move; whether there was one.
+fn move_lowest(state: &mut [u8], n: usize) -> bool
+    requires { ⌜ IsState (now state) n ⌝ }
+    ensures can { λ r. ⌜ r ≡ ltb (lowest (stateIn (now (state .entry)))) n ⌝ }
+    ensures moved { λ _. ⌜ now (state .exit) ≡ cond (ltb (lowest (stateIn (now (state .entry)))) n) (bytesOf (length (now (state .entry))) (move (lowest (stateIn (now (state .entry)))) (stateIn (now (state .entry))))) (now (state .entry)) ⌝ }
+{
+    let mut i = 0;
+    while i < n {
+        if moves::move_one(state, n, i) {
+            return true;
+        }
+        i += 1;
+    }
+    false
+}
+
+// Moves the lowest-numbered equation that can, again and again, at most this many times; how often it moved.
+pub fn run(state: &mut [u8], n: usize, most: u32) -> u32
+    requires { ⌜ IsState (now state) n ⌝ }
+    ensures moves { λ r. ⌜ r ≡ replyIn (running most) (now (state .entry)) .moves ⌝ }
+    ensures buffer { λ _. ⌜ now (state .exit) ≡ replyIn (running most) (now (state .entry)) .buffer ⌝ }
+    ensures still { λ _. ⌜ IsState (now (state .exit)) n ⌝ }
+{
+    let mut made: u32 = 0;
+    while made < most {
+        if !move_lowest(state, n) {
+            return made;
+        }
+        made += 1;
+    }
+    made
+}
+
+// Whether the stream is there and is no input.
+pub fn is_equation(state: &[u8], n: usize, stream: u32) -> bool
     requires { ⌜ n * 256 ≤ length (now state) ⌝ }
-    ensures { λ x. ⌜ x ≡ progressRaw n (decode n (now (state .entry))) stream y ⌝ }
+    ensures { λ r. ⌜ r ≡ equationRaw n (decode n (now (state .entry))) stream ⌝ }
 {
     let i = stream as usize;
     if n <= i {
-        return 7;
+        return false;
     }
-    progress_row(layout::row_at(state, i), y)
-}
-
-// Progress writes the bound and nothing more.
-pub fn progress(state: &mut [u8], n: usize, i: usize, y: u64)
-    requires { ⌜ (n * 256 ≤ length (now state)) × (i < n) ⌝ }
-    ensures { λ _. ⌜ now (state .exit) ≡ encode n (change i (withNum boundF y) (decode n (now (state .entry)))) ⌝ }
-{
     let at = i * layout::RECORD;
     let end = at + layout::RECORD;
-    layout::put_word(&mut state[at..end], layout::BOUND, y);
-}
-
-// The slot of the oldest waiting event of a record, or as many as it holds.
-fn waiting_slot(r: &[u8]) -> usize
-    requires { ⌜ length (now r) ≡ 256 ⌝ }
-    ensures { λ x. ⌜ (x ≡ waitingSlot (decRaw (now (r .entry)))) × (x ≤ room) ⌝ }
-{
-    queue::first_from(r, queue::count(r), layout::word_at(r, layout::NEXT))
-}
-
-fn collect_row(r: &[u8]) -> u32
-    requires { ⌜ length (now r) ≡ 256 ⌝ }
-    ensures { λ x. ⌜ x ≡ collectRow (decRaw (now (r .entry))) ⌝ }
-{
-    let out = layout::byte_at(r, layout::OUT);
-    if out == 0 {
-        return 13;
-    }
-    if waiting_slot(r) < queue::count(r) {
-        return 0;
-    }
-    14
-}
-
-// The number that a collect gets, after 15.
-pub fn collect_number(state: &[u8], n: usize, stream: u32) -> u32
-    requires { ⌜ n * 256 ≤ length (now state) ⌝ }
-    ensures { λ x. ⌜ x ≡ collectRaw n (decode n (now (state .entry))) stream ⌝ }
-{
-    let i = stream as usize;
-    if n <= i {
-        return 13;
-    }
-    collect_row(layout::row_at(state, i))
-}
-
-// Where the oldest waiting event of stream i lies.
-pub fn oldest(state: &[u8], n: usize, i: usize) -> usize
-    requires { ⌜ (n * 256 ≤ length (now state)) × (i < n) ⌝ }
-    ensures { λ x. ⌜ (x ≡ waitingSlot (rowAt (decode n (now (state .entry))) i)) × (x ≤ room) ⌝ }
-{
-    waiting_slot(layout::row_at(state, i))
-}
-
-// The stamp in slot j of stream i.
-pub fn stamp_of(state: &[u8], n: usize, i: usize, j: usize) -> u32
-    requires { ⌜ (n * 256 ≤ length (now state)) × (i < n) × (j < room) ⌝ }
-    ensures { λ x. ⌜ x ≡ slotAt j (rowAt (decode n (now (state .entry))) i) .stamp ⌝ }
-{
-    layout::stamp_at(layout::row_at(state, i), j) as u32
-}
-
-// The value in slot j of stream i, in two's complement.
-pub fn value_of(state: &[u8], n: usize, i: usize, j: usize) -> u64
-    requires { ⌜ (n * 256 ≤ length (now state)) × (i < n) × (j < room) ⌝ }
-    ensures { λ x. ⌜ x ≡ slotAt j (rowAt (decode n (now (state .entry))) i) .value ⌝ }
-{
-    layout::value_at(layout::row_at(state, i), j)
-}
-
-// Marks the event in slot j of a record as collected.
-fn mark(r: &mut [u8], j: usize)
-    requires { ⌜ (length (now r) ≡ 256) × (j < room) ⌝ }
-    ensures { λ _. ⌜ now (r .exit) ≡ layout.encRaw (withNum nextF (slotAt j (decRaw (now (r .entry))) .stamp + 1) (decRaw (now (r .entry)))) ⌝ }
-{
-    let t = layout::stamp_at(r, j);
-    layout::put_word(r, layout::NEXT, t + 1);
-}
-
-// Collects the event in slot j of stream i, and lets go what nobody waits for any more.
-pub fn collect(state: &mut [u8], n: usize, i: usize, j: usize)
-    requires { ⌜ (n * 256 ≤ length (now state)) × (i < n) × (j < room) ⌝ }
-    ensures { λ _. ⌜ now (state .exit) ≡ encode n (collectedRaw i j (decode n (now (state .entry)))) ⌝ }
-{
-    let at = i * layout::RECORD;
-    let end = at + layout::RECORD;
-    mark(&mut state[at..end], j);
-    step::release_row(state, n, i);
+    let op = layout::byte_at(&state[at..end], layout::OP);
+    !operators::is_in(operators::group_of(op))
 }

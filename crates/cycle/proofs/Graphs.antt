@@ -9,6 +9,7 @@ use lib.ListN.{length, getD, length-append, List·getD-append}
 use lib.Seq.{getD-append-add}
 use Rattle.meaning.specs.Plan.{Eqn, input, nil, unit, one, two, last, delay, Plan, eqnAt, undelayed, prompts, argA, argB, AllBelow}
 use Rattle.meaning.specs.Cycle.{acyclic}
+use Rattle.operators.specs.Limits.{mostStreams}
 use Rattle.operators.specs.Operators.{groupOf, argumentsOf, numberOf}
 use Rattle.operators.proofs.Laws.{arguments-of}
 use Rattle.cycle.specs.Graph.{entryBy, entryOf, graphOf, cleared}
@@ -84,5 +85,5 @@ graph-tied plan r =
     (λ i j l h. at plan r i j l h ∙ ap (λ (e : List ℕ). getD e j 0) (sym (entry-by (eqnAt plan i))))
 
 -- The code's test on the graph of a plan whose arguments are streams of the plan is the definition's test of the plan.
-pub graph-acyclic : (plan : Plan) (r : List ℕ) → ((i : ℕ) → i < length plan → AllBelow (length plan) (argsAt plan i)) → (d : ℕ) → cleared d (length plan) (graphOf plan ++ r) .isClear ≡ acyclic d plan
-graph-acyclic plan r bound d = cleared-acyclic plan bound d (graphOf plan ++ r) (graph-tied plan r)
+pub graph-acyclic : (plan : Plan) (r : List ℕ) → length plan ≤ mostStreams → ((i : ℕ) → i < length plan → AllBelow (length plan) (argsAt plan i)) → (d : ℕ) → cleared d (length plan) (graphOf plan ++ r) .isClear ≡ acyclic d plan
+graph-acyclic plan r few bound d = cleared-acyclic plan few bound d (graphOf plan ++ r) (graph-tied plan r)

@@ -12,6 +12,7 @@ use borrow.Author.Tests.{eq-eqb, eqb-true, eqb-false}
 use Rattle.meaning.specs.Plan.{Plan, eqnAt, undelayed, AllBelow}
 use Rattle.meaning.specs.Cycle.{Marks, then-marked, visits, visit, downFrom, isSome, acyclic}
 use Rattle.meaning.specs.Cycle as Cycle
+use Rattle.operators.specs.Limits.{mostStreams}
 use Rattle.cycle.specs.Graph.{Walk, marked, both, followed, rest, cleared}
 use Rattle.cycle.proofs.Walks.{seen, stop, bare, onward}
 
@@ -52,7 +53,7 @@ isNone (some m) = 1
 never : (k : Marks) → none ≡ some k → ⊥
 never k e = let z : _≡_ {A = ℕ} 0 1 = ap isNone e in omega arith
 
-module _ (plan : Plan) where
+module _ (plan : Plan) (few : length plan ≤ mostStreams) where
   -- a stream marked in both
   mark : (s : ℕ) (g : List ℕ) (m : Marks) → s < length plan → Tied plan g m → Tied plan (set g (3 * s) 1) (Cycle.marked s m)
   mark s g m h t = record {
@@ -118,14 +119,14 @@ module _ (plan : Plan) where
     branch : (g : List ℕ) (m : Marks) → Tied plan g m → (a b : ℕ) → a < length plan → b < length plan → getD g (3 * s) 0 ≡ 0 → getD g (3 * s + 1) 0 ≡ a → ((k : Marks) (g₁ : List ℕ) → Tied plan g₁ k → getD g₁ (3 * s + 2) 0 ≡ b) → Same plan (then-marked s (visits (λ x. visit plan d x) (a ∷ b ∷ []) m)) (followed (suc d) s g)
     unfolding visits
     branch g m t a b l k z x y =
-        subst (Same plan (then-marked s (visits (λ x. visit plan d x) (a ∷ b ∷ []) m))) (sym (onward d s g (omega (arith, t .size)) z ∙ ap (λ (i : ℕ). both s (followed d) (followed d i g)) x))
+        subst (Same plan (then-marked s (visits (λ x. visit plan d x) (a ∷ b ∷ []) m))) (sym (onward d s g (omega arith) z ∙ ap (λ (i : ℕ). both s (followed d) (followed d i g)) x))
         (first b k (visit plan d a m) (followed d a g) (ih a g m l t) (λ j u. y j (followed d a g .graph) u))
 
     follow-all : (l : List ℕ) → argsAt plan s ≡ l → AllBelow (length plan) l → (g : List ℕ) (m : Marks) → m s ≡ false → Tied plan g m → Same plan (then-marked s (visits (λ x. visit plan d x) l m)) (followed (suc d) s g)
     unfolding visits
     follow-all [] p b g m f t =
         let e : getD g (3 * s) 0 ≡ 2 = t .how s h ∙ rw (f, p) in
-        subst (Same plan (some (Cycle.marked s m))) (bare (suc d) s g (omega (arith, t .size)) (λ q. omega arith) (λ q. omega arith) e) (refl, mark s g m h t)
+        subst (Same plan (some (Cycle.marked s m))) (bare (suc d) s g (omega arith) (λ q. omega arith) (λ q. omega arith) e) (refl, mark s g m h t)
     follow-all (a ∷ []) p b g m f t =
         subst (λ (o : Option Marks). Same plan (then-marked s o) (followed (suc d) s g))
         (twice d a (visit plan d a m) (found-marked d a m) ∙ sym (one-alone (visit plan d a m)))
@@ -141,13 +142,13 @@ module _ (plan : Plan) where
   module _ (bound : (i : ℕ) → i < length plan → AllBelow (length plan) (argsAt plan i)) where
     last-step : (s : ℕ) (g : List ℕ) (m : Marks) → s < length plan → Tied plan g m → (b : Bool) → m s ≡ b → Same plan (visit plan zero s m) (followed zero s g)
     unfolding visit
-    last-step s g m h t true e = rw e (subst (Same plan (some m)) (seen 0 s g (omega (arith, t .size)) (t .how s h ∙ rw e)) (refl, t))
+    last-step s g m h t true e = rw e (subst (Same plan (some m)) (seen 0 s g (omega arith) (t .how s h ∙ rw e)) (refl, t))
     last-step s g m h t false e =
-        rw e (subst (Same plan none) (stop 0 s g (omega (arith, t .size)) (λ q. not-one (argsAt plan s) (ap (λ (b : Bool). howOf b (argsAt plan s)) (sym e) ∙ sym (t .how s h) ∙ q)) refl) refl)
+        rw e (subst (Same plan none) (stop 0 s g (omega arith) (λ q. not-one (argsAt plan s) (ap (λ (b : Bool). howOf b (argsAt plan s)) (sym e) ∙ sym (t .how s h) ∙ q)) refl) refl)
 
     one-step : (d : ℕ) → ((a : ℕ) (g : List ℕ) (m : Marks) → a < length plan → Tied plan g m → Same plan (visit plan d a m) (followed d a g)) → (s : ℕ) (g : List ℕ) (m : Marks) → s < length plan → Tied plan g m → (b : Bool) → m s ≡ b → Same plan (visit plan (suc d) s m) (followed (suc d) s g)
     unfolding visit
-    one-step d ih s g m h t true e = rw e (subst (Same plan (some m)) (seen (suc d) s g (omega (arith, t .size)) (t .how s h ∙ rw e)) (refl, t))
+    one-step d ih s g m h t true e = rw e (subst (Same plan (some m)) (seen (suc d) s g (omega arith) (t .how s h ∙ rw e)) (refl, t))
     one-step d ih s g m h t false e = rw e (follow-all d ih s h (argsAt plan s) refl (bound s h) g m e t)
 
     pub visited : (d s : ℕ) (g : List ℕ) (m : Marks) → s < length plan → Tied plan g m → Same plan (visit plan d s m) (followed d s g)

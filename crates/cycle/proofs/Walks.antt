@@ -2,29 +2,36 @@
 use Prim.Native.Nat.{ℕ, zero, suc, _+_, _*_, _-_, _<_, _≤_}
 use mathlib.Core.Path.{_≡_, refl, sym, ap, _∙_}
 use mathlib.Core.List.{List, [], _∷_}
-use mathlib.Core.Bool.{Bool, true, false, not, cond}
+use mathlib.Core.Bool.{Bool, true, false, not, cond, _&&_}
 use native.Mathlib.Omega.{arith}
-use lib.ListN.{length, getD, set}
+use lib.ListN.{getD, set}
 use lib.Dec.{eqb}
 use lib.Seq.{sets}
-use borrow.Author.Tests.{eq-eqb, ne-eqb, lt-ltb, le-ltb, not-true, not-false}
-use Rattle.cycle.specs.Graph.{Walk, walked, marked, both, followed, rest, cleared}
+use borrow.Author.Tests.{eq-eqb, eqb-true, ne-eqb, lt-ltb, ltb-true, le-ltb, not-true, not-false}
+use Rattle.operators.specs.Limits.{mostStreams}
+use Rattle.operators.proofs.Tests.{left, right}
+use Rattle.cycle.specs.Graph.{Walk, present, walked, marked, both, followed, rest, cleared}
 
 -- a stream that the graph does not have
-pub absent : (d i : ℕ) (g : List ℕ) → length g ≤ 3 * i + 2 → walked false g ≡ followed d i g
+pub absent : (d i : ℕ) (g : List ℕ) → mostStreams ≤ i → walked false g ≡ followed d i g
 unfolding followed
-absent zero i g h = sym (rw (le-ltb (3 * i + 2) (length g) h))
-absent (suc d) i g h = sym (rw (le-ltb (3 * i + 2) (length g) h))
+absent zero i g h = sym (rw (le-ltb i mostStreams h))
+absent (suc d) i g h = sym (rw (le-ltb i mostStreams h))
 
-pub seen : (d i : ℕ) (g : List ℕ) → 3 * i + 2 < length g → getD g (3 * i) 0 ≡ 1 → walked true g ≡ followed d i g
+pub seen : (d i : ℕ) (g : List ℕ) → i < mostStreams → getD g (3 * i) 0 ≡ 1 → walked true g ≡ followed d i g
 unfolding followed
-seen zero i g h e = sym (rw (lt-ltb (3 * i + 2) (length g) h, eq-eqb (getD g (3 * i) 0) 1 e))
-seen (suc d) i g h e = sym (rw (lt-ltb (3 * i + 2) (length g) h, eq-eqb (getD g (3 * i) 0) 1 e))
+seen zero i g h e = sym (rw (lt-ltb i mostStreams h, eq-eqb (getD g (3 * i) 0) 1 e))
+seen (suc d) i g h e = sym (rw (lt-ltb i mostStreams h, eq-eqb (getD g (3 * i) 0) 1 e))
 
-module _ (d i : ℕ) (g : List ℕ) (h : 3 * i + 2 < length g) (e : getD g (3 * i) 0 ≡ 1 → ⊥) where
+-- a stream found clear before
+pub found-clear : (d i : ℕ) (g : List ℕ) → (present i && eqb (getD g (3 * i) 0) 1) ≡ true → walked true g ≡ followed d i g
+found-clear d i g e =
+    seen d i g (ltb-true i mostStreams (left (present i) (eqb (getD g (3 * i) 0) 1) e)) (eqb-true (getD g (3 * i) 0) 1 (right (present i) (eqb (getD g (3 * i) 0) 1) e))
+
+module _ (d i : ℕ) (g : List ℕ) (h : i < mostStreams) (e : getD g (3 * i) 0 ≡ 1 → ⊥) where
   deep : (n : ℕ) → n ≡ 0 → walked false g ≡ followed n i g
   unfolding followed
-  deep zero z = sym (rw (lt-ltb (3 * i + 2) (length g) h, ne-eqb (getD g (3 * i) 0) 1 e))
+  deep zero z = sym (rw (lt-ltb i mostStreams h, ne-eqb (getD g (3 * i) 0) 1 e))
   deep (suc n) z = absurd (omega arith)
 
   pub stop : d ≡ 0 → walked false g ≡ followed d i g
@@ -35,7 +42,7 @@ module _ (d i : ℕ) (g : List ℕ) (h : 3 * i + 2 < length g) (e : getD g (3 * 
   go zero z = absurd (z refl)
   go (suc n) z =
       let m : suc n - 1 ≡ n = omega arith in
-      rw (m, lt-ltb (3 * i + 2) (length g) h, ne-eqb (getD g (3 * i) 0) 1 e)
+      rw (m, lt-ltb i mostStreams h, ne-eqb (getD g (3 * i) 0) 1 e)
 
   module _ (z : d ≡ 0 → ⊥) where
     pub bare : getD g (3 * i) 0 ≡ 2 → walked true (set g (3 * i) 1) ≡ followed d i g
@@ -67,9 +74,9 @@ module _ (d i : ℕ) (g : List ℕ) (h : 3 * i + 2 < length g) (e : getD g (3 * 
             let k : r₂ ≡ true = not-false r₂ n in
             sym (next ∙ rw k)
 
-pub onward : (d i : ℕ) (g : List ℕ) → 3 * i + 2 < length g → getD g (3 * i) 0 ≡ 0 → followed (suc d) i g ≡ both i (followed d) (followed d (getD g (3 * i + 1) 0) g)
+pub onward : (d i : ℕ) (g : List ℕ) → i < mostStreams → getD g (3 * i) 0 ≡ 0 → followed (suc d) i g ≡ both i (followed d) (followed d (getD g (3 * i + 1) 0) g)
 unfolding followed
-onward d i g h e = rw (lt-ltb (3 * i + 2) (length g) h, e)
+onward d i g h e = rw (lt-ltb i mostStreams h, e)
 
 -- three stores side by side
 pub stored : (g : List ℕ) (at how a b : ℕ) → set (set (set g at how) (at + 1) a) (at + 2) b ≡ sets g at (how ∷ a ∷ b ∷ [])

@@ -3,7 +3,7 @@ use Prim.Native.Nat.{ℕ, zero, suc, _+_, _*_}
 use mathlib.Core.Bool.{Bool, true, false, cond, _&&_}
 use mathlib.Core.List.{List, [], _∷_, _++_}
 use lib.Dec.{eqb, ltb}
-use lib.ListN.{length, getD, set}
+use lib.ListN.{getD, set}
 use Rattle.meaning.specs.Plan.{Plan, prompts, argA, argB}
 use Rattle.operators.specs.Limits.{mostStreams}
 use Rattle.operators.specs.Operators.{groupOf, argumentsOf, numberOf}
@@ -42,15 +42,15 @@ marked i w = cond (w .isClear) (walked true (set (w .graph) (3 * i) 1)) w
 abbrev pub both : ℕ → (ℕ → List ℕ → Walk) → Walk → Walk
 both i follow w = cond (w .isClear) (marked i (follow (getD (w .graph) (3 * i + 2) 0) (w .graph))) w
 
--- whether the graph has stream i: its three bytes
-abbrev pub present : ℕ → List ℕ → Bool
-present i g = ltb (3 * i + 2) (length g)
+-- whether the graph has stream i
+abbrev pub present : ℕ → Bool
+present i = ltb i mostStreams
 
 -- stream i is followed, with this depth left: at depth 0 only a stream found clear before is clear
 unfoldable pub followed : ℕ → ℕ → List ℕ → Walk
-followed zero i g = walked (present i g && eqb (getD g (3 * i) 0) 1) g
+followed zero i g = walked (present i && eqb (getD g (3 * i) 0) 1) g
 followed (suc d) i g =
-    cond (present i g)
+    cond (present i)
     (cond (eqb (getD g (3 * i) 0) 1)
     (walked true g)
     (cond (eqb (getD g (3 * i) 0) 2)

@@ -3,8 +3,10 @@ ghost use mathlib.Core.Path.{_≡_};
 ghost use Prim.Native.Nat.{_+_, _*_, _<_};
 ghost use mathlib.Core.List.{[], _∷_};
 ghost use lib.Seq.{sets};
-ghost use lib.ListN.{length};
-ghost use Rattle.cycle.specs.Graph.{walked, followed, cleared, entryOf};
+ghost use lib.ListN.{length, getD};
+ghost use lib.Dec.{eqb};
+ghost use mathlib.Core.Bool.{_&&_};
+ghost use Rattle.cycle.specs.Graph.{present, walked, followed, cleared, entryOf};
 use operators::Group;
 use operators::Plan;
 
@@ -48,14 +50,26 @@ fn wide(x: u8) -> usize
     x as usize
 }
 
-// Whether stream i is clear, followed at most this deep. A stream once found clear is not followed again.
-pub fn follow(graph: &mut [u8], i: u8, depth: u8) -> bool
-    ensures { λ r. ⌜ walked r (now (graph .exit)) ≡ followed depth i (now (graph .entry)) ⌝ }
+// Whether stream i was found clear before.
+fn found(graph: &[u8; GRAPH], i: u8) -> bool
+    ensures { λ r. ⌜ r ≡ (present i && eqb (getD (now (graph .entry)) (3 * i) 0) 1) ⌝ }
 {
-    let at = 3 * wide(i);
-    if graph.len() <= at + 2 {
+    let stream = wide(i);
+    if Plan::MOST <= stream {
         return false;
     }
+    graph[3 * stream] == CLEAR
+}
+
+// Whether stream i is clear, followed at most this deep. A stream once found clear is not followed again.
+pub fn follow(graph: &mut [u8; GRAPH], i: u8, depth: u8) -> bool
+    ensures { λ r. ⌜ walked r (now (graph .exit)) ≡ followed depth i (now (graph .entry)) ⌝ }
+{
+    let stream = wide(i);
+    if Plan::MOST <= stream {
+        return false;
+    }
+    let at = 3 * stream;
     let how = graph[at];
     if how == CLEAR {
         return true;
@@ -72,6 +86,10 @@ pub fn follow(graph: &mut [u8], i: u8, depth: u8) -> bool
         return false;
     }
     let b = graph[at + 2];
+    if found(graph, b) {
+        graph[at] = CLEAR;
+        return true;
+    }
     if !follow(graph, b, depth - 1) {
         return false;
     }
@@ -80,12 +98,15 @@ pub fn follow(graph: &mut [u8], i: u8, depth: u8) -> bool
 }
 
 // Whether all streams below n are clear, the last one followed first.
-pub fn clear(graph: &mut [u8], n: u8, depth: u8) -> bool
+pub fn clear(graph: &mut [u8; GRAPH], n: u8, depth: u8) -> bool
     ensures { λ r. ⌜ walked r (now (graph .exit)) ≡ cleared depth n (now (graph .entry)) ⌝ }
 {
     let mut i = n;
     while 0 < i {
         i -= 1;
+        if found(graph, i) {
+            continue;
+        }
         if !follow(graph, i, depth) {
             return false;
         }

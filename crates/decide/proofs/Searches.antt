@@ -13,7 +13,7 @@ use Rattle.meaning.specs.Events.{has}
 use Rattle.machine.specs.State.{Cell}
 use Rattle.machine.specs.Reach.{least, limit, stops, gives, reach, first, event, silent, nextOf, decide}
 use Rattle.machine.proofs.Search.{least-ge}
-use Rattle.look.specs.Look.{ownCell, argCell}
+use Rattle.streams.specs.Look.{ownCell, argCell}
 use Rattle.decide.specs.Search.{pick, stamps, dueAt, wanted, halts, test, candidateOf, search}
 use Rattle.decide.proofs.Sparse.{first-pick, reach-pick}
 

@@ -17,7 +17,7 @@ use Rattle.machine.specs.State.{Cell}
 use Rattle.machine.specs.Reach.{view, pastLatest, least, limit, point, stops, reach, due, gives, first}
 use Rattle.machine.proofs.Search.{least-ge, least-is}
 use Rattle.machine.proofs.Window.{past-le, past-max, past-hit}
-use Rattle.gives.specs.Near.{size}
+use Rattle.events.specs.Near.{size}
 use Rattle.decide.specs.Search.{pick, stamps, dueAt, wanted, halts}
 
 -- some number of the list passes the test

@@ -4,8 +4,8 @@ use mathlib.Core.Bool.{Bool}
 use mathlib.Core.List.{List}
 use Rattle.meaning.specs.Events.{Event}
 use Rattle.machine.specs.Reach as machine
-use Rattle.look.specs.declared.Look.{Look}
-use Rattle.look.specs.Look.{equation, ownOf, argOf}
+use Rattle.streams.specs.declared.Look.{Look}
+use Rattle.streams.specs.Look.{equation, ownOf, argOf}
 use Rattle.decide.specs.declared.Next.{Next}
 use Rattle.decide.specs.declared.Next.the-variants as code
 use Rattle.decide.specs.Search.{test, nearer, candidateOf, search}

@@ -7,7 +7,7 @@ use Rattle.meaning.specs.Plan.{Eqn, input, nil, unit, one, two, last, delay}
 use Rattle.meaning.specs.Events.{Event, has}
 use Rattle.machine.specs.State.{Cell}
 use Rattle.machine.specs.Reach.{stops, gives, valueAt}
-use Rattle.gives.specs.Near.{size}
+use Rattle.events.specs.Near.{size}
 
 -- the least of the candidates from lo on and below hi that passes the test, or hi
 unfoldable pub pick : (ℕ → Bool) → (lo hi : ℕ) → List ℕ → ℕ

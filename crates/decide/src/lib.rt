@@ -6,17 +6,17 @@ ghost use lib.ListN.{length};
 ghost use Rattle.meaning.specs.Events.{Event, horizon};
 ghost use Rattle.machine.specs.Reach as machine;
 ghost use Rattle.layout.specs.Record.{decRaw};
-ghost use Rattle.cells.specs.Back.{heldOf};
-ghost use Rattle.look.specs.Look.{lookOf, equation, ownOf, argCell, argOf, Sound, Within};
-ghost use Rattle.gives.specs.Near.{keeping, holding};
+ghost use Rattle.encoding.specs.Back.{heldOf};
+ghost use Rattle.streams.specs.Look.{lookOf, equation, ownOf, argCell, argOf, Sound, Within};
+ghost use Rattle.events.specs.Near.{keeping, holding};
 ghost use Rattle.decide.specs.Search.{dueAt};
 ghost use Rattle.decide.specs.Near.{testIn, nearerIn, candidateIn, searchIn, reachIn, firstIn, nextIn, toNext, knownTo};
 use limits::Bound;
-use look::Kept;
-use look::Look;
-use look::Op;
-use look::Stream;
 use queue::Found;
+use streams::Kept;
+use streams::Look;
+use streams::Op;
+use streams::Stream;
 
 // What a move finds: an event, or silence up to a bound.
 pub enum Next {
@@ -42,11 +42,11 @@ fn stops(l: Look, b: &[u8], t: u64) -> bool
                 return false;
             }
             let y = queue::find(b, t);
-            gives::is_some(y)
+            events::is_some(y)
         }
         Op::Delay(_, _) => {
             let k = s.kept;
-            let z = gives::point(k, b, t);
+            let z = events::point(k, b, t);
             l.abound < z
         }
     }
@@ -58,8 +58,8 @@ fn passes(give: bool, l: Look, a: &[u8], b: &[u8], t: u64) -> bool
     ensures { λ r. ⌜ r ≡ testIn give l (now (a .entry)) (now (b .entry)) t ⌝ }
 {
     if give {
-        let x = gives::event_at(l, a, b, t);
-        return gives::is_some(x);
+        let x = events::event_at(l, a, b, t);
+        return events::is_some(x);
     }
     stops(l, b, t)
 }
@@ -86,8 +86,8 @@ fn due_at(k: Kept, a: &[u8], z: u64) -> u64
     requires { ⌜ (length (now a) ≡ 256) × (z ≤ horizon) ⌝ }
     ensures { λ r. ⌜ r ≡ dueAt (keeping k) (holding (now (a .entry))) z ⌝ }
 {
-    let n = gives::stamps_of(gives::set_value(k, a, z));
-    gives::before(z) + n
+    let n = events::stamps_of(events::set_value(k, a, z));
+    events::before(z) + n
 }
 
 // The candidate that a held event at stamp s makes.
@@ -144,9 +144,9 @@ fn limit(l: Look) -> u64
         Op::Nil => Bound::HORIZON,
         Op::Unit => Bound::HORIZON,
         Op::One(_, _) => l.abound,
-        Op::Two(_, _, _) => look::smaller(l.abound, l.bbound),
+        Op::Two(_, _, _) => streams::smaller(l.abound, l.bbound),
         Op::Last(_, _) => l.bbound,
-        Op::Delay(_, _) => look::smaller(l.bbound + 1, Bound::HORIZON),
+        Op::Delay(_, _) => streams::smaller(l.bbound + 1, Bound::HORIZON),
     }
 }
 
@@ -156,7 +156,7 @@ fn reach(l: Look, a: &[u8], b: &[u8]) -> u64
     ensures { λ r. ⌜ (r ≡ reachIn l (now (a .entry)) (now (b .entry))) × (r ≤ horizon) ⌝ }
 {
     let s = l.stream;
-    let hi = look::larger(s.bound, limit(l));
+    let hi = streams::larger(s.bound, limit(l));
     let op = s.op;
     match op {
         Op::In => hi,
@@ -208,7 +208,7 @@ fn next_in(l: Look, a: &[u8], b: &[u8]) -> Next
     if r <= t {
         return Next::Silent(r);
     }
-    let x = gives::event_at(l, a, b, t);
+    let x = events::event_at(l, a, b, t);
     let Found::Value(v) = x else {
         return Next::Silent(r);
     };
@@ -221,6 +221,6 @@ pub fn find_next(s: Stream, a: &[u8], b: &[u8]) -> Next
     ensures next { λ n. ⌜ toNext n ≡ machine.decide (equation (s .op)) (ownOf s) (lookOf (decRaw (now (a .entry)))) (lookOf (decRaw (now (b .entry)))) ⌝ }
     ensures known { λ n. ⌜ knownTo n ≤ horizon ⌝ }
 {
-    let l = look::beside(s, a, b);
+    let l = streams::beside(s, a, b);
     next_in(l, a, b)
 }

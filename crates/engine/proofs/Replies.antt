@@ -12,14 +12,14 @@ use Rattle.machine.specs.Calls.{Call, running, collecting, handOut, collect, ca
 use Rattle.machine.proofs.Outcomes.{run-number}
 use Rattle.operators.specs.Limits.{capacity}
 use Rattle.le.specs.Bytes.{Bytes}
-use Rattle.cells.specs.View.{bytesOf}
-use Rattle.cells.specs.Sound.{IsValue, Sound}
+use Rattle.encoding.specs.View.{bytesOf}
+use Rattle.encoding.specs.Sound.{IsValue, Sound}
 use Rattle.valid.specs.Valid.{count, valid}
-use Rattle.state.specs.In.{stateIn}
-use Rattle.state.proofs.Whole.{valid-sound, bytes-valid, bytes-length}
-use Rattle.state.proofs.In.{bytes-in}
-use Rattle.running.specs.Reply.{Reply, plain, replyOf, replyIn}
-use Rattle.running.proofs.Replies.{reply-of, refused-reply, collect-done}
+use Rattle.roundtrip.specs.In.{stateIn}
+use Rattle.roundtrip.proofs.Whole.{valid-sound, bytes-valid, bytes-length}
+use Rattle.roundtrip.proofs.In.{bytes-in}
+use Rattle.calls.specs.Reply.{Reply, plain, replyOf, replyIn}
+use Rattle.calls.proofs.Replies.{reply-of, refused-reply, collect-done}
 use Rattle.engine.specs.Reply.{notState, reply}
 
 -- on a state the answer is that of the state

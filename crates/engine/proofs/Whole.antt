@@ -1,5 +1,5 @@
 -- The whole theorem, over bytes: any history of loads and calls on a lent buffer.
-use Prim.Native.Nat.{ℕ, zero, suc, _<_, _≤_}
+use Prim.Native.Nat.{ℕ, zero, suc, _≤_}
 use mathlib.Core.Path.{_≡_, refl, sym, ap, ap₂, _∙_, subst}
 use mathlib.Core.Bool.{Bool, true, false, cond}
 use mathlib.Core.Option.{Option, none, some}
@@ -18,18 +18,16 @@ use Rattle.runs.specs.Claim.{Keeps}
 use Rattle.runs.proofs.Whole.{whole-runs, rest-reached}
 use Rattle.operators.specs.Limits.{mostStreams, capacity}
 use Rattle.operators.proofs.Sizes.{capacity-few}
-use Rattle.cells.specs.View.{bytesOf}
-use Rattle.cells.specs.Sound.{Sound}
-use Rattle.sound.proofs.Calls.{Offered, call-sound}
-use Rattle.valid.specs.Valid.{valid}
-use Rattle.state.specs.In.{stateIn}
-use Rattle.state.proofs.Whole.{bytes-valid, bytes-length}
+use Rattle.encoding.specs.View.{bytesOf}
+use Rattle.encoding.specs.Sound.{Sound}
+use Rattle.preserve.proofs.Calls.{Offered, call-sound}
+use Rattle.roundtrip.proofs.Whole.{bytes-length}
 use Rattle.plan.specs.Rules.{number, declared}
 use Rattle.plan.specs.Taken.{Each, KeepsRules}
 use Rattle.plan.proofs.Taken.{taken-rendered}
 use Rattle.load.proofs.Fresh.{loaded-sound}
 use Rattle.engine.proofs.Replies.{reply-machine}
-use Rattle.running.specs.Reply.{Reply, replyOf}
+use Rattle.calls.specs.Reply.{Reply}
 use Rattle.engine.specs.Reply.{notState, reply}
 use Rattle.engine.specs.Load.{loadOf, loadReply}
 use Rattle.engine.specs.History.{Act, load, make, answer, left, seenIn, Since, noted, since, TypedAct, AllTypedActs, HoldsOf}

@@ -11,10 +11,10 @@ use Rattle.machine.specs.Calls.{Call, call}
 use Rattle.runs.specs.History.{Seen, Typed, after, log}
 use Rattle.runs.specs.Claim.{Claim, RestReached}
 use Rattle.operators.specs.Limits.{capacity}
-use Rattle.cells.specs.View.{bytesOf}
+use Rattle.encoding.specs.View.{bytesOf}
 use Rattle.plan.specs.Rules.{declared}
 use Rattle.plan.specs.Taken.{KeepsRules}
-use Rattle.running.specs.Reply.{Reply, replyOf}
+use Rattle.calls.specs.Reply.{Reply, replyOf}
 use Rattle.engine.specs.Reply.{reply}
 use Rattle.engine.specs.Load.{loadReply}
 

@@ -5,10 +5,10 @@ use mathlib.Core.List.{List}
 use lib.Dec.{eqb, ltb}
 use lib.ListN.{length}
 use Rattle.machine.specs.State.{loaded}
-use Rattle.cells.specs.View.{bytesOf}
+use Rattle.encoding.specs.View.{bytesOf}
 use Rattle.operators.specs.Limits.{capacity}
 use Rattle.plan.specs.Rules.{number, declared}
-use Rattle.running.specs.Reply.{Reply, plain}
+use Rattle.calls.specs.Reply.{Reply, plain}
 use Rattle.engine.specs.Reply.{notState}
 
 -- the fresh state of the streams that the text declares; on any other number the buffer stays

@@ -4,7 +4,7 @@ use mathlib.Core.Bool.{cond}
 use mathlib.Core.List.{List}
 use Rattle.machine.specs.Calls.{Call}
 use Rattle.valid.specs.Valid.{valid}
-use Rattle.running.specs.Reply.{Reply, plain, replyIn}
+use Rattle.calls.specs.Reply.{Reply, plain, replyIn}
 
 -- "Number 15 comes before the others": all results are 0, and the buffer stays
 abbrev pub notState : List ℕ → Reply

@@ -32,7 +32,7 @@ pub extern "C" fn tessla_offer_reading(state: &mut [u8], stream: u32, stamp: u32
     ensures buffer { λ _. ⌜ now (state .exit) ≡ reply (reading stream stamp value) (now (state .entry)) .buffer ⌝ }
 {
     match valid::streams(state) {
-        Tested::State(n) => running::offer_reading(state, n, stream, stamp, value),
+        Tested::State(n) => calls::offer_reading(state, n, stream, stamp, value),
         Tested::NoState => 15,
     }
 }
@@ -44,7 +44,7 @@ pub extern "C" fn tessla_offer_progress(state: &mut [u8], stream: u32, bound: u6
     ensures buffer { λ _. ⌜ now (state .exit) ≡ reply (progress stream bound) (now (state .entry)) .buffer ⌝ }
 {
     match valid::streams(state) {
-        Tested::State(n) => running::offer_progress(state, n, stream, bound),
+        Tested::State(n) => calls::offer_progress(state, n, stream, bound),
         Tested::NoState => 15,
     }
 }
@@ -63,7 +63,7 @@ pub extern "C" fn tessla_collect(
     ensures buffer { λ _. ⌜ now (state .exit) ≡ reply (collecting stream) (now (state .entry)) .buffer ⌝ }
 {
     match valid::streams(state) {
-        Tested::State(n) => running::collect(state, n, stream, stamp, value),
+        Tested::State(n) => calls::collect(state, n, stream, stamp, value),
         Tested::NoState => {
             *stamp = 0;
             *value = 0;
@@ -79,7 +79,7 @@ pub extern "C" fn tessla_move(state: &mut [u8], stream: u32) -> u32
     ensures buffer { λ _. ⌜ now (state .exit) ≡ reply (moving stream) (now (state .entry)) .buffer ⌝ }
 {
     match valid::streams(state) {
-        Tested::State(n) => running::move_stream(state, n, stream),
+        Tested::State(n) => calls::move_stream(state, n, stream),
         Tested::NoState => 15,
     }
 }
@@ -93,7 +93,7 @@ pub extern "C" fn tessla_run(state: &mut [u8], n: u32, moves: &mut u32) -> u32
 {
     match valid::streams(state) {
         Tested::State(streams) => {
-            *moves = running::run(state, streams, n);
+            *moves = calls::run(state, streams, n);
             0
         }
         Tested::NoState => {

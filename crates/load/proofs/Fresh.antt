@@ -9,7 +9,7 @@ use lib.ListN.{length}
 use Rattle.meaning.specs.Plan.{Eqn, input, nil, unit, one, two, last, delay, isInput, Plan}
 use Rattle.meaning.specs.Cycle.{acyclic}
 use Rattle.machine.specs.State.{Declared, noKept, fresh, loaded, cellAt, planOf, declaredPlan}
-use Rattle.cells.specs.Sound.{IsNext, IsKept, SoundCell, Sound}
+use Rattle.encoding.specs.Sound.{IsNext, IsKept, SoundCell, Sound}
 use Rattle.plan.specs.Taken.{StreamKeeps, Each, KeepsRules}
 use Rattle.load.proofs.Taken.{many}
 

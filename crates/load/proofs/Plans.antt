@@ -12,11 +12,11 @@ use Rattle.machine.specs.State.{Cell, State, Declared, loaded, cellAt, planOf, 
 use Rattle.operators.specs.Limits.{capacity}
 use Rattle.operators.proofs.Sizes.{capacity-few}
 use Rattle.le.specs.Bytes.{Bytes}
-use Rattle.cells.specs.View.{bytesOf}
-use Rattle.cells.specs.Sound.{SoundCell, Sound}
+use Rattle.encoding.specs.View.{bytesOf}
+use Rattle.encoding.specs.Sound.{SoundCell, Sound}
 use Rattle.valid.specs.Valid.{valid}
-use Rattle.state.specs.In.{stateIn}
-use Rattle.state.proofs.Whole.{valid-sound, bytes-valid}
+use Rattle.roundtrip.specs.In.{stateIn}
+use Rattle.roundtrip.proofs.Whole.{valid-sound, bytes-valid}
 use Rattle.plan.specs.Rules.{number, declared}
 use Rattle.plan.specs.Taken.{StreamKeeps, Each, KeepsRules}
 use Rattle.plan.proofs.Taken.{taken-rendered}

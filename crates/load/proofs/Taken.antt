@@ -22,7 +22,7 @@ use Rattle.operators.specs.Limits.{capacity}
 use Rattle.operators.proofs.Sizes.{capacity-fits, capacity-few}
 use Rattle.operators.proofs.Laws.{number-back}
 use Rattle.operators.proofs.Tests.{left, right}
-use Rattle.cells.specs.View.{KeptNums, noNums, keptNums, flag, padTo, rawOf, ofCell, rawsOf, bytesOf}
+use Rattle.encoding.specs.View.{KeptNums, noNums, keptNums, flag, padTo, rawOf, ofCell, rawsOf, bytesOf}
 use Rattle.text.specs.declared.Fields.{Fields}
 use Rattle.text.specs.declared.Lines.{Lines}
 use Rattle.text.specs.declared.Lines.the-variants as Lines

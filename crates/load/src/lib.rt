@@ -2,7 +2,7 @@
 ghost use mathlib.Core.Path.{_≡_};
 ghost use Prim.Native.Nat.{_*_, _≤_};
 ghost use lib.ListN.{length};
-ghost use Rattle.layout.specs.Record.{encRaw, decRaw, encode, decode, change};
+ghost use Rattle.layout.specs.Record.{encRaw, decRaw, encode, decode};
 ghost use Rattle.load.specs.Filled.{stored, written, filled};
 use text::Fields;
 use text::Head;

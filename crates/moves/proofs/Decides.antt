@@ -10,8 +10,8 @@ use Rattle.machine.specs.State.{Kept, Cell, noKept}
 use Rattle.machine.specs.Reach.{Next, silent, limit, decide}
 use Rattle.meaning.specs.Plan.{argA, argB}
 use Rattle.layout.specs.Record.{Raws, num, rowAt, countF, boundF}
-use Rattle.look.specs.Look.{ownCell}
-use Rattle.look.proofs.Laws.{look-bound}
+use Rattle.streams.specs.Look.{ownCell}
+use Rattle.streams.proofs.Laws.{look-bound}
 use Rattle.decide.proofs.Searches.{decide-stays, decide-near}
 use Rattle.moves.specs.Move.{argIn, ownIn, otherIn, limitRaw, aheadRaw, boundRaw, canRaw}
 

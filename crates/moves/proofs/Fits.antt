@@ -21,14 +21,14 @@ use Rattle.le.proofs.RoundTrip.{All}
 use Rattle.operators.specs.Operators.{groupOf, isLast, isDelay}
 use Rattle.layout.specs.Record.{Slot, Raw, num, withNum, opF, countF, flagF, priorFlagF, keptF, valueF, priorF}
 use Rattle.layout.proofs.Laws.{RawOk, SlotOk, num-small, num-ok}
-use Rattle.cells.specs.View.{flagOf, bitsOf}
-use Rattle.cells.specs.Back.{optional, eventOf, heldOf, keptOf, toCell}
-use Rattle.cells.specs.Sound.{IsValue, IsOptional}
-use Rattle.cells.proofs.Widths.{bits-below}
-use Rattle.sound.proofs.Values.{or-value, cond-value, latest-value, Holds}
-use Rattle.look.specs.Look.{lookOf}
-use Rattle.absorb.proofs.Laws.{value-ok}
-use Rattle.absorb.specs.Keep.{valueKept, delayKept, keptRow}
+use Rattle.encoding.specs.View.{flagOf, bitsOf}
+use Rattle.encoding.specs.Back.{optional, eventOf, heldOf, keptOf, toCell}
+use Rattle.encoding.specs.Sound.{IsValue, IsOptional}
+use Rattle.encoding.proofs.Widths.{bits-below}
+use Rattle.preserve.proofs.Values.{or-value, cond-value, latest-value, Holds}
+use Rattle.streams.specs.Look.{lookOf}
+use Rattle.keeping.proofs.Laws.{value-ok}
+use Rattle.keeping.specs.Keep.{valueKept, delayKept, keptRow}
 
 -- ---- values read from a record
 

@@ -18,14 +18,14 @@ use Rattle.le.specs.Bytes.{Bytes}
 use Rattle.layout.specs.Record.{Slot, Raw, Raws, noRaw, num, withNum, dropped, encode, decode, rowAt, change, changeAll, countF, boundF}
 use Rattle.layout.proofs.Laws.{RawOk, RawsOk, raws-ok, row-ok, change-ok, changeAll-ok, num-ok, num-small, whole-then, encode-decode}
 use Rattle.layout.proofs.Slots.{shift-ok}
-use Rattle.cells.specs.Back.{heldOf}
-use Rattle.look.proofs.Laws.{keeps}
-use Rattle.absorb.specs.Keep.{movedCell, keptRow}
-use Rattle.absorb.proofs.Laws.{row-none}
+use Rattle.encoding.specs.Back.{heldOf}
+use Rattle.streams.proofs.Laws.{keeps}
+use Rattle.keeping.specs.Keep.{movedCell, keptRow}
+use Rattle.keeping.proofs.Laws.{row-none}
 use Rattle.queue.specs.Queue.{pushed, below, released}
-use Rattle.step.specs.Step.{toldRow, leastRow, waitingRow, releasedRow}
+use Rattle.readers.specs.Step.{toldRow, leastRow, waitingRow, releasedRow}
 use Rattle.queue.proofs.Drops.{push-ok}
-use Rattle.step.proofs.Leaves.{told-ok}
+use Rattle.readers.proofs.Leaves.{told-ok}
 use Rattle.moves.specs.Move.{argIn, ownIn, otherIn, keptRaw, absorbedRaw, releasedArgs, boundRaw, releasedAll, silentRaw, eventRaw, stepRaw}
 use Rattle.moves.proofs.Fits.{KeptFits, look-holds, look-kept, absorb-fits, kept-ok}
 

@@ -11,11 +11,11 @@ use Rattle.machine.specs.Reach.{Next, event, silent, limit, decide}
 use Rattle.machine.specs.Step.{absorb}
 use Rattle.meaning.specs.Plan.{argA, argB}
 use Rattle.layout.specs.Record.{Raws, num, withNum, rowAt, change, changeAll, countF, boundF}
-use Rattle.cells.specs.Back.{heldOf}
-use Rattle.look.specs.Look.{lookOf, ownCell}
-use Rattle.absorb.specs.Keep.{movedCell, keptRow}
+use Rattle.encoding.specs.Back.{heldOf}
+use Rattle.streams.specs.Look.{lookOf, ownCell}
+use Rattle.keeping.specs.Keep.{movedCell, keptRow}
 use Rattle.queue.specs.Queue.{pushed}
-use Rattle.step.specs.Step.{toldRow, releasedRow}
+use Rattle.readers.specs.Step.{toldRow, releasedRow}
 
 -- an argument's record, of n; one that is not there is read as the first
 abbrev pub argIn : ℕ → ℕ → ℕ

@@ -9,15 +9,15 @@ ghost use Rattle.meaning.specs.Events.{horizon};
 ghost use Rattle.machine.specs.Reach.{decide};
 ghost use Rattle.meaning.specs.Plan.{argA, argB};
 ghost use Rattle.layout.specs.Record.{num, encode, decode, rowAt, boundF};
-ghost use Rattle.look.specs.Look.{equation, keptIn, ownOf, Sound};
+ghost use Rattle.streams.specs.Look.{equation, keptIn, ownOf, Sound};
 ghost use Rattle.decide.specs.Near.{toNext, knownTo};
 ghost use Rattle.moves.specs.Move.{argIn, ownIn, otherIn, limitRaw, boundRaw, canRaw, keptRaw, absorbedRaw, releasedArgs, releasedAll, silentRaw, eventRaw, stepRaw, movedRaw};
 use decide::Next;
 use limits::Bound;
 use limits::Queue;
-use look::Kept;
-use look::Op;
-use look::Stream;
+use streams::Kept;
+use streams::Op;
+use streams::Stream;
 
 // The number of an argument's record; the first one where there is none such.
 fn argument(n: usize, a: u8) -> usize
@@ -71,9 +71,9 @@ fn ahead(state: &[u8], n: usize, s: Stream) -> Next
     ensures known { λ r. ⌜ knownTo r ≤ horizon ⌝ }
 {
     let op = s.op;
-    let a = argument(n, look::first(op)) * layout::RECORD;
+    let a = argument(n, streams::first(op)) * layout::RECORD;
     let a_end = a + layout::RECORD;
-    let b = argument(n, look::second(op)) * layout::RECORD;
+    let b = argument(n, streams::second(op)) * layout::RECORD;
     let b_end = b + layout::RECORD;
     decide::find_next(s, &state[a..a_end], &state[b..b_end])
 }
@@ -85,11 +85,11 @@ fn kept(state: &[u8], n: usize, i: usize, op: Op, k: Kept, y: u64) -> Kept
 {
     let at = i * layout::RECORD;
     let end = at + layout::RECORD;
-    let a = argument(n, look::first(op)) * layout::RECORD;
+    let a = argument(n, streams::first(op)) * layout::RECORD;
     let a_end = a + layout::RECORD;
-    let b = argument(n, look::second(op)) * layout::RECORD;
+    let b = argument(n, streams::second(op)) * layout::RECORD;
     let b_end = b + layout::RECORD;
-    absorb::absorbed(
+    keeping::absorbed(
         op,
         k,
         y,
@@ -107,7 +107,7 @@ fn keep_row(state: &mut [u8], n: usize, i: usize, op: Op, k: Kept, y: u64)
     let at = i * layout::RECORD;
     let end = at + layout::RECORD;
     let new = kept(state, n, i, op, k, y);
-    absorb::keep(&mut state[at..end], op, new);
+    keeping::keep(&mut state[at..end], op, new);
 }
 
 // Brings what stream i keeps up to date: a last or a delay, the others keep nothing.
@@ -133,7 +133,7 @@ fn release_one(state: &mut [u8], n: usize, a: u8)
     ensures { λ _. ⌜ now (state .exit) ≡ encode n (releasedArgs n (a ∷ []) (decode n (now (state .entry)))) ⌝ }
 {
     let i = argument(n, a);
-    step::release_row(state, n, i);
+    readers::release_row(state, n, i);
 }
 
 // Lets go what nobody waits for of two arguments.
@@ -166,7 +166,7 @@ fn release_all(state: &mut [u8], n: usize, i: usize, op: Op)
     requires { ⌜ (n * 256 ≤ length (now state)) × (i < n) ⌝ }
     ensures { λ _. ⌜ now (state .exit) ≡ encode n (releasedAll n i (equation op) (decode n (now (state .entry)))) ⌝ }
 {
-    step::release_row(state, n, i);
+    readers::release_row(state, n, i);
     release_args(state, n, op);
 }
 
@@ -175,7 +175,7 @@ fn move_silent(state: &mut [u8], n: usize, i: usize, op: Op, k: Kept, y: u64)
     requires { ⌜ (n * 256 ≤ length (now state)) × (i < n) × (y ≤ horizon) × (keptIn k ≡ ownIn i (decode n (now state)) .kept) ⌝ }
     ensures { λ _. ⌜ now (state .exit) ≡ encode n (silentRaw n i (equation op) (keptIn k) y (decode n (now (state .entry)))) ⌝ }
 {
-    calls::progress(state, n, i, y);
+    offers::progress(state, n, i, y);
     absorb_row(state, n, i, op, k, y);
     release_all(state, n, i, op);
 }
@@ -189,7 +189,7 @@ fn move_event(state: &mut [u8], n: usize, i: usize, op: Op, k: Kept, t: u32, v: 
     let end = at + layout::RECORD;
     queue::append(&mut state[at..end], t, v);
     absorb_row(state, n, i, op, k, t as u64 + 1);
-    step::tell_all(state, n, i as u64, t, v);
+    readers::tell_all(state, n, i as u64, t, v);
     release_all(state, n, i, op);
 }
 
@@ -237,12 +237,12 @@ pub fn move_one(state: &mut [u8], n: usize, i: usize) -> bool
     let at = i * layout::RECORD;
     let end = at + layout::RECORD;
     let stored = layout::word_at(&state[at..end], layout::BOUND);
-    let op = look::operator_at(&state[at..end]);
+    let op = streams::operator_at(&state[at..end]);
     if stuck(state, n, op, stored) {
         return false;
     }
-    let bound = look::smaller(stored, Bound::HORIZON);
-    let s = look::complete(&state[at..end], op, bound);
+    let bound = streams::smaller(stored, Bound::HORIZON);
+    let s = streams::complete(&state[at..end], op, bound);
     let held = layout::byte_at(&state[at..end], layout::COUNT);
     let next = ahead(state, n, s);
     if bound_after(next, held) == bound {

@@ -1,7 +1,7 @@
 -- The operator table read both ways, each law proved once by computing over the table.
 use Prim.Native.Nat.{ℕ, _+_, _≤_, _<_}
 use mathlib.Core.Path.{_≡_, refl, sym, ap, _∙_}
-use mathlib.Core.Bool.{Bool, true, false, cond, _&&_}
+use mathlib.Core.Bool.{Bool, true, false, not, cond, _&&_}
 use mathlib.Core.List.{map}
 use native.Mathlib.Omega.{arith}
 use borrow.Author.Tests.{leb-true, leb-false, lt-leb, ne-eqb}
@@ -201,10 +201,19 @@ pub delay-number : (n : ℕ) → isDelay (groupOf n) ≡ eqb n 19
 unfolding groupOf
 delay-number = by-number isDelay 19 (lit≤ tt) refl refl
 
+-- the group of operators with one argument
+abbrev pub hasOne : Group → Bool
+hasOne g = takesFirst g && not (takesSecond g)
+
 -- set and plus
 pub value-range : (n : ℕ) → usesK n ≡ (leb 5 n && leb n 6)
 unfolding usesK
 value-range = by-range (λ o. o .value) 5 6 (lit≤ tt) refl refl
+
+-- only an operator with one argument uses a value
+pub value-by-group : (n : ℕ) → usesK n ≡ (hasOne (groupOf n) && usesK n)
+unfolding usesK groupOf
+value-by-group = by-row (λ o. o .value) (λ o. hasOne (o .group) && o .value) refl refl
 
 module _ (a b : ℕ) (k : ℤ) where
   pub number-back : (n : ℕ) → 1 ≤ n → n ≤ operatorCount → numberOf (eqnOf n a b k) ≡ n

@@ -1,8 +1,10 @@
 // The operators and the plan: one table of names, stored numbers, groups and equations, in specs/; and the limits of a plan.
 ghost use mathlib.Core.Path.{_≡_};
+ghost use mathlib.Core.Bool.{_&&_};
+ghost use lib.Dec.{eqb, ltb};
 ghost use Rattle.operators.specs.Limits.{stateLength, streamLimit, mostStreams, textLimit, capacity, countFits};
 ghost use Rattle.operators.specs.Operators.{groupOf, usesK, isPresent, isIn, takesFirst, takesSecond, delaysFirst};
-ghost use Rattle.operators.specs.Rules.{argOk, valueOk, outOk, fieldsOk};
+ghost use Rattle.operators.specs.Rules.{valueOk, fieldsOk};
 
 // What the stored number of an operator says of its arguments.
 pub enum Group {
@@ -122,41 +124,70 @@ pub fn delays_first(g: Group) -> bool
     }
 }
 
-// An argument that is used is below n, one that is not is 0.
-fn arg_ok(used: bool, n: u64, a: u64) -> bool
-    ensures { λ r. ⌜ r ≡ argOk used n a ⌝ }
-{
-    if used { a < n } else { a == 0 }
-}
-
 fn value_ok(used: bool, k: u64) -> bool
     ensures { λ r. ⌜ r ≡ valueOk used k ⌝ }
 {
     if used { true } else { k == 0 }
 }
 
-// out is 0 or 1, and 0 of an input.
-fn out_ok(g: Group, out: u64) -> bool
-    ensures { λ r. ⌜ r ≡ outOk g out ⌝ }
+// The fields of an operator without arguments. Here and below, out is whether the field out keeps its rule.
+fn none_ok(a: u64, b: u64, k: u64, out: bool) -> bool
+    ensures { λ r. ⌜ r ≡ (eqb a 0 && (eqb b 0 && (eqb k 0 && out))) ⌝ }
 {
-    if is_in(g) { out == 0 } else { out < 2 }
+    if a != 0 {
+        return false;
+    }
+    if b != 0 {
+        return false;
+    }
+    if k != 0 {
+        return false;
+    }
+    out
+}
+
+// The fields of an operator with one argument.
+fn one_ok(n: u64, op: u64, a: u64, b: u64, k: u64, out: bool) -> bool
+    ensures { λ r. ⌜ r ≡ (ltb a n && (eqb b 0 && (valueOk (usesK op) k && out))) ⌝ }
+{
+    if n <= a {
+        return false;
+    }
+    if b != 0 {
+        return false;
+    }
+    if !value_ok(takes_value(op), k) {
+        return false;
+    }
+    out
+}
+
+// The fields of an operator with two arguments.
+fn two_ok(n: u64, a: u64, b: u64, k: u64, out: bool) -> bool
+    ensures { λ r. ⌜ r ≡ (ltb a n && (ltb b n && (eqb k 0 && out))) ⌝ }
+{
+    if n <= a {
+        return false;
+    }
+    if n <= b {
+        return false;
+    }
+    if k != 0 {
+        return false;
+    }
+    out
 }
 
 // Whether the fields of a stream of a plan of n streams keep the rules.
 pub fn fields_ok(n: u64, op: u64, a: u64, b: u64, k: u64, out: u64) -> bool
     ensures { λ r. ⌜ r ≡ fieldsOk n op a b k out ⌝ }
 {
-    let g = group_of(op);
-    if !arg_ok(takes_first(g), n, a) {
-        return false;
+    match group_of(op) {
+        Group::Input => none_ok(a, b, k, out == 0),
+        Group::Absent | Group::Plain => none_ok(a, b, k, out < 2),
+        Group::One => one_ok(n, op, a, b, k, out < 2),
+        Group::Two | Group::Last | Group::Delay => two_ok(n, a, b, k, out < 2),
     }
-    if !arg_ok(takes_second(g), n, b) {
-        return false;
-    }
-    if !value_ok(takes_value(op), k) {
-        return false;
-    }
-    out_ok(g, out)
 }
 
 // A plan: how many streams it has.

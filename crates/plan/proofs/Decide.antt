@@ -7,6 +7,7 @@ use lib.Dec.{eqb}
 use lib.ListN.{length}
 use borrow.Author.Tests.{not-true, not-false}
 use Rattle.meaning.specs.Cycle.{acyclic}
+use Rattle.operators.specs.Limits.{mostStreams}
 use Rattle.cycle.specs.Graph.{Walk, walked, cleared}
 use Rattle.text.specs.declared.Fields.{Fields}
 use Rattle.plan.specs.declared.Checked.{Checked}
@@ -65,7 +66,7 @@ module _ (cap : ℕ) (s : List ℕ) (n : ℕ) (g₀ : List ℕ) where
           rw (k, c fs end refl k t)
       by false e = clash e
 
-pub cycle-number : (cap : ℕ) (s : List ℕ) (n at : ℕ) (g₀ : List ℕ) → 3 * n ≤ length g₀ → (ok : Bool) (g : List ℕ) → Checked.Formed ok ≡ checkedOf (length s) (passOf n true 0 g₀ (streams s at n)) → Noted g (passOf n true 0 g₀ (streams s at n)) → not ok ≡ false → (b : Bool) (h : List ℕ) → walked b h ≡ cleared cap n g → cond b 0 6 ≡ numberAfter cap s n (streams s at n)
-cycle-number cap s n at g₀ l ok g e t f b h w =
+pub cycle-number : (cap : ℕ) (s : List ℕ) (n at : ℕ) (g₀ : List ℕ) → 3 * n ≤ length g₀ → n ≤ mostStreams → (ok : Bool) (g : List ℕ) → Checked.Formed ok ≡ checkedOf (length s) (passOf n true 0 g₀ (streams s at n)) → Noted g (passOf n true 0 g₀ (streams s at n)) → not ok ≡ false → (b : Bool) (h : List ℕ) → walked b h ≡ cleared cap n g → cond b 0 6 ≡ numberAfter cap s n (streams s at n)
+cycle-number cap s n at g₀ l few ok g e t f b h w =
     kept-number cap s n g₀ (streams s at n) ok g e t f b
-    (λ fs end q k z. ap (λ (x : Walk). x .isClear) w ∙ ap (λ (x : List ℕ). cleared cap n x .isClear) z ∙ cleared-plan s n at fs end q k g₀ l cap)
+    (λ fs end q k z. ap (λ (x : Walk). x .isClear) w ∙ ap (λ (x : List ℕ). cleared cap n x .isClear) z ∙ cleared-plan s n at fs end q k g₀ l few cap)

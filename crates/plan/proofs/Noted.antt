@@ -1,16 +1,17 @@
 -- What the pass notes of a plan that keeps rule 5 is the plan's graph, and so the code's test decides rule 6.
-use Prim.Native.Nat.{ℕ, zero, suc, _+_, _*_, _-_, _<_, _≤_}
+use Prim.Native.Nat.{ℕ, zero, suc, _+_, _*_, _<_, _≤_}
 use mathlib.Core.Path.{_≡_, refl, sym, ap, _∙_, subst}
 use mathlib.Core.Bool.{true}
 use mathlib.Core.List.{List, [], _∷_, _++_, append-assoc}
 use native.Mathlib.Omega.{arith}
 use Rattle.operators.proofs.Tests.{left, right}
-use lib.ListN.{length, drop, replicate, length-append, length-map, length-drop, length-replicate}
+use lib.ListN.{length, drop, length-append, length-map, length-drop}
 use lib.Seq.{sets-eq, take-at, drop-append-add, drop-drop}
 use mir.Syntax.{w64}
 use mir.Val.{toZ}
 use Rattle.meaning.specs.Plan.{undelayed, argA, argB, AllBelow}
 use Rattle.meaning.specs.Cycle.{acyclic}
+use Rattle.operators.specs.Limits.{mostStreams}
 use Rattle.operators.specs.Operators.{operatorCount, numberOf}
 use Rattle.operators.proofs.Laws.{number-back}
 use Rattle.operators.proofs.Rules.{fields-first, fields-second, fields-undelayed}
@@ -92,10 +93,10 @@ unfolding planFrom
 plan-length fs = length-map fs eqnFrom
 
 -- the code's test on what was noted is the definition's test of the plan
-pub cleared-plan : (s : List ℕ) (n at : ℕ) (fs : List Fields) (end : ℕ) → streams s at n ≡ formed fs end → allKeep n fs ≡ true → (g : List ℕ) → 3 * n ≤ length g → (d : ℕ) → cleared d n (notedAll n 0 fs g) .isClear ≡ acyclic d (planFrom fs)
-cleared-plan s n at fs end e k g h d =
+pub cleared-plan : (s : List ℕ) (n at : ℕ) (fs : List Fields) (end : ℕ) → streams s at n ≡ formed fs end → allKeep n fs ≡ true → (g : List ℕ) → 3 * n ≤ length g → n ≤ mostStreams → (d : ℕ) → cleared d n (notedAll n 0 fs g) .isClear ≡ acyclic d (planFrom fs)
+cleared-plan s n at fs end e k g h few d =
     let r = read-sound s n at fs end e in
     let m : length (planFrom fs) ≡ n = plan-length fs ∙ r .1 in
     ap (λ (x : List ℕ). cleared d n x .isClear) (noted-graph n 0 fs (r .0) k [] g refl (omega (arith, r .1)))
     ∙ ap (λ (x : ℕ). cleared d x (graphOf (planFrom fs) ++ drop (3 * length fs) g) .isClear) (sym m)
-    ∙ graph-acyclic (planFrom fs) (drop (3 * length fs) g) (λ i l. subst (λ (x : ℕ). AllBelow x (argsAt (planFrom fs) i)) (sym m) (all-below n fs (r .0) k i (omega arith))) d
+    ∙ graph-acyclic (planFrom fs) (drop (3 * length fs) g) (omega arith) (λ i l. subst (λ (x : ℕ). AllBelow x (argsAt (planFrom fs) i)) (sym m) (all-below n fs (r .0) k i (omega arith))) d

@@ -24,7 +24,7 @@ pub noted-kept : (n i : ℕ) (f : Fields) (g : List ℕ) → keeps n f ≡ true 
 unfolding notedStream
 noted-kept n i f g e = sym (rw e)
 
-pub noted-broken : (n i : ℕ) (f : Fields) (g : List ℕ) → keeps n f ≡ false → sets g (3 * i) (entryOf 0 0 0) ≡ notedStream n i f g
+pub noted-broken : (n i : ℕ) (f : Fields) (g : List ℕ) → keeps n f ≡ false → g ≡ notedStream n i f g
 unfolding notedStream
 noted-broken n i f g e = sym (rw e)
 

@@ -12,7 +12,7 @@ use borrow.Author.Tests.{le-ltb, eq-eqb}
 use mir.Syntax.{w64}
 use mir.Val.{toZ}
 use mir.Facts.{toZ-pos, toZ-neg}
-use Rattle.meaning.specs.Plan.{keep, Eqn, input, nil, unit, one, two, last, delay, isInput, reads, argA, argB, AllBelow}
+use Rattle.meaning.specs.Plan.{Eqn, input, nil, unit, one, two, last, delay, isInput, reads, argA, argB, AllBelow}
 use Rattle.meaning.specs.Cycle.{acyclic}
 use Rattle.machine.specs.State.{Declared, declaredPlan}
 use Rattle.operators.specs.Operators.{nameOf, eqnOf, numberOf, valueOf}

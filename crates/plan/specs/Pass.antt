@@ -1,34 +1,25 @@
 -- How the code goes: one pass reads the lines, tests rule 5 and notes the arguments for rule 6.
-use Prim.Native.Nat.{ℕ, zero, suc, _+_, _*_}
+use Prim.Native.Nat.{ℕ, _+_, _*_}
 use mathlib.Core.Path.{_≡_}
-use mathlib.Core.Bool.{Bool, true, false, not, cond, _&&_}
-use mathlib.Core.List.{List, [], _∷_, map}
-use lib.Dec.{eqb, ltb}
-use lib.ListN.{length}
+use mathlib.Core.Bool.{Bool, true, false, cond, _&&_}
+use mathlib.Core.List.{List, [], _∷_}
+use lib.Dec.{eqb}
 use lib.Seq.{sets}
-use mir.Syntax.{w64}
-use mir.Val.{toZ}
-use Rattle.meaning.specs.Plan.{Eqn, Plan}
-use Rattle.meaning.specs.Cycle.{acyclic}
-use Rattle.machine.specs.State.{Declared}
-use Rattle.operators.specs.Operators.{eqnOf, usesA, usesB, usesK}
 use Rattle.cycle.specs.Graph.{entryOf}
 use Rattle.text.specs.declared.Fields.{Fields}
 use Rattle.text.specs.declared.Lines.{Lines}
 use Rattle.text.specs.declared.Lines.the-variants as Lines
-use Rattle.text.specs.declared.Head.{Head}
 use Rattle.text.specs.declared.Head.the-variants as Head
-use Rattle.text.specs.Grammar.{stream, head}
 use Rattle.plan.specs.declared.Checked.{Checked}
 use Rattle.plan.specs.declared.Checked.the-variants as Checked
 use Rattle.plan.specs.declared.Turn.{Turn}
 use Rattle.plan.specs.declared.Turn.the-variants as Turn
 use Rattle.plan.specs.Rules.{keeps, allKeep, Form, refused, formed}
 
--- the arguments of stream i; one that breaks rule 5 is noted without any, since the text is refused anyway
+-- what is noted of stream i: nothing if it breaks rule 5, since the text is refused anyway
 abbrev pub entryIf : Bool → Fields → List ℕ
 entryIf true f = entryOf (f .op) (f .a) (f .b)
-entryIf false f = entryOf 0 0 0
+entryIf false f = []
 
 unfoldable pub notedStream : ℕ → ℕ → Fields → List ℕ → List ℕ
 notedStream n i f g = sets g (3 * i) (entryIf (keeps n f) f)

@@ -1,6 +1,6 @@
 -- Rules 5 and 6, and the number of a whole plan text.
 use Prim.Native.Nat.{ℕ, zero, suc}
-use mathlib.Core.Bool.{Bool, true, not, cond, _&&_}
+use mathlib.Core.Bool.{Bool, true, cond, _&&_}
 use mathlib.Core.List.{List, [], _∷_, map}
 use lib.Dec.{eqb, ltb}
 use lib.ListN.{length}
@@ -18,9 +18,7 @@ use Rattle.text.specs.declared.Lines.the-variants as Lines
 use Rattle.text.specs.declared.Head.{Head}
 use Rattle.text.specs.declared.Head.the-variants as Head
 use Rattle.text.specs.Grammar.{stream, head}
-use Rattle.plan.specs.declared.Checked.{Checked}
 use Rattle.plan.specs.declared.Checked.the-variants as Checked
-use Rattle.plan.specs.declared.Turn.{Turn}
 use Rattle.plan.specs.declared.Turn.the-variants as Turn
 
 -- ## "Then 5, an unused field not 0, a used argument not below N, or out=1 on in."

@@ -2,10 +2,10 @@
 use Prim.Native.Nat.{ℕ, _^_, _<_, _≤_}
 use mathlib.Core.Path.{_≡_}
 use mathlib.Core.Bool.{true, false, _&&_}
-use mathlib.Core.List.{List, [], _∷_, map}
+use mathlib.Core.List.{List, [], _∷_}
 use lib.ListN.{length}
 use lib.Signed.{mag}
-use Rattle.meaning.specs.Plan.{Plan, isInput, reads, AllBelow}
+use Rattle.meaning.specs.Plan.{isInput, reads, AllBelow}
 use Rattle.meaning.specs.Cycle.{acyclic}
 use Rattle.machine.specs.State.{Declared, declaredPlan}
 use Rattle.operators.specs.Operators.{valueOf}

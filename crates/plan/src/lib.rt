@@ -38,14 +38,13 @@ fn keeps(n: u64, f: Fields) -> bool
     operators::fields_ok(n, f.op as u64, f.a, f.b, f.k, f.out)
 }
 
-// Tests rule 5 for stream i, and notes its undelayed arguments.
+// Tests rule 5 for stream i, and notes its undelayed arguments if it keeps the rule.
 fn note_stream(graph: &mut [u8], i: usize, n: u64, f: Fields) -> bool
     requires { ⌜ (3 * i + 2 < length (now graph)) × (n ≤ 256) ⌝ }
     ensures { λ r. ⌜ r ≡ keeps n f ⌝ }
     ensures { λ _. ⌜ now (graph .exit) ≡ notedStream n i f (now (graph .entry)) ⌝ }
 {
     if !keeps(n, f) {
-        cycle::note(graph, i, 0, 0, 0);
         return false;
     }
     cycle::note(graph, i, f.op, f.a as u8, f.b as u8);

@@ -10,7 +10,7 @@ use lib.ListN.{length, getD, take, drop}
 use lib.Seq.{drop-cons}
 use borrow.Author.Tests.{eq-eqb, ne-eqb, lt-ltb, le-ltb}
 use Rattle.layout.specs.Record.{Slot, Raw, noSlot, num, countF}
-use Rattle.cells.specs.Back.{eventOf, heldOf}
+use Rattle.encoding.specs.Back.{eventOf, heldOf}
 use Rattle.meaning.specs.Events.{Event, found}
 use Rattle.machine.specs.State.{room}
 use Rattle.machine.specs.Reach.{pastLatest}

@@ -9,7 +9,7 @@ ghost use Rattle.machine.specs.State.{room};
 ghost use Rattle.machine.specs.Reach.{pastLatest};
 ghost use Rattle.layout.specs.Record as layout;
 ghost use Rattle.layout.specs.Record.{encRaw, decRaw};
-ghost use Rattle.cells.specs.Back.{heldOf};
+ghost use Rattle.encoding.specs.Back.{heldOf};
 ghost use Rattle.queue.specs.Found.{asOption, passed};
 ghost use Rattle.queue.specs.Queue.{pushed, below, released};
 use limits::Bound;

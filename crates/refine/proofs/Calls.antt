@@ -20,10 +20,10 @@ use Rattle.machine.specs.Calls.{Outcome, unless, noInput, offerReading, offerPr
 use Rattle.operators.specs.Operators.{groupOf, isIn}
 use Rattle.operators.proofs.Laws.{in-of}
 use Rattle.layout.specs.Record.{Raw, Raws, num, withNum, rowAt, change, changeAll, opF, countF, boundF}
-use Rattle.cells.specs.View.{ofCell, rawsOf}
+use Rattle.encoding.specs.View.{ofCell, rawsOf}
 use Rattle.queue.specs.Queue.{pushed}
-use Rattle.step.specs.Step.{toldRow, releasedRow, offered}
-use Rattle.calls.specs.Numbers.{readingRow, readingRaw, progressRow, progressRaw}
+use Rattle.readers.specs.Step.{toldRow, releasedRow, offered}
+use Rattle.offers.specs.Numbers.{readingRow, readingRaw, progressRow, progressRaw}
 use Rattle.refine.proofs.Queues.{bound-of, push-of}
 use Rattle.refine.proofs.Whole.{row-of, change-of, tell-of, release-row-of}
 

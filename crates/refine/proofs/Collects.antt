@@ -15,10 +15,10 @@ use Rattle.machine.specs.State.{Cell, State, absent, cellAt, room, withNext}
 use Rattle.machine.specs.Step.{release}
 use Rattle.machine.specs.Calls.{Outcome, unless, oldest, handOut, collect}
 use Rattle.layout.specs.Record.{Slot, Raw, noSlot, num, withNum, slotAt, rowAt, outF, countF, nextF}
-use Rattle.cells.specs.View.{flag, slotOf, padTo, ofCell, rawsOf}
+use Rattle.encoding.specs.View.{flag, slotOf, padTo, ofCell, rawsOf}
 use Rattle.queue.specs.Queue.{below}
-use Rattle.step.specs.Step.{releasedRow}
-use Rattle.calls.specs.Numbers.{waitingSlot, collectRow, collectRaw, collectedRaw}
+use Rattle.readers.specs.Step.{releasedRow}
+use Rattle.offers.specs.Numbers.{waitingSlot, collectRow, collectRaw, collectedRaw}
 use Rattle.refine.proofs.Queues.{next-of}
 use Rattle.refine.proofs.Whole.{row-of, change-of, release-row-of}
 use Rattle.refine.proofs.Calls.{absent-at}

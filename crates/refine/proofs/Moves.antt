@@ -19,19 +19,19 @@ use Rattle.machine.specs.Reach.{Next, event, silent, decide}
 use Rattle.machine.specs.Step.{advance, absorb, absorbed, write, tell, release, releases, raise, newBound, added, ahead, canMove, comesIn, move}
 use Rattle.machine.proofs.Frame.{absorbed-frame, tell-frame}
 use Rattle.layout.specs.Record.{Raws, num, withNum, rowAt, change, changeAll, countF, boundF}
-use Rattle.cells.specs.Back.{heldOf, toCell}
-use Rattle.cells.specs.View.{ofCell, rawsOf}
-use Rattle.cells.specs.Sound.{IsKept, SoundCell, Sound}
-use Rattle.cells.proofs.Widths.{cell-back}
-use Rattle.sound.proofs.Steps.{Comes, silence, comes-values, set-sound, advance-sound, write-sound, tell-sound, release-sound}
-use Rattle.sound.proofs.Calls.{ahead-fine}
+use Rattle.encoding.specs.Back.{heldOf, toCell}
+use Rattle.encoding.specs.View.{ofCell, rawsOf}
+use Rattle.encoding.specs.Sound.{IsKept, SoundCell, Sound}
+use Rattle.encoding.proofs.Widths.{cell-back}
+use Rattle.preserve.proofs.Steps.{Comes, silence, comes-values, set-sound, advance-sound, write-sound, tell-sound, release-sound}
+use Rattle.preserve.proofs.Calls.{ahead-fine}
 use Rattle.machine.proofs.Moves.{can-up}
-use Rattle.look.specs.Look.{lookOf}
-use Rattle.look.proofs.Laws.{look-cell}
-use Rattle.absorb.specs.Keep.{movedCell, keptRow}
-use Rattle.absorb.proofs.Laws.{absorb-near, kept-cell}
+use Rattle.streams.specs.Look.{lookOf}
+use Rattle.streams.proofs.Laws.{look-cell}
+use Rattle.keeping.specs.Keep.{movedCell, keptRow}
+use Rattle.keeping.proofs.Laws.{absorb-near, kept-cell}
 use Rattle.queue.specs.Queue.{pushed}
-use Rattle.step.specs.Step.{toldRow, releasedRow}
+use Rattle.readers.specs.Step.{toldRow, releasedRow}
 use Rattle.moves.specs.Move.{argIn, ownIn, otherIn, aheadRaw, boundRaw, canRaw, keptRaw, absorbedRaw, releasedArgs, releasedAll, silentRaw, eventRaw, stepRaw, movedRaw}
 use Rattle.refine.proofs.Queues.{bound-of, silent-is, push-of}
 use Rattle.refine.proofs.Whole.{row-of, change-of, tell-of, release-row-of}

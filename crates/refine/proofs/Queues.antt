@@ -15,7 +15,7 @@ use Rattle.meaning.specs.Events.{Event, ev}
 use Rattle.machine.specs.State.{Cell, room, withHeld, withNext, withBound}
 use Rattle.machine.specs.Step.{advance, dropBelow}
 use Rattle.layout.specs.Record.{Slot, Raw, noSlot, withNum, shifted, countF, boundF, nextF}
-use Rattle.cells.specs.View.{slotOf, padTo, ofCell}
+use Rattle.encoding.specs.View.{slotOf, padTo, ofCell}
 use Rattle.queue.specs.Queue.{pushed, below, released}
 
 -- ---- a number of the head

@@ -15,8 +15,8 @@ use Rattle.machine.specs.Step.{anyOf, readsIt, valueTold, priorTold, sinceTold,
 use Rattle.operators.specs.Operators.{groupOf, numberOf}
 use Rattle.operators.proofs.Laws.{one-group, two-group, arguments-of}
 use Rattle.layout.specs.Record.{Raw}
-use Rattle.cells.specs.View.{keptNums, flag, rawOf, ofCell}
-use Rattle.step.specs.Step.{readsRow, toldLast, toldValue, toldPrior, toldSince, toldDelay, toldRow, lowered, waitingRow}
+use Rattle.encoding.specs.View.{keptNums, flag, rawOf, ofCell}
+use Rattle.readers.specs.Step.{readsRow, toldLast, toldValue, toldPrior, toldSince, toldDelay, toldRow, lowered, waitingRow}
 
 pub cond-same : {A : Type 0} (b : Bool) (x : A) → cond b x x ≡ x
 cond-same true x = refl

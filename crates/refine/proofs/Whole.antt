@@ -11,9 +11,9 @@ use Rattle.meaning.specs.Events.{ev}
 use Rattle.machine.specs.State.{Cell, State, cellAt, room, withHeld}
 use Rattle.machine.specs.Step.{told, tell, leastReader, leastWaiting, dropBelow, release}
 use Rattle.layout.specs.Record.{Raw, Raws, noRaw, rowAt, change, changeAll}
-use Rattle.cells.specs.View.{ofCell, rawsOf}
+use Rattle.encoding.specs.View.{ofCell, rawsOf}
 use Rattle.queue.specs.Queue.{released}
-use Rattle.step.specs.Step.{toldRow, lowered, leastRow, waitingRow, releasedRow}
+use Rattle.readers.specs.Step.{toldRow, lowered, leastRow, waitingRow, releasedRow}
 use Rattle.refine.proofs.Rows.{lower-of, waiting-of, told-of}
 use Rattle.refine.proofs.Queues.{release-of}
 

@@ -1,4 +1,5 @@
 -- What a call leaves is bytes, or no state; a run without a move and a refused collect leave the buffer as it is.
+use Rattle.machine.specs.State.{room}
 use Prim.Native.Nat.{ℕ, zero, suc, _*_, _-_}
 use mathlib.Core.Path.{_≡_, refl, sym, ap, _∙_}
 use mathlib.Core.Logic.{_⊎_, inl, inr}
@@ -14,11 +15,11 @@ use Rattle.layout.specs.Record.{Slot, Raw, noSlot, noRaw, headWidths, slotWidth
 use Rattle.machine.specs.State.{State}
 use Rattle.machine.specs.Calls.{Call, running, collecting, lowest, run, call}
 use Rattle.machine.proofs.Outcomes.{run-more, run-ends}
-use Rattle.cells.specs.View.{rawsOf, bytesOf}
+use Rattle.encoding.specs.View.{rawsOf, bytesOf}
 use Rattle.valid.specs.Valid.{valid}
-use Rattle.state.specs.In.{stateIn}
-use Rattle.state.proofs.Whole.{valid-bytes}
-use Rattle.running.specs.Reply.{Reply}
+use Rattle.roundtrip.specs.In.{stateIn}
+use Rattle.roundtrip.proofs.Whole.{valid-bytes}
+use Rattle.calls.specs.Reply.{Reply}
 use Rattle.engine.specs.Reply.{reply}
 use Rattle.engine.proofs.Replies.{reply-outcome, reply-none, reply-refused}
 
@@ -47,7 +48,7 @@ slot-bytes e = fields-bytes slotWidths (slotNums e)
 
 raw-bytes : (r : Raw) → Bytes (encRaw r)
 unfolding encRaw
-raw-bytes r = append-bytes (encFields headWidths (r .nums)) (encRows encSlot noSlot 16 (r .slots)) (fields-bytes headWidths (r .nums)) (rows-bytes encSlot noSlot slot-bytes 16 (r .slots))
+raw-bytes r = append-bytes (encFields headWidths (r .nums)) (encRows encSlot noSlot room (r .slots)) (fields-bytes headWidths (r .nums)) (rows-bytes encSlot noSlot slot-bytes 16 (r .slots))
 
 zero-bytes : (n : ℕ) → Bytes (replicate n 0)
 zero-bytes zero i = lit< tt

@@ -7,7 +7,7 @@ use native.Mathlib.Omega.{arith}
 use lib.Dec.{eqb}
 use lib.ListN.{length, take}
 use Rattle.machine.specs.Calls.{running, collecting}
-use Rattle.running.specs.Reply.{Reply}
+use Rattle.calls.specs.Reply.{Reply}
 use Rattle.engine.specs.Reply.{reply}
 use Rattle.printer.specs.Print.{eventText, eventRoom}
 use Rattle.decimal.proofs.Puts.{put-take, put-length}

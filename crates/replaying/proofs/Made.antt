@@ -8,7 +8,7 @@ use native.Mathlib.Decide.{decLt, ℕ-discrete}
 use lib.Dec.{eqb}
 use Rattle.machine.specs.Calls.{Call, running, collecting}
 use Rattle.runs.specs.History.{Seen, Typed, AllTyped}
-use Rattle.running.specs.Reply.{Reply}
+use Rattle.calls.specs.Reply.{Reply}
 use Rattle.engine.specs.Reply.{reply}
 use Rattle.engine.specs.History.{seenIn}
 use Rattle.trace.specs.declared.Record.{Record}

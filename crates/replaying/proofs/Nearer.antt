@@ -9,7 +9,7 @@ use native.Mathlib.Nat.{mul-le-mul-right}
 use native.Mathlib.Decide.{decLt, ℕ-discrete}
 use Rattle.le.specs.Bytes.{Bytes}
 use Rattle.machine.specs.Calls.{running, collecting}
-use Rattle.running.specs.Reply.{Reply}
+use Rattle.calls.specs.Reply.{Reply}
 use Rattle.engine.specs.Reply.{reply}
 use Rattle.engine.proofs.Replies.{reply-none}
 use Rattle.resting.specs.Left.{left}

@@ -7,7 +7,7 @@ use native.Mathlib.Omega.{arith}
 use lib.Dec.{eqb}
 use lib.ListN.{length}
 use borrow.Author.Tests.{eq-eqb, ne-eqb, lt-ltb, le-ltb}
-use Rattle.running.specs.Reply.{Reply}
+use Rattle.calls.specs.Reply.{Reply}
 use Rattle.printer.specs.Print.{eventText, refusedText, refusedRoom}
 use Rattle.printer.proofs.Lines.{refused-most}
 use Rattle.replaying.specs.declared.Place.the-variants.{Run, Collect}

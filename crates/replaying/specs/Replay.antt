@@ -5,7 +5,7 @@ use mathlib.Core.Bool.{Bool, true, false, cond}
 use mathlib.Core.List.{List, [], _++_}
 use lib.Dec.{eqb, ltb}
 use Rattle.machine.specs.Calls.{Call, reading, progress, running, collecting}
-use Rattle.running.specs.Reply.{Reply}
+use Rattle.calls.specs.Reply.{Reply}
 use Rattle.engine.specs.Reply.{reply}
 use Rattle.trace.specs.declared.Record.{Record}
 use Rattle.trace.specs.declared.Record.the-variants.{Reading, Progress}

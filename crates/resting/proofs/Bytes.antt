@@ -9,12 +9,12 @@ use Rattle.operators.specs.Limits.{capacity}
 use Rattle.le.specs.Bytes.{Bytes}
 use Rattle.machine.specs.State.{State}
 use Rattle.machine.specs.Calls.{running, collecting, call, run, collect}
-use Rattle.cells.specs.View.{bytesOf}
-use Rattle.cells.specs.Sound.{Sound}
+use Rattle.encoding.specs.View.{bytesOf}
+use Rattle.encoding.specs.Sound.{Sound}
 use Rattle.valid.specs.Valid.{valid}
-use Rattle.state.specs.In.{stateIn}
-use Rattle.state.proofs.Whole.{valid-sound, bytes-state, bytes-count, bytes-valid}
-use Rattle.sound.proofs.Calls.{call-sound}
+use Rattle.roundtrip.specs.In.{stateIn}
+use Rattle.roundtrip.proofs.Whole.{valid-sound, bytes-state, bytes-count, bytes-valid}
+use Rattle.preserve.proofs.Calls.{call-sound}
 use Rattle.engine.specs.Reply.{reply}
 use Rattle.engine.proofs.Replies.{reply-outcome, reply-none}
 use Rattle.resting.specs.Left.{lack, left}

@@ -16,8 +16,8 @@ use Rattle.machine.proofs.Cells.{beyond}
 use Rattle.machine.proofs.Frame.{raise-size, raise-next, raise-bound, output-there}
 use Rattle.machine.proofs.Moves.{goal, goal-ge, can-up, lowest-can, oldest-ge}
 use Rattle.machine.proofs.Outcomes.{run-more, run-ends, unless-cases}
-use Rattle.cells.specs.Sound.{IsNext, Sound}
-use Rattle.sound.proofs.Calls.{move-sound, collect-sound}
+use Rattle.encoding.specs.Sound.{IsNext, Sound}
+use Rattle.preserve.proofs.Calls.{move-sound, collect-sound}
 use Rattle.runs.proofs.Move.{move-raise}
 use Rattle.runs.proofs.Marks.{collected-cell, collected-next}
 use Rattle.resting.specs.Left.{sum, share, lack}

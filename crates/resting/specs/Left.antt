@@ -6,7 +6,7 @@ use lib.ListN.{length}
 use Rattle.meaning.specs.Events.{horizon}
 use Rattle.machine.specs.State.{State, cellAt}
 use Rattle.valid.specs.Valid.{valid}
-use Rattle.state.specs.In.{stateIn}
+use Rattle.roundtrip.specs.In.{stateIn}
 
 unfoldable pub sum : (ℕ → ℕ) → ℕ → ℕ
 sum f zero = 0

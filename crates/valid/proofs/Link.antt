@@ -1,5 +1,5 @@
 -- On records that pass, the graph that the code fills is that of the plan, so the code's test is the definition's.
-use Prim.Native.Nat.{ℕ, zero, suc, _+_, _*_, _-_, _<_, _≤_}
+use Prim.Native.Nat.{ℕ, zero, suc, _+_, _*_, _<_, _≤_}
 use mathlib.Core.Path.{_≡_, refl, sym, ap, ap₂, _∙_}
 use mathlib.Core.Logic.{⊎-elim}
 use mathlib.Core.List.{List, [], _∷_, map}
@@ -27,7 +27,7 @@ use Rattle.cycle.proofs.Tied.{argsAt, cleared-acyclic}
 use Rattle.cycle.proofs.Graphs.{entry-length, entries-tied}
 use Rattle.layout.specs.Record.{Raw, noRaw, num, decRaw, decode, rowAt, opF, aF, bF, kF, outF, countF, boundF}
 use Rattle.layout.proofs.Laws.{row-at, rows-many, byte-get}
-use Rattle.cells.specs.Back.{toCell, stateOf}
+use Rattle.encoding.specs.Back.{toCell, stateOf}
 use Rattle.valid.specs.Valid.{planOk, sizesOk, risen, keptOk, rowOk, allRows, count, planIn, noted, clearIn}
 use Rattle.valid.proofs.Tests.{left, right, in-few}
 use Rattle.valid.proofs.Graph.{noted-length}
@@ -149,7 +149,7 @@ clear-is cap s n h ok l =
     let pl = plan-length n s in
     let gl : length g ≡ graphLength = noted-length n s (replicate graphLength 0) in
     ap (λ (m : ℕ). cleared cap m g .isClear) (sym pl)
-    ∙ cleared-acyclic plan (λ i k. below i (omega arith)) cap g
+    ∙ cleared-acyclic plan (omega arith) (λ i k. below i (omega arith)) cap g
     (entries-tied plan g (omega arith) (λ i j k m. byte i j (omega arith) m))
   where
     facts : (i : ℕ) → i < n → PlanFacts n (decRaw (part s (i * 256) 256))

@@ -15,7 +15,7 @@ use Rattle.operators.specs.Operators.{groupOf, isLast, isDelay, isOperator}
 use Rattle.operators.specs.Rules.{fieldsOk}
 use Rattle.operators.specs.Limits.{capacity}
 use Rattle.layout.specs.Record.{Slot, Raw, num, decRaw, opF, aF, bF, outF, countF, flagF, priorFlagF, smallF, kF, boundF, nextF, keptF, valueF, priorF, lastF}
-use Rattle.cells.specs.Back.{stateOf}
+use Rattle.encoding.specs.Back.{stateOf}
 use Rattle.valid.specs.declared.Tested.{Tested}
 use Rattle.valid.specs.declared.Tested.the-variants as Tested
 

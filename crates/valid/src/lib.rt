@@ -1,9 +1,9 @@
 // Number 15: whether bytes are a state.
 ghost use mathlib.Core.Path.{_≡_};
-ghost use mathlib.Core.Bool.{cond};
 ghost use Prim.Native.Nat.{_+_, _*_, _≤_, _<_};
 ghost use lib.ListN.{length};
 ghost use Rattle.operators.specs.Limits.{mostStreams, capacity};
+ghost use Rattle.machine.specs.State.{room};
 ghost use Rattle.layout.specs.Record.{decRaw};
 ghost use Rattle.valid.specs.Valid.{planOk, nextOk, sizesOk, risen, flagOk, noneIf, noneOk, lastOk, delayOk, keptOk, rowOk, allRows, streamsIn, count, noted, clearIn, tested};
 use cycle::GRAPH;
@@ -16,14 +16,14 @@ fn plan_ok(r: &[u8], n: u64) -> bool
     requires { ⌜ length (now r) ≡ 256 ⌝ }
     ensures { λ x. ⌜ x ≡ planOk n (decRaw (now (r .entry))) ⌝ }
 {
-    let op = layout::byte_at(r, 0);
+    let op = layout::byte_at(r, layout::OP);
     if !operators::is_present(operators::group_of(op)) {
         return false;
     }
-    let a = layout::byte_at(r, 1);
-    let b = layout::byte_at(r, 2);
-    let k = layout::word_at(r, 0);
-    let out = layout::byte_at(r, 3);
+    let a = layout::byte_at(r, layout::A);
+    let b = layout::byte_at(r, layout::B);
+    let k = layout::word_at(r, layout::K);
+    let out = layout::byte_at(r, layout::OUT);
     operators::fields_ok(n, op, a, b, k, out)
 }
 
@@ -40,27 +40,31 @@ fn sizes_ok(r: &[u8]) -> bool
     requires { ⌜ length (now r) ≡ 256 ⌝ }
     ensures { λ x. ⌜ x ≡ sizesOk (decRaw (now (r .entry))) ⌝ }
 {
-    let count = layout::byte_at(r, 4);
-    if (Queue::ROOM as u64) < count {
+    let count = layout::byte_at(r, layout::COUNT);
+    if Queue::ROOM < count {
         return false;
     }
-    let bound = layout::word_at(r, 1);
+    let bound = layout::word_at(r, layout::BOUND);
     if Bound::HORIZON < bound {
         return false;
     }
-    if !next_ok(layout::byte_at(r, 3), layout::word_at(r, 2), bound) {
+    if !next_ok(
+        layout::byte_at(r, layout::OUT),
+        layout::word_at(r, layout::NEXT),
+        bound,
+    ) {
         return false;
     }
-    let small = layout::byte_at(r, 7);
+    let small = layout::byte_at(r, layout::SMALL);
     if small != 0 {
         return false;
     }
-    layout::word_at(r, 6) == 0
+    layout::word_at(r, layout::REST) == 0
 }
 
 // Whether the first n stamps rise and stay below top.
 fn rises(r: &[u8], n: usize, top: u64) -> bool
-    requires { ⌜ (length (now r) ≡ 256) × (n ≤ 16) ⌝ }
+    requires { ⌜ (length (now r) ≡ 256) × (n ≤ room) ⌝ }
     ensures { λ x. ⌜ x ≡ risen top 0 n (decRaw (now (r .entry)) .slots) ⌝ }
 {
     let mut low: u64 = 0;
@@ -98,59 +102,59 @@ fn none_ok(r: &[u8]) -> bool
     requires { ⌜ length (now r) ≡ 256 ⌝ }
     ensures { λ x. ⌜ x ≡ noneOk (decRaw (now (r .entry))) ⌝ }
 {
-    let flag = layout::byte_at(r, 5);
+    let flag = layout::byte_at(r, layout::FLAG);
     if flag != 0 {
         return false;
     }
-    let prior_flag = layout::byte_at(r, 6);
+    let prior_flag = layout::byte_at(r, layout::PRIOR_FLAG);
     if prior_flag != 0 {
         return false;
     }
-    let kept = layout::word_at(r, 3);
+    let kept = layout::word_at(r, layout::KEPT);
     if kept != 0 {
         return false;
     }
-    let value = layout::word_at(r, 4);
+    let value = layout::word_at(r, layout::VALUE);
     if value != 0 {
         return false;
     }
-    layout::word_at(r, 5) == 0
+    layout::word_at(r, layout::PRIOR) == 0
 }
 
 fn last_ok(r: &[u8]) -> bool
     requires { ⌜ length (now r) ≡ 256 ⌝ }
     ensures { λ x. ⌜ x ≡ lastOk (decRaw (now (r .entry))) ⌝ }
 {
-    let flag = layout::byte_at(r, 5);
-    if !flag_ok(flag, layout::word_at(r, 3)) {
+    let flag = layout::byte_at(r, layout::FLAG);
+    if !flag_ok(flag, layout::word_at(r, layout::KEPT)) {
         return false;
     }
-    if !none_if(layout::word_at(r, 1), flag) {
+    if !none_if(layout::word_at(r, layout::BOUND), flag) {
         return false;
     }
-    let prior_flag = layout::byte_at(r, 6);
+    let prior_flag = layout::byte_at(r, layout::PRIOR_FLAG);
     if prior_flag != 0 {
         return false;
     }
-    let value = layout::word_at(r, 4);
+    let value = layout::word_at(r, layout::VALUE);
     if value != 0 {
         return false;
     }
-    layout::word_at(r, 5) == 0
+    layout::word_at(r, layout::PRIOR) == 0
 }
 
 fn delay_ok(r: &[u8]) -> bool
     requires { ⌜ length (now r) ≡ 256 ⌝ }
     ensures { λ x. ⌜ x ≡ delayOk (decRaw (now (r .entry))) ⌝ }
 {
-    let flag = layout::byte_at(r, 5);
-    let prior_flag = layout::byte_at(r, 6);
-    let since = layout::word_at(r, 3);
-    let bound = layout::word_at(r, 1);
-    if !flag_ok(flag, layout::word_at(r, 4)) {
+    let flag = layout::byte_at(r, layout::FLAG);
+    let prior_flag = layout::byte_at(r, layout::PRIOR_FLAG);
+    let since = layout::word_at(r, layout::KEPT);
+    let bound = layout::word_at(r, layout::BOUND);
+    if !flag_ok(flag, layout::word_at(r, layout::VALUE)) {
         return false;
     }
-    if !flag_ok(prior_flag, layout::word_at(r, 5)) {
+    if !flag_ok(prior_flag, layout::word_at(r, layout::PRIOR)) {
         return false;
     }
     if !none_if(since, flag) {
@@ -166,7 +170,7 @@ fn kept_ok(r: &[u8]) -> bool
     requires { ⌜ length (now r) ≡ 256 ⌝ }
     ensures { λ x. ⌜ x ≡ keptOk (decRaw (now (r .entry))) ⌝ }
 {
-    let op = layout::byte_at(r, 0);
+    let op = layout::byte_at(r, layout::OP);
     match operators::group_of(op) {
         Group::Last => last_ok(r),
         Group::Delay => delay_ok(r),
@@ -184,14 +188,14 @@ fn row_ok(r: &[u8], n: u64) -> bool
     if !sizes_ok(r) {
         return false;
     }
-    let count = layout::byte_at(r, 4) as usize;
-    if !rises(r, count, layout::word_at(r, 1)) {
+    let count = layout::byte_at(r, layout::COUNT) as usize;
+    if !rises(r, count, layout::word_at(r, layout::BOUND)) {
         return false;
     }
     if !kept_ok(r) {
         return false;
     }
-    le::zeros(r, 64 + count * 12)
+    le::zeros(r, layout::HEAD + count * layout::SLOT)
 }
 
 // Whether the first n records pass.
@@ -201,8 +205,8 @@ fn rows_ok(state: &[u8], n: usize) -> bool
 {
     let mut i = 0;
     while i < n {
-        let at = i * 256;
-        let end = at + 256;
+        let at = i * layout::RECORD;
+        let end = at + layout::RECORD;
         if !row_ok(&state[at..end], n as u64) {
             return false;
         }
@@ -218,7 +222,7 @@ fn streams_in(state: &[u8], most: usize) -> usize
 {
     let mut i = 0;
     while i < most {
-        if state[i * 256] == 0 {
+        if state[i * layout::RECORD] == 0 {
             return i;
         }
         i += 1;
@@ -233,7 +237,7 @@ fn fill_graph(state: &[u8], n: usize, graph: &mut [u8])
 {
     let mut i = 0;
     while i < n {
-        let at = i * 256;
+        let at = i * layout::RECORD;
         cycle::note(graph, i, state[at], state[at + 1], state[at + 2]);
         i += 1;
     }
@@ -270,7 +274,7 @@ pub fn streams(state: &[u8]) -> Tested
     if !rows_ok(state, n) {
         return Tested::NoState;
     }
-    if !le::zeros(state, n * 256) {
+    if !le::zeros(state, n * layout::RECORD) {
         return Tested::NoState;
     }
     if !clear(state, n, most) {

@@ -7,7 +7,6 @@ use Rattle.operators.specs.Operators.{argumentsOf}
 use Rattle.operators.proofs.Arms.{bare-prompts, late-prompts}
 use Rattle.cycle.specs.Graph.{entryBy, entryOf}
 use borrow.Author.Needs.{needs}
-use native.Mathlib.Omega.{arith}
 use Rattle.cycle.proofs.note.Statement.{statement}
 use Rattle.cycle.proofs.note.Tie as tie
 use Rattle.cycle.proofs.note.Reads as reads

@@ -1,7 +1,7 @@
 use mathlib.Core.Path.{sym, ap, _∙_}
 use denote.Ref.{now}
-use Rattle.look.specs.declared.Op.{Op}
-use Rattle.look.specs.Look.{equation, ownOf, argOf}
+use Rattle.streams.specs.declared.Op.{Op}
+use Rattle.streams.specs.Look.{equation, ownOf, argOf}
 use Rattle.decide.specs.Search.{candidateOf}
 use Rattle.decide.proofs.Steps as step
 use borrow.Author.Needs.{needs}

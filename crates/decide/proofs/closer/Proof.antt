@@ -1,6 +1,6 @@
 use mathlib.Core.Path.{sym, _∙_}
 use denote.Ref.{now}
-use Rattle.look.specs.Look.{equation, ownOf, argOf}
+use Rattle.streams.specs.Look.{equation, ownOf, argOf}
 use Rattle.decide.specs.Near.{testIn}
 use Rattle.decide.proofs.Steps as step
 use borrow.Author.Needs.{needs}

@@ -1,6 +1,6 @@
 use Prim.Native.Nat.{_+_}
 use mathlib.Core.Path.{ap, ap₂, _∙_}
-use Rattle.gives.specs.Near.{size}
+use Rattle.events.specs.Near.{size}
 use borrow.Author.Needs.{needs}
 use Rattle.decide.proofs.due_at.Statement.{statement}
 use Rattle.decide.proofs.due_at.Tie as tie

@@ -2,8 +2,8 @@ use mathlib.Core.Path.{_∙_}
 use denote.Ref.{now}
 use Rattle.machine.specs.Reach as machine
 use Rattle.layout.specs.Record.{decRaw}
-use Rattle.cells.specs.Back.{toCell}
-use Rattle.look.specs.Look.{lookOf, equation, ownOf, argOf}
+use Rattle.encoding.specs.Back.{toCell}
+use Rattle.streams.specs.Look.{lookOf, equation, ownOf, argOf}
 use Rattle.decide.proofs.Searches as law
 use borrow.Author.Needs.{needs}
 use Rattle.decide.proofs.find_next.Statement.{statement}

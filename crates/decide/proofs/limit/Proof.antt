@@ -3,8 +3,8 @@ use mathlib.Core.Path.{_≡_, sym, ap, _∙_}
 use mathlib.Core.List.{List}
 use Rattle.meaning.specs.Events.{Event, horizon}
 use Rattle.machine.specs.Reach as machine
-use Rattle.look.specs.declared.Op.{Op}
-use Rattle.look.specs.Look.{equation, ownOf, argCell}
+use Rattle.streams.specs.declared.Op.{Op}
+use Rattle.streams.specs.Look.{equation, ownOf, argCell}
 use borrow.Author.Needs.{needs}
 use native.Mathlib.Omega.{arith}
 use Rattle.decide.proofs.limit.Statement.{statement}

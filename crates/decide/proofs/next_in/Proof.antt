@@ -2,8 +2,8 @@ use mathlib.Core.Path.{ap, _∙_}
 use denote.Ref.{now}
 use Rattle.machine.specs.Reach as machine
 use Rattle.queue.specs.Found.{asOption}
-use Rattle.table.proofs.Rows.{back}
-use Rattle.look.specs.Look.{equation, ownOf, argOf}
+use Rattle.apply.proofs.Rows.{back}
+use Rattle.streams.specs.Look.{equation, ownOf, argOf}
 use Rattle.decide.proofs.Searches as law
 use borrow.Author.Needs.{needs}
 use native.Mathlib.Omega.{arith}

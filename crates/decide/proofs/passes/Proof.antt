@@ -2,8 +2,8 @@ use mathlib.Core.Path.{ap, _∙_}
 use denote.Ref.{now}
 use Rattle.meaning.specs.Events.{has}
 use Rattle.layout.specs.Record.{decRaw}
-use Rattle.cells.specs.Back.{heldOf}
-use Rattle.look.specs.Look.{equation, ownOf, argOf}
+use Rattle.encoding.specs.Back.{heldOf}
+use Rattle.streams.specs.Look.{equation, ownOf, argOf}
 use Rattle.decide.proofs.Steps as step
 use borrow.Author.Needs.{needs}
 use Rattle.decide.proofs.passes.Statement.{statement}

@@ -5,8 +5,8 @@ use mathlib.Core.List.{_∷_, map}
 use denote.Ref.{now}
 use Rattle.meaning.specs.Plan.{Eqn}
 use Rattle.machine.specs.Reach as machine
-use Rattle.look.specs.Look.{equation, ownOf, argOf}
-use Rattle.look.proofs.Laws.{by}
+use Rattle.streams.specs.Look.{equation, ownOf, argOf}
+use Rattle.streams.proofs.Laws.{by}
 use Rattle.decide.specs.Search.{pick, stamps, candidateOf}
 use Rattle.decide.specs.Near.{nearerIn}
 use Rattle.decide.proofs.Steps as step

@@ -1,10 +1,11 @@
+use Rattle.machine.specs.State.{room}
 use Prim.Native.Nat.{ℕ, _+_, _-_, _≤_}
 use mathlib.Core.Path.{_≡_, refl, sym, ap, _∙_}
 use denote.Ref.{now}
 use Rattle.layout.specs.Record.{decRaw}
 use Rattle.layout.proofs.Slots.{slots-many}
 use Rattle.queue.proofs.Turns.{left, left-all}
-use Rattle.look.specs.Look.{equation, ownOf, argOf}
+use Rattle.streams.specs.Look.{equation, ownOf, argOf}
 use Rattle.decide.specs.Near.{searchIn}
 use Rattle.decide.proofs.Steps as step
 use borrow.Author.Needs.{needs}
@@ -13,7 +14,7 @@ use Rattle.decide.proofs.scan.Statement.{statement}
 use Rattle.decide.proofs.scan.Tie as tie
 
 abbrev Inv-loop : tie.InvT-loop
-Inv-loop give l a b q hi n best₀ i₀ best i = (i ≤ n) × (n ≤ 16) × (best ≤ hi) × (searchIn give l a b best (left (decRaw q .slots) i n) ≡ searchIn give l a b hi (left (decRaw q .slots) 0 n))
+Inv-loop give l a b q hi n best₀ i₀ best i = (i ≤ n) × (n ≤ room) × (best ≤ hi) × (searchIn give l a b best (left (decRaw q .slots) i n) ≡ searchIn give l a b hi (left (decRaw q .slots) 0 n))
 
 abbrev μ-loop : tie.MeasureT-loop
 μ-loop give l a b q hi n best₀ i₀ best i = n - i

@@ -4,8 +4,8 @@ use denote.Ref.{now}
 use lib.Dec.{ltb}
 use Rattle.meaning.specs.Events.{Event, has}
 use Rattle.machine.specs.Reach as machine
-use Rattle.look.specs.declared.Op.{Op}
-use Rattle.look.specs.Look.{equation, ownOf, argCell, argOf}
+use Rattle.streams.specs.declared.Op.{Op}
+use Rattle.streams.specs.Look.{equation, ownOf, argCell, argOf}
 use Rattle.decide.proofs.Steps as step
 use borrow.Author.Needs.{needs}
 use native.Mathlib.Omega.{arith}

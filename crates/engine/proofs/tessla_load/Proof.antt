@@ -1,7 +1,7 @@
 -- `engine::tessla_load` meets its contract.
 use mathlib.Core.Path.{refl, sym, ap, _∙_}
 use denote.Ref.{now}
-use Rattle.running.specs.Reply.{Reply}
+use Rattle.calls.specs.Reply.{Reply}
 use Rattle.engine.proofs.Loads.{load-15, load-number, load-stays, load-fills}
 use borrow.Author.Needs.{needs}
 use native.Mathlib.Omega.{arith}

@@ -3,7 +3,7 @@ use mir.Syntax.{w64}
 use mir.Facts.{toZ-ofZ}
 use mathlib.Core.Path.{refl, sym, _∙_}
 use denote.Ref.{now}
-use Rattle.state.proofs.In.{tested-state, tested-none}
+use Rattle.roundtrip.proofs.In.{tested-state, tested-none}
 use Rattle.engine.proofs.Replies.{reply-state, reply-none}
 use Rattle.machine.specs.Calls.{reading}
 use borrow.Author.Needs.{needs}

@@ -2,7 +2,7 @@
 use Rattle.engine.proofs.Replies.{reply-state, reply-none}
 use mathlib.Core.Path.{refl, sym, _∙_}
 use denote.Ref.{now}
-use Rattle.state.proofs.In.{tested-state, tested-none}
+use Rattle.roundtrip.proofs.In.{tested-state, tested-none}
 use Rattle.engine.proofs.Replies.{reply-state, reply-none, run-done}
 use Rattle.machine.specs.Calls.{running}
 use borrow.Author.Needs.{needs}

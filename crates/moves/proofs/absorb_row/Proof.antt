@@ -1,9 +1,9 @@
 use mathlib.Core.Path.{sym, ap, _∙_}
 use denote.Ref.{now}
 use Rattle.layout.specs.Record.{encode, decode}
-use Rattle.look.specs.declared.Op.{Op}
-use Rattle.look.specs.Look.{equation, keptIn}
-use Rattle.look.proofs.Laws.{keeps}
+use Rattle.streams.specs.declared.Op.{Op}
+use Rattle.streams.specs.Look.{equation, keptIn}
+use Rattle.streams.proofs.Laws.{keeps}
 use Rattle.moves.specs.Move.{absorbedRaw}
 use Rattle.moves.proofs.Steps
 use borrow.Author.Needs.{needs}

@@ -6,7 +6,7 @@ use Rattle.machine.specs.Reach as machine
 use Rattle.meaning.specs.Plan.{argA, argB}
 use Rattle.layout.specs.Record.{decRaw, decode, rowAt}
 use Rattle.layout.proofs.Laws.{row-mid}
-use Rattle.look.specs.Look.{lookOf, equation, ownOf}
+use Rattle.streams.specs.Look.{lookOf, equation, ownOf}
 use Rattle.moves.specs.Move.{argIn}
 use borrow.Author.Needs.{needs}
 use native.Mathlib.Omega.{arith}

@@ -4,8 +4,8 @@ use denote.Ref.{now}
 use Rattle.machine.specs.State.{Kept}
 use Rattle.layout.specs.Record.{encode, decode, change}
 use Rattle.layout.proofs.Laws.{lent}
-use Rattle.look.specs.Look.{equation, keptIn}
-use Rattle.absorb.specs.Keep.{keptRow}
+use Rattle.streams.specs.Look.{equation, keptIn}
+use Rattle.keeping.specs.Keep.{keptRow}
 use Rattle.moves.specs.Move.{absorbedRaw}
 use borrow.Author.Needs.{needs}
 use native.Mathlib.Omega.{arith}

@@ -6,9 +6,9 @@ use Rattle.machine.specs.Step.{absorb}
 use Rattle.meaning.specs.Plan.{argA, argB}
 use Rattle.layout.specs.Record.{decRaw, decode, rowAt}
 use Rattle.layout.proofs.Laws.{row-mid}
-use Rattle.cells.specs.Back.{heldOf}
-use Rattle.look.specs.Look.{lookOf, equation, keptIn}
-use Rattle.absorb.specs.Keep.{movedCell}
+use Rattle.encoding.specs.Back.{heldOf}
+use Rattle.streams.specs.Look.{lookOf, equation, keptIn}
+use Rattle.keeping.specs.Keep.{movedCell}
 use Rattle.moves.specs.Move.{argIn}
 use borrow.Author.Needs.{needs}
 use native.Mathlib.Omega.{arith}

@@ -8,7 +8,7 @@ use mir.Val.{ofZ}
 use mir.Facts.{toZ-ofZ}
 use Rattle.machine.specs.State.{room}
 use Rattle.layout.specs.Record.{encode, decode}
-use Rattle.look.specs.Look.{equation, keptIn}
+use Rattle.streams.specs.Look.{equation, keptIn}
 use Rattle.decide.specs.Near.{toNext}
 use Rattle.moves.specs.Move.{boundRaw, silentRaw, eventRaw, stepRaw}
 use Rattle.moves.proofs.Steps

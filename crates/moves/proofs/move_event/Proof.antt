@@ -3,7 +3,7 @@ use borrow.Rule.Slice.PartMut.{putMid}
 use denote.Ref.{now}
 use Rattle.layout.specs.Record.{decode}
 use Rattle.layout.proofs.Laws.{lent}
-use Rattle.look.specs.Look.{equation, keptIn}
+use Rattle.streams.specs.Look.{equation, keptIn}
 use Rattle.queue.specs.Queue.{pushed}
 use Rattle.moves.proofs.Steps
 use borrow.Author.Needs.{needs}

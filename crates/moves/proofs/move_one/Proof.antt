@@ -5,8 +5,8 @@ use denote.Ref.{now}
 use Rattle.meaning.specs.Events.{horizon}
 use Rattle.layout.specs.Record.{Raw, decRaw, encode, decode, num, rowAt, countF}
 use Rattle.layout.proofs.Laws.{row-mid}
-use Rattle.look.specs.Look.{lookOf, equation, keptIn}
-use Rattle.look.proofs.Laws.{is-sound, look-bound}
+use Rattle.streams.specs.Look.{lookOf, equation, keptIn}
+use Rattle.streams.proofs.Laws.{is-sound, look-bound}
 use Rattle.moves.specs.Move.{ownIn, aheadRaw, boundRaw, stepRaw, movedRaw}
 use Rattle.moves.proofs.Decides
 use borrow.Author.Needs.{needs}

@@ -1,6 +1,6 @@
 use denote.Ref.{now}
 use Rattle.layout.specs.Record.{decode}
-use Rattle.look.specs.Look.{equation, keptIn}
+use Rattle.streams.specs.Look.{equation, keptIn}
 use Rattle.moves.proofs.Steps
 use borrow.Author.Needs.{needs}
 use native.Mathlib.Omega.{arith}

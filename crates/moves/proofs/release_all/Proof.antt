@@ -1,5 +1,5 @@
 use denote.Ref.{now}
-use Rattle.look.specs.Look.{equation}
+use Rattle.streams.specs.Look.{equation}
 use Rattle.moves.proofs.Steps
 use borrow.Author.Needs.{needs}
 use native.Mathlib.Omega.{arith}

@@ -2,8 +2,8 @@ use mathlib.Core.Path.{sym, ap, _∙_}
 use denote.Ref.{now}
 use Rattle.meaning.specs.Plan.{reads}
 use Rattle.layout.specs.Record.{encode, decode}
-use Rattle.look.specs.declared.Op.{Op}
-use Rattle.look.specs.Look.{equation}
+use Rattle.streams.specs.declared.Op.{Op}
+use Rattle.streams.specs.Look.{equation}
 use Rattle.moves.specs.Move.{releasedArgs}
 use Rattle.moves.proofs.Steps
 use borrow.Author.Needs.{needs}

@@ -5,8 +5,8 @@ use denote.Ref.{now}
 use Rattle.meaning.specs.Plan.{Eqn}
 use Rattle.meaning.specs.Events.{horizon}
 use Rattle.layout.specs.Record.{decode}
-use Rattle.look.specs.Look.{equation}
-use Rattle.look.proofs.Laws.{by}
+use Rattle.streams.specs.Look.{equation}
+use Rattle.streams.proofs.Laws.{by}
 use Rattle.moves.specs.Move.{limitRaw}
 use Rattle.moves.proofs.Decides
 use borrow.Author.Needs.{needs}

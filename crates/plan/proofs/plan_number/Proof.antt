@@ -1,6 +1,5 @@
 -- `plan::plan_number` meets its contract.
 use mathlib.Core.Path.{sym, _∙_}
-use Prim.Native.Nat.{_-_}
 use denote.Ref.{now}
 use borrow.Author.Tests.{not-true, not-false}
 use Rattle.plan.proofs.Decide.{refused-number, broken-number, cycle-number}
@@ -27,9 +26,6 @@ enum-known-ok c = search needs
 returns : tie.Need-returns
 returns c = broken-number (c .before .before .before .before .before .before .before .before .args .most) (now (c .before .before .before .before .before .before .before .before .args .text)) (c .before .before .before .before .before .before .before .before .args .n) _ (streams (now (c .before .before .before .before .before .before .before .before .args .text)) (c .before .before .before .before .before .before .before .before .args .at) (c .before .before .before .before .before .before .before .before .args .n)) (c .before .before .ok .given .0 .0) (sym (c .before .before .ok .given .1) ∙ c .before .before .before .before .before .form .ensures .0) (c .if1 .taken)
 
-slice-aggregate-clear : tie.Need-slice-aggregate-clear
-slice-aggregate-clear c = search needs
-
 cast-clear : tie.Need-cast-clear
 cast-clear c = search needs
 
@@ -40,13 +36,13 @@ clear-requires : tie.Need-clear-requires
 clear-requires c κs = search needs
 
 returns-2 : tie.Need-returns-2
-returns-2 c = rw (not-true (c .before .before .clear .result) (c .if2 .taken)) at (cycle-number (c .before .before .before .before .before .before .before .before .before .before .before .before .args .most) (now (c .before .before .before .before .before .before .before .before .before .before .before .before .args .text)) (c .before .before .before .before .before .before .before .before .before .before .before .before .args .n) (c .before .before .before .before .before .before .before .before .before .before .before .before .args .at) (replicate graphLength 0) (simp length-replicate (omega arith)) (c .before .before .before .before .before .before .ok .given .0 .0) (c .before .before .before .before .before .before .before .before .before .form .last .1 .1 .1 .0) (sym (c .before .before .before .before .before .before .ok .given .1) ∙ c .before .before .before .before .before .before .before .before .before .form .ensures .0) (c .before .before .before .before .before .before .before .before .before .form .ensures .1) (c .before .before .before .before .if1 .left) (c .before .before .clear .result) (c .before .before .clear .last .0) (c .before .before .clear .ensures))
+returns-2 c = rw (not-true (c .before .clear .result) (c .if2 .taken)) at (cycle-number (c .before .before .before .before .before .before .before .before .before .before .before .args .most) (now (c .before .before .before .before .before .before .before .before .before .before .before .args .text)) (c .before .before .before .before .before .before .before .before .before .before .before .args .n) (c .before .before .before .before .before .before .before .before .before .before .before .args .at) (replicate graphLength 0) (simp length-replicate (omega arith)) (omega arith) (c .before .before .before .before .before .ok .given .0 .0) (c .before .before .before .before .before .before .before .before .form .last .1 .1 .1 .0) (sym (c .before .before .before .before .before .ok .given .1) ∙ c .before .before .before .before .before .before .before .before .form .ensures .0) (c .before .before .before .before .before .before .before .before .form .ensures .1) (c .before .before .before .if1 .left) (c .before .clear .result) (c .before .clear .last .0) (c .before .clear .ensures))
 
 returns-3 : tie.Need-returns-3
 returns-3 c = refused-number (c .before .before .before .before .before .before .before .args .most) (now (c .before .before .before .before .before .before .before .args .text)) (c .before .before .before .before .before .before .before .args .n) _ (streams (now (c .before .before .before .before .before .before .before .args .text)) (c .before .before .before .before .before .before .before .args .at) (c .before .before .before .before .before .before .before .args .n)) (c .before .r .given .0 .0) (sym (c .before .r .given .1) ∙ c .before .before .before .before .form .ensures .0)
 
 returns-4 : tie.Need-returns-4
-returns-4 c = rw (not-false (c .before .before .clear .result) (c .if2 .left)) at (cycle-number (c .before .before .before .before .before .before .before .before .before .before .before .before .args .most) (now (c .before .before .before .before .before .before .before .before .before .before .before .before .args .text)) (c .before .before .before .before .before .before .before .before .before .before .before .before .args .n) (c .before .before .before .before .before .before .before .before .before .before .before .before .args .at) (replicate graphLength 0) (simp length-replicate (omega arith)) (c .before .before .before .before .before .before .ok .given .0 .0) (c .before .before .before .before .before .before .before .before .before .form .last .1 .1 .1 .0) (sym (c .before .before .before .before .before .before .ok .given .1) ∙ c .before .before .before .before .before .before .before .before .before .form .ensures .0) (c .before .before .before .before .before .before .before .before .before .form .ensures .1) (c .before .before .before .before .if1 .left) (c .before .before .clear .result) (c .before .before .clear .last .0) (c .before .before .clear .ensures))
+returns-4 c = rw (not-false (c .before .clear .result) (c .if2 .left)) at (cycle-number (c .before .before .before .before .before .before .before .before .before .before .before .args .most) (now (c .before .before .before .before .before .before .before .before .before .before .before .args .text)) (c .before .before .before .before .before .before .before .before .before .before .before .args .n) (c .before .before .before .before .before .before .before .before .before .before .before .args .at) (replicate graphLength 0) (simp length-replicate (omega arith)) (omega arith) (c .before .before .before .before .before .ok .given .0 .0) (c .before .before .before .before .before .before .before .before .form .last .1 .1 .1 .0) (sym (c .before .before .before .before .before .ok .given .1) ∙ c .before .before .before .before .before .before .before .before .form .ensures .0) (c .before .before .before .before .before .before .before .before .form .ensures .1) (c .before .before .before .if1 .left) (c .before .clear .result) (c .before .clear .last .0) (c .before .clear .ensures))
 
 pub plan-number-spec : {M : Type 1} → statement M
 plan-number-spec =
@@ -57,7 +53,6 @@ plan-number-spec =
     enum-known-r
     enum-known-ok
     returns
-    slice-aggregate-clear
     cast-clear
     cast-clear-2
     clear-requires

@@ -1,6 +1,5 @@
 -- `plan::read_turn` meets its contract.
 use mathlib.Core.Path.{sym, _∙_}
-use Prim.Native.Nat.{_-_}
 use Rattle.plan.specs.Pass.{turn}
 use borrow.Author.Needs.{needs}
 use Rattle.plan.proofs.read_turn.Statement.{statement}

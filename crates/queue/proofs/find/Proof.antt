@@ -1,3 +1,4 @@
+use Rattle.machine.specs.State.{room}
 use Prim.Native.Nat.{_-_, _≤_}
 use mathlib.Core.Path.{_≡_, sym, ap, _∙_}
 use mathlib.Core.Option.{some}
@@ -9,7 +10,7 @@ use Rattle.layout.specs.Record.{decRaw}
 use Rattle.layout.proofs.Slots.{slots-many}
 use Rattle.meaning.specs.Events.{Event, found}
 use mathlib.Core.List.{List}
-use Rattle.cells.specs.Back.{heldOf}
+use Rattle.encoding.specs.Back.{heldOf}
 use Rattle.queue.proofs.Turns as turn
 use borrow.Author.Needs.{needs}
 use native.Mathlib.Omega.{arith}
@@ -23,7 +24,7 @@ use Rattle.num.proofs.of_bits.Reads as of-bits-reads
 use Rattle.queue.proofs.count.Reads as count-reads
 
 abbrev Inv-loop : tie.InvT-loop
-Inv-loop r t n i₀ i = (i ≤ n) × (n ≤ 16) × (found (turn.left (decRaw r .slots) i n) t ≡ found (heldOf (decRaw r)) t)
+Inv-loop r t n i₀ i = (i ≤ n) × (n ≤ room) × (found (turn.left (decRaw r .slots) i n) t ≡ found (heldOf (decRaw r)) t)
 
 abbrev μ-loop : tie.MeasureT-loop
 μ-loop r t n i₀ i = n - i

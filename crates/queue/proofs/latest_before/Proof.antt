@@ -3,7 +3,7 @@ use denote.Ref.{now}
 use Rattle.layout.specs.Record.{decRaw}
 use Rattle.layout.proofs.Slots.{slots-many}
 use Rattle.meaning.specs.Events.{found}
-use Rattle.cells.specs.Back.{heldOf}
+use Rattle.encoding.specs.Back.{heldOf}
 use Rattle.queue.proofs.Latest.{latest-none, latest-some}
 use borrow.Author.Needs.{needs}
 use Rattle.queue.proofs.latest_before.Statement.{statement}

@@ -1,3 +1,4 @@
+use Rattle.machine.specs.State.{room}
 use Prim.Native.Nat.{ℕ, _+_, _-_, _≤_}
 use mathlib.Core.Path.{_≡_, ap, _∙_}
 use denote.Ref.{now}
@@ -19,7 +20,7 @@ use Rattle.layout.proofs.stamp_at.Reads as stamp-at-reads
 use Rattle.queue.proofs.count.Reads as count-reads
 
 abbrev Inv-loop : tie.InvT-loop
-Inv-loop r t n best₀ i₀ best i = (i ≤ n) × (n ≤ 16) × (best ≡ pastLatest (found (turn.left (decRaw r .slots) i n)) t)
+Inv-loop r t n best₀ i₀ best i = (i ≤ n) × (n ≤ room) × (best ≡ pastLatest (found (turn.left (decRaw r .slots) i n)) t)
 
 abbrev μ-loop : tie.MeasureT-loop
 μ-loop r t n best₀ i₀ best i = i

@@ -1,5 +1,5 @@
 -- `valid::clear` meets its contract.
-use Prim.Native.Nat.{ℕ, _-_}
+use Prim.Native.Nat.{ℕ}
 use mathlib.Core.Path.{ap, _∙_}
 use mathlib.Core.List.{List}
 use Rattle.valid.specs.Valid.{clearIn}
@@ -16,9 +16,6 @@ slice-aggregate-fill-graph c = search needs
 fill-graph-requires : tie.Need-fill-graph-requires
 fill-graph-requires c κs = (omega arith, simp length-replicate (omega arith))
 
-slice-aggregate-clear : tie.Need-slice-aggregate-clear
-slice-aggregate-clear c = search needs
-
 cast-clear : tie.Need-cast-clear
 cast-clear c = search needs
 
@@ -30,7 +27,7 @@ clear-requires c κs = search needs
 
 returns : tie.Need-returns
 unfolding clearIn
-returns c = let a = c .before .before .before .before .before .before .before .args in ap (λ (w : Walk). w .isClear) (c .before .clear .ensures) ∙ ap (λ (g : List ℕ). cleared (a .most) (a .n) g .isClear) (c .before .before .before .before .fill-graph .ensures)
+returns c = let a = c .before .before .before .before .before .before .args in ap (λ (w : Walk). w .isClear) (c .clear .ensures) ∙ ap (λ (g : List ℕ). cleared (a .most) (a .n) g .isClear) (c .before .before .before .fill-graph .ensures)
 
 pub clear-spec : {M : Type 1} → statement M
 clear-spec =
@@ -38,7 +35,6 @@ clear-spec =
     (tie.spec
     slice-aggregate-fill-graph
     fill-graph-requires
-    slice-aggregate-clear
     cast-clear
     cast-clear-2
     clear-requires

@@ -1,4 +1,3 @@
-use Prim.Native.Nat.{_-_}
 use borrow.Author.Tests.{eq-eqb, ne-eqb}
 use Rattle.valid.proofs.next_ok.Statement.{statement}
 use Rattle.valid.proofs.next_ok.Tie as tie

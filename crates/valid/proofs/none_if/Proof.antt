@@ -1,4 +1,3 @@
-use Prim.Native.Nat.{_-_}
 use borrow.Author.Tests.{eq-eqb, ne-eqb}
 use Rattle.valid.proofs.none_if.Statement.{statement}
 use Rattle.valid.proofs.none_if.Tie as tie

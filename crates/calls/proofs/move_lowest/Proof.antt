@@ -1,0 +1,65 @@
+use Prim.Native.Nat.{ℕ, _-_, _<_, _≤_}
+use mathlib.Core.Path.{_≡_, refl, sym, ap}
+use mathlib.Core.Bool.{false}
+use borrow.Author.Count.{below-more}
+use lib.ListN.{length}
+use denote.Ref.{now}
+use Rattle.machine.specs.Step.{canMove}
+use Rattle.roundtrip.specs.In.{stateIn}
+use Rattle.roundtrip.proofs.In
+use Rattle.calls.proofs.Turns
+use native.Mathlib.Omega.{arith}
+use Rattle.calls.proofs.move_lowest.Statement.{statement}
+use Rattle.calls.proofs.move_lowest.Tie as tie
+use Rattle.calls.proofs.move_lowest.Reads as reads
+use Rattle.calls.proofs.move_lowest.Lts as lts
+use Rattle.moves.proofs.move_one.Reads as move-one-reads
+
+abbrev Inv-loop : tie.InvT-loop
+Inv-loop state₀ n i₀ state i = (i ≤ n) × (state ≡ state₀) × ((j : ℕ) → j < i → canMove j (stateIn state₀) ≡ false)
+
+abbrev μ-loop : tie.MeasureT-loop
+μ-loop state₀ n i₀ state i = n - i
+
+loop-holds : tie.Need-loop-holds Inv-loop μ-loop
+loop-holds c = (omega arith, refl, λ j h. absurd (omega arith))
+
+move-one-requires : tie.Need-move-one-requires Inv-loop μ-loop
+move-one-requires c κs = let a = c .before .before .before .before .args in let s = now (a .state) in let l = c .before .before .loop in let rf = In.room-for s (λ j. omega (arith, c .before .before .before .slice-known .given j)) (a .n) (c .before .before .before .before .pre) in (rw (ap length (l .inv .1)) rf, omega arith)
+
+same-length : tie.Need-same-length Inv-loop μ-loop
+same-length c = let a = c .before .before .before .before .before .before .before .before .args in let s = now (a .state) in let l = c .before .before .before .before .before .before .loop in Turns.turn-length s (λ j. omega (arith, c .before .before .before .before .before .before .before .slice-known .given j)) (a .n) (c .before .before .before .before .before .before .before .before .pre) (l .state) (c .before .before .before .move-one .last .0) (l .inv .1) (c .before .before .before .move-one .result) (l .i) (omega arith) (c .before .before .before .move-one .ensures .0) (c .before .before .before .move-one .ensures .1) (c .if1 .taken) (l .inv .2)
+
+returns : tie.Need-returns Inv-loop μ-loop
+returns c = let a = c .before .before .before .before .before .before .before .before .args in let s = now (a .state) in let l = c .before .before .before .before .before .before .loop in (Turns.turn-lowest s (λ j. omega (arith, c .before .before .before .before .before .before .before .slice-known .given j)) (a .n) (c .before .before .before .before .before .before .before .before .pre) (l .state) (c .before .before .before .move-one .last .0) (l .inv .1) (c .before .before .before .move-one .result) (l .i) (omega arith) (c .before .before .before .move-one .ensures .0) (c .before .before .before .move-one .ensures .1) (c .if1 .taken) (l .inv .2), Turns.turn-moved s (λ j. omega (arith, c .before .before .before .before .before .before .before .slice-known .given j)) (a .n) (c .before .before .before .before .before .before .before .before .pre) (l .state) (c .before .before .before .move-one .last .0) (l .inv .1) (c .before .before .before .move-one .result) (l .i) (omega arith) (c .before .before .before .move-one .ensures .0) (c .before .before .before .move-one .ensures .1) (c .if1 .taken) (l .inv .2))
+
+add-i : tie.Need-add-i Inv-loop μ-loop
+add-i c = omega arith
+
+loop-less : tie.Need-loop-less Inv-loop μ-loop
+loop-less c = omega arith
+
+loop-again : tie.Need-loop-again Inv-loop μ-loop
+loop-again c = let a = c .before .before .before .before .before .before .before .before .args in let s = now (a .state) in let l = c .before .before .before .before .before .before .loop in let p = Turns.turn-stays s (λ j. omega (arith, c .before .before .before .before .before .before .before .slice-known .given j)) (a .n) (c .before .before .before .before .before .before .before .before .pre) (l .state) (c .before .before .before .move-one .last .0) (l .inv .1) (c .before .before .before .move-one .result) (l .i) (omega arith) (c .before .before .before .move-one .ensures .0) (c .before .before .before .move-one .ensures .1) (c .if1 .left) in (omega arith, p .0, below-more _ _ (l .inv .2) (p .1))
+
+same-length-2 : tie.Need-same-length-2 Inv-loop μ-loop
+same-length-2 c = ap length (c .before .loop .inv .1)
+
+returns-2 : tie.Need-returns-2 Inv-loop μ-loop
+returns-2 c = let a = c .before .before .before .args in let s = now (a .state) in let l = c .before .loop in let before : (j : ℕ) → j < a .n → canMove j (stateIn s) ≡ false = λ j h. l .inv .2 j (omega arith) in (sym (Turns.lowest-none s (λ j. omega (arith, c .before .before .slice-known .given j)) (a .n) (c .before .before .before .pre) before), Turns.none-left s (λ j. omega (arith, c .before .before .slice-known .given j)) (a .n) (c .before .before .before .pre) before (l .state) (l .inv .1))
+
+pub move-lowest-spec : {M : Type 1} → statement M
+move-lowest-spec =
+    tie.close
+    (tie.spec
+    Inv-loop
+    μ-loop
+    loop-holds
+    move-one-requires
+    same-length
+    returns
+    add-i
+    loop-less
+    loop-again
+    same-length-2
+    returns-2)

@@ -1,0 +1,38 @@
+-- What a last or a delay keeps, in the numbers of its record.
+use Prim.Native.Nat.{ℕ}
+use mathlib.Core.Bool.{false}
+use mathlib.Core.List.{List}
+use Rattle.meaning.specs.Plan.{Eqn, input, nil, unit, one, two, last, delay}
+use Rattle.meaning.specs.Events.{Event}
+use Rattle.machine.specs.State.{Kept, Cell}
+use Rattle.layout.specs.Record.{Raw, decRaw, withNum, flagF, priorFlagF, keptF, valueF, priorF}
+use Rattle.encoding.specs.View.{flagOf, bitsOf}
+use Rattle.encoding.specs.Back.{heldOf}
+use Rattle.streams.specs.declared.Kept as code
+use Rattle.streams.specs.Look.{keptIn}
+
+-- the moved stream's own cell, as far as its kept data need it: its bound, its held events and what it kept
+abbrev pub movedCell : ℕ → List Event → Kept → Cell
+movedCell y es k = record { eqn = nil; out = false; bound = y; held = es; next = 0; kept = k }
+
+abbrev pub movedOf : code.Kept → ℕ → List ℕ → Cell
+movedOf k y s = movedCell y (heldOf (decRaw s)) (keptIn k)
+
+-- a value that may be absent: whether it is there in number f, its bits in number j
+unfoldable pub valueKept : (f j : ℕ) → (has bits : ℕ) → Raw → Raw
+valueKept f j has bits r = withNum j bits (withNum f has r)
+
+unfoldable pub delayKept : Kept → Raw → Raw
+unfolding valueKept
+delayKept k r = valueKept priorFlagF priorF (flagOf (k .prior)) (bitsOf (k .prior)) (valueKept flagF valueF (flagOf (k .value)) (bitsOf (k .value)) (withNum keptF (k .since) r))
+
+-- a last's and a delay's record with this kept; those of other equations stay as they are
+unfoldable pub keptRow : Eqn → Kept → Raw → Raw
+unfolding valueKept delayKept
+keptRow input k r = r
+keptRow nil k r = r
+keptRow unit k r = r
+keptRow (one f a) k r = r
+keptRow (two g a b) k r = r
+keptRow (last a b) k r = valueKept flagF keptF (flagOf (k .prev)) (bitsOf (k .prev)) r
+keptRow (delay a b) k r = delayKept k r

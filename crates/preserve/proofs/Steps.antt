@@ -1,0 +1,281 @@
+-- Each part of a step keeps a sound state sound: a cell written, the readers told, events let go, a mark of collection.
+use Prim.Native.Nat.{ℕ, zero, suc, pred, _+_, _<_, _≤_}
+use mathlib.Core.Path.{_≡_, refl, sym, ap, _∙_}
+use mathlib.Core.Bool.{Bool, true, false, cond, _&&_}
+use mathlib.Core.Option.{Option, none, some}
+use mathlib.Core.List.{List, [], _∷_, _++_, map, append-nil}
+use native.Mathlib.Omega.{arith}
+use native.Mathlib.Decide.{decLt}
+use lib.Dec.{ltb, eqb}
+use lib.IntN.{ℤ}
+use lib.ListN.{length, getD, length-set, length-map, length-append, set}
+use lib.Seq.{ext-getD}
+use borrow.Author.Tests.{ltb-true, eqb-true, eq-eqb}
+use Rattle.meaning.specs.Plan.{Eqn, input, nil, unit, one, two, last, delay, reads, argA, argB}
+use Rattle.meaning.specs.Events.{Event, ev, horizon}
+use Rattle.meaning.specs.Table.{latest}
+use Rattle.meaning.specs.Cycle.{acyclic}
+use Rattle.machine.specs.State.{Kept, Cell, State, absent, cellAt, room, planOf, withBound, withHeld, withNext, withKept}
+use Rattle.machine.specs.Reach.{view, valueAt}
+use Rattle.machine.specs.Step.{advance, later, absorb, absorbed, write, valueTold, priorTold, sinceTold, keptTold, told, tell, leastWaiting, dropBelow, release, releases, raise}
+use Rattle.machine.proofs.Cells.{set-cases, told-at}
+use Rattle.machine.proofs.Window.{past-le}
+use Rattle.machine.proofs.Rising.{drop-shorter}
+use Rattle.machine.proofs.Release.{among, release-at, release-size, releases-at, releases-size}
+use Rattle.encoding.specs.Sound.{IsValue, Rising, IsNext, DelayKept, IsKept, SoundCell, Sound}
+use Rattle.preserve.proofs.Values.{or-value, cond-value, latest-value, Holds, holds}
+
+-- ---- a state with the same equations, every cell sound
+
+plan-same : (M N : State) → length N ≡ length M → ((i : ℕ) → cellAt N i .eqn ≡ cellAt M i .eqn) → planOf N ≡ planOf M
+plan-same M N l h =
+    ext-getD nil (planOf N) (planOf M) (length-map N (λ c. c .eqn) ∙ l ∙ sym (length-map M (λ c. c .eqn)))
+    (λ i k. at N i ∙ h i ∙ sym (at M i))
+  where
+    at : (K : State) (i : ℕ) → getD (planOf K) i nil ≡ cellAt K i .eqn
+    at [] i = refl
+    at (c ∷ K) zero = refl
+    at (c ∷ K) (suc i) = at K i
+
+pub sound-again : {cap : ℕ} (M N : State) → Sound cap M → length N ≡ length M → ((i : ℕ) → cellAt N i .eqn ≡ cellAt M i .eqn) → ((i : ℕ) → i < length M → SoundCell (length M) (cellAt N i)) → Sound cap N
+sound-again {cap} M N ok l q h = record {
+  some = rw l (ok .some);
+  few = rw l (ok .few);
+  each = λ i k. rw l (h i (rw l at k));
+  acyclic = ap (acyclic cap) (plan-same M N l q) ∙ ok .acyclic;
+}
+
+-- one cell written
+pub set-sound : {cap : ℕ} (M : State) (s : ℕ) (c : Cell) → Sound cap M → s < length M → c .eqn ≡ cellAt M s .eqn → SoundCell (length M) c → Sound cap (set M s c)
+set-sound M s c ok l q h =
+    sound-again M (set M s c) ok (length-set M s c)
+    (set-cases (λ i d. d .eqn ≡ cellAt M i .eqn) M s c l (λ i n. refl) q)
+    (set-cases (λ i d. i < length M → SoundCell (length M) d) M s c l (λ i n k. ok .each i k) (λ k. h))
+
+-- ---- rising events
+
+rising-top : (lo top y : ℕ) (es : List Event) → top ≤ y → Rising lo top es → Rising lo y es
+rising-top lo top y [] h r = omega arith
+rising-top lo top y (e ∷ es) h r = (r .0, r .1, rising-top (suc (e .stamp)) top y es h (r .2))
+
+rising-low : (lo lo′ top : ℕ) (es : List Event) → lo′ ≤ lo → Rising lo top es → Rising lo′ top es
+rising-low lo lo′ top [] h r = omega arith
+rising-low lo lo′ top (e ∷ es) h r = let q = r .0 in (omega arith, r .1, r .2)
+
+rising-snoc : (lo top t : ℕ) (v : ℤ) (es : List Event) → top ≤ t → IsValue v → Rising lo top es → Rising lo (suc t) (es ++ ev t v ∷ [])
+rising-snoc lo top t v [] h k r = (omega arith, k, omega arith)
+rising-snoc lo top t v (e ∷ es) h k r = (r .0, r .1, rising-snoc (suc (e .stamp)) top t v es h k (r .2))
+
+rising-drop : (w lo top : ℕ) (es : List Event) → Rising lo top es → Rising lo top (dropBelow w es)
+unfolding dropBelow
+rising-drop w lo top [] r = r
+rising-drop w lo top (e ∷ es) r = go (ltb (e .stamp) w) (rising-drop w (suc (e .stamp)) top es (r .2))
+  where
+    go : (b : Bool) → Rising (suc (e .stamp)) top (dropBelow w es) → Rising lo top (cond b (dropBelow w es) (e ∷ es))
+    go true h = let q = r .0 in rising-low (suc (e .stamp)) lo top (dropBelow w es) (omega arith) h
+    go false h = r
+
+-- ---- let go
+
+held-sound : (n : ℕ) (c : Cell) (es : List Event) → SoundCell n c → length es ≤ room → Rising 0 (c .bound) es → SoundCell n (withHeld es c)
+held-sound n c es ok l r = record { arguments = ok .arguments; value = ok .value; out = ok .out; bound = ok .bound; few = l; held = r; next = ok .next; kept = ok .kept }
+
+dropped-sound : (n w : ℕ) (c : Cell) (b : Bool) → SoundCell n c → SoundCell n (withHeld (cond b (dropBelow w (c .held)) (c .held)) c)
+dropped-sound n w c true ok = let d = drop-shorter w (c .held) in let f = ok .few in held-sound n c (dropBelow w (c .held)) ok (omega arith) (rising-drop w 0 (c .bound) (c .held) (ok .held))
+dropped-sound n w c false ok = held-sound n c (c .held) ok (ok .few) (ok .held)
+
+pub release-sound : {cap : ℕ} (s : ℕ) (M : State) → Sound cap M → Sound cap (release s M)
+release-sound s M ok =
+    sound-again M (release s M) ok (release-size s M) (λ i. ap (λ c. c .eqn) (release-at s M i))
+    (λ i k. rw (release-at s M i) (dropped-sound (length M) (leastWaiting i M) (cellAt M i) (eqb i s) (ok .each i k)))
+
+pub releases-sound : {cap : ℕ} (ss : List ℕ) (M : State) → Sound cap M → Sound cap (releases ss M)
+releases-sound ss M ok =
+    sound-again M (releases ss M) ok (releases-size ss M) (λ i. ap (λ c. c .eqn) (releases-at ss M i))
+    (λ i k. rw (releases-at ss M i) (dropped-sound (length M) (leastWaiting i M) (cellAt M i) (among i ss) (ok .each i k)))
+
+-- ---- told
+
+cond-none : (p : Bool) (v : ℤ) (o : Option ℤ) → (p ≡ true → ⊥) → o ≡ none → cond p (some v) o ≡ none
+cond-none true v o h e = absurd (h refl)
+cond-none false v o h e = e
+
+and-true : (p q : Bool) → (p && q) ≡ true → (p ≡ true) × (q ≡ true)
+and-true true q e = (refl, e)
+and-true false q e = let z : _≡_ {A = ℕ} 0 1 = ap (λ (b : Bool). cond b 1 0) e in absurd (omega arith)
+
+module _ (y t : ℕ) (v : ℤ) (l : t < y) (hv : IsValue v) where
+  value-kept : (p : Bool) (k : Kept) → DelayKept y k → DelayKept y (valueTold p t v k)
+  value-kept p k ok =
+      record {
+        prev = ok .prev;
+        since = ok .since;
+        value = cond-value (p && eqb (k .since) (t + 1)) (some v) (k .value) hv (ok .value);
+        prior = ok .prior;
+        unset = λ z. cond-none (p && eqb (k .since) (t + 1)) v (k .value) (λ q. let r = eqb-true (k .since) (t + 1) (and-true p (eqb (k .since) (t + 1)) q .1) in omega arith) (ok .unset z);
+        fresh = ok .fresh;
+      }
+
+  prior-kept : (p : Bool) (k : Kept) → DelayKept y k → DelayKept y (priorTold p y t v k)
+  prior-kept p k ok =
+      record {
+        prev = ok .prev;
+        since = ok .since;
+        value = ok .value;
+        prior = cond-value (p && eqb y (t + 1)) (some v) (k .prior) hv (ok .prior);
+        unset = ok .unset;
+        fresh = λ z. absurd (omega (arith, l));
+      }
+
+  since-kept : (p : Bool) (k : Kept) → DelayKept y k → DelayKept y (sinceTold p y t k)
+  since-kept p k ok = go (p && eqb y (t + 1))
+    where
+      go : (b : Bool) → DelayKept y (record { prev = k .prev; since = cond b y (k .since); value = cond b (k .prior) (k .value); prior = k .prior })
+      go true = record { prev = ok .prev; since = omega arith; value = ok .prior; prior = ok .prior; unset = λ z. absurd (omega (arith, l)); fresh = ok .fresh }
+      go false = record { prev = ok .prev; since = ok .since; value = ok .value; prior = ok .prior; unset = ok .unset; fresh = ok .fresh }
+
+  kept-told : (e : Eqn) (s : ℕ) (k : Kept) → IsKept e y k → IsKept e y (keptTold e s y t v k)
+  kept-told input s k ok = ok
+  kept-told nil s k ok = ok
+  kept-told unit s k ok = ok
+  kept-told (one f a) s k ok = ok
+  kept-told (two g a b) s k ok = ok
+  kept-told (last a b) s k ok = record { prev = cond-value (eqb a s) (some v) (k .prev) hv (ok .prev); fresh = λ z. absurd (omega (arith, l)); since = ok .since; value = ok .value; prior = ok .prior }
+  kept-told (delay a b) s k ok = since-kept (eqb b s) (priorTold (eqb a s) y t v (valueTold (eqb a s) t v k)) (prior-kept (eqb a s) (valueTold (eqb a s) t v k) (value-kept (eqb a s) k ok))
+
+with-kept : (n : ℕ) (c : Cell) (k : Kept) → SoundCell n c → IsKept (c .eqn) (c .bound) k → SoundCell n (withKept k c)
+with-kept n c k ok h = record { arguments = ok .arguments; value = ok .value; out = ok .out; bound = ok .bound; few = ok .few; held = ok .held; next = ok .next; kept = h }
+
+told-sound : (n s t : ℕ) (v : ℤ) (c : Cell) → IsValue v → SoundCell n c → SoundCell n (told s t v c)
+unfolding told
+told-sound n s t v c hv ok = go (ltb t (c .bound)) refl
+  where
+    go : (b : Bool) → ltb t (c .bound) ≡ b → SoundCell n (withKept (cond b (keptTold (c .eqn) s (c .bound) t v (c .kept)) (c .kept)) c)
+    go true e = with-kept n c (keptTold (c .eqn) s (c .bound) t v (c .kept)) ok (kept-told (c .bound) t v (ltb-true t (c .bound) e) hv (c .eqn) s (c .kept) (ok .kept))
+    go false e = with-kept n c (c .kept) ok (ok .kept)
+
+abbrev pub Values : List Event → Type 0
+Values [] = Unit {0}
+Values (e ∷ es) = IsValue (e .value) × Values es
+
+pub tell-sound : {cap : ℕ} (s : ℕ) (new : List Event) (M : State) → Values new → Sound cap M → Sound cap (tell s new M)
+unfolding tell
+tell-sound s [] M h ok = ok
+tell-sound s (e ∷ es) M h ok =
+    sound-again M (map (told s (e .stamp) (e .value)) M) ok (length-map M (told s (e .stamp) (e .value)))
+    (λ i. ap (λ c. c .eqn) (told-at s (e .stamp) (e .value) M i) ∙ (unfold told in refl))
+    (λ i k. rw (told-at s (e .stamp) (e .value) M i) (told-sound (length M) s (e .stamp) (e .value) (cellAt M i) (h .0) (ok .each i k)))
+
+-- ---- written
+
+next-up : (o : Bool) (n x y : ℕ) → x ≤ y → IsNext o n x → IsNext o n y
+next-up true n x y h k = omega arith
+next-up false n x y h k = k
+
+kept-up : (e : Eqn) (x y : ℕ) (k : Kept) → x ≤ y → (y ≡ 0 → ⊥) → IsKept e x k → IsKept e y k
+kept-up input x y k h z ok = ok
+kept-up nil x y k h z ok = ok
+kept-up unit x y k h z ok = ok
+kept-up (one f a) x y k h z ok = ok
+kept-up (two g a b) x y k h z ok = ok
+kept-up (last a b) x y k h z ok = record { prev = ok .prev; fresh = λ q. absurd (z q); since = ok .since; value = ok .value; prior = ok .prior }
+kept-up (delay a b) x y k h z ok = let s = ok .since in record { prev = ok .prev; since = omega arith; value = ok .value; prior = ok .prior; unset = ok .unset; fresh = λ q. absurd (z q) }
+
+-- what comes in with a bound that goes up to y: nothing, or one event just below it
+pub data Comes (y : ℕ) (c : Cell) : List Event → Type 0 where
+  silence : Comes y c []
+  one-event : (t : ℕ) (v : ℤ) → c .bound ≤ t → y ≡ suc t → IsValue v → length (c .held) < room → Comes y c (ev t v ∷ [])
+
+pub comes-values : {y : ℕ} {c : Cell} {new : List Event} → Comes y c new → Values new
+comes-values silence = tt
+comes-values (one-event t v l e h k) = (h, tt)
+
+pub advance-sound : (n y : ℕ) (c : Cell) (new : List Event) → SoundCell n c → c .bound < y → y ≤ horizon → Comes y c new → SoundCell n (advance y new c)
+advance-sound n y c new ok l h cm =
+    record {
+      arguments = ok .arguments;
+      value = ok .value;
+      out = ok .out;
+      bound = h;
+      few = room-left cm;
+      held = rises cm;
+      next = next-up (c .out) (c .next) (c .bound) y (omega arith) (ok .next);
+      kept = kept-up (c .eqn) (c .bound) y (c .kept) (omega arith) (λ z. omega (arith, l)) (ok .kept);
+    }
+  where
+    room-left : {new : List Event} → Comes y c new → length (c .held ++ new) ≤ room
+    room-left silence = rw append-nil (ok .few)
+    room-left (one-event t v a e k r) = rw (length-append (c .held) (ev t v ∷ [])) (omega arith)
+
+    rises : {new : List Event} → Comes y c new → Rising 0 y (c .held ++ new)
+    rises silence = rw append-nil (rising-top 0 (c .bound) y (c .held) (omega (arith, l)) (ok .held))
+    rises (one-event t v a e k r) = rw e (rising-snoc 0 (c .bound) t v (c .held) a k (ok .held))
+
+absorb-kept : (e : Eqn) (o a b : Cell) → 0 < o .bound → IsKept e (o .bound) (o .kept) → Holds a → IsKept e (o .bound) (absorb e o a b)
+absorb-kept input o a b z ok ha = ok
+absorb-kept nil o a b z ok ha = ok
+absorb-kept unit o a b z ok ha = ok
+absorb-kept (one f _) o a b z ok ha = ok
+absorb-kept (two g _ _) o a b z ok ha = ok
+absorb-kept (last _ _) o a b z ok ha =
+    record { prev = or-value (latest (view a) (o .bound)) (o .kept .prev) (latest-value (view a) ha (o .bound)) (ok .prev); fresh = λ q. absurd (omega arith); since = ok .since; value = ok .value; prior = ok .prior }
+absorb-kept (delay _ _) o a b z ok ha =
+    let s = ok .since in
+    let p = past-le (view b) (o .bound) in
+    let q = past-le (view o) (o .bound) in
+    record {
+      prev = ok .prev;
+      since = omega arith;
+      value = cond-value (eqb (later o b) 0) none (valueAt o a (later o b)) tt
+          (or-value (view a (pred (later o b))) (cond (eqb (later o b) (o .kept .since)) (o .kept .value) none) (ha (pred (later o b))) (cond-value (eqb (later o b) (o .kept .since)) (o .kept .value) none (ok .value) tt));
+      prior = ha (pred (o .bound));
+      unset = λ u. rw (eq-eqb (later o b) 0 u);
+      fresh = λ q. absurd (omega arith);
+    }
+
+absent-holds : Holds absent
+absent-holds t = tt
+
+pub cell-holds : {cap : ℕ} (M : State) → Sound cap M → (i : ℕ) → Holds (cellAt M i)
+cell-holds M ok i = go (decLt i (length M))
+  where
+    go : Dec (i < length M) → Holds (cellAt M i)
+    go (yes h) = holds (length M) (cellAt M i) (ok .each i h)
+    go (no h) = rw (Rattle.machine.proofs.Cells.beyond M i (omega arith)) absent-holds
+
+pub write-sound : {cap : ℕ} (s y : ℕ) (new : List Event) (M : State) → Sound cap M → s < length M → cellAt M s .bound < y → y ≤ horizon → Comes y (cellAt M s) new → Sound cap (write s y new M)
+unfolding write absorbed
+write-sound s y new M ok l h top cm =
+    let c = advance y new (cellAt M s) in
+    let N = set M s c in
+    let okN = set-sound M s c ok l refl (advance-sound (length M) y (cellAt M s) new (ok .each s l) h top cm) in
+    let lN : s < length N = rw (length-set M s c) l in
+    let q : cellAt N s ≡ c = lib.Seq.getD-set-same M s c absent l in
+    let o = cellAt N s in
+    let z : 0 < o .bound = rw q (omega arith) in
+    set-sound N s (withKept (absorb (o .eqn) o (cellAt N (argA (o .eqn))) (cellAt N (argB (o .eqn)))) o) okN lN refl
+    (with-kept (length N) o (absorb (o .eqn) o (cellAt N (argA (o .eqn))) (cellAt N (argB (o .eqn)))) (okN .each s lN)
+    (absorb-kept (o .eqn) o (cellAt N (argA (o .eqn))) (cellAt N (argB (o .eqn))) z (okN .each s lN .kept) (cell-holds N okN (argA (o .eqn)))))
+
+-- the whole step
+pub raise-sound : {cap : ℕ} (s y : ℕ) (new : List Event) (M : State) → Sound cap M → s < length M → cellAt M s .bound < y → y ≤ horizon → Comes y (cellAt M s) new → Sound cap (raise s y new M)
+unfolding raise
+raise-sound s y new M ok l h top cm =
+    releases-sound (s ∷ reads (cellAt M s .eqn)) (tell s new (write s y new M))
+    (tell-sound s new (write s y new M) (comes-values cm) (write-sound s y new M ok l h top cm))
+
+-- progress writes the bound of an input
+pub bound-sound : {cap : ℕ} (s y : ℕ) (M : State) → Sound cap M → s < length M → cellAt M s .eqn ≡ input → cellAt M s .bound ≤ y → y ≤ horizon → Sound cap (set M s (withBound y (cellAt M s)))
+bound-sound s y M ok l e h top =
+    let c = cellAt M s in
+    let k = ok .each s l in
+    set-sound M s (withBound y c) ok l refl
+    (record { arguments = k .arguments; value = k .value; out = k .out; bound = top; few = k .few; held = rising-top 0 (c .bound) y (c .held) h (k .held); next = next-up (c .out) (c .next) (c .bound) y h (k .next); kept = rw e (rw e at (k .kept)) })
+
+-- a mark of collection
+pub next-sound : {cap : ℕ} (s n : ℕ) (M : State) → Sound cap M → s < length M → cellAt M s .out ≡ true → n ≤ cellAt M s .bound → Sound cap (set M s (withNext n (cellAt M s)))
+next-sound s n M ok l e h =
+    let c = cellAt M s in
+    let k = ok .each s l in
+    set-sound M s (withNext n c) ok l refl
+    (record { arguments = k .arguments; value = k .value; out = k .out; bound = k .bound; few = k .few; held = k .held; next = rw e h; kept = k .kept })

@@ -1,0 +1,184 @@
+-- What each leaf makes of a record: the cases of each definition.
+use Prim.Native.Nat.{ℕ, _+_, _^_, _<_, _≤_}
+use mathlib.Core.Path.{_≡_, refl}
+use mathlib.Core.List.{map}
+use mathlib.Core.Bool.{Bool, true, false, cond, _||_}
+use native.Mathlib.Omega.{arith}
+use lib.Dec.{lit<, ltb, eqb}
+use borrow.Author.Tests.{lt-ltb, le-ltb, eq-eqb, ne-eqb}
+use Rattle.meaning.specs.Plan.{Argument}
+use Rattle.machine.specs.Step.{anyOf}
+use Rattle.operators.specs.Operators.{groupOf, isLast, isDelay, takesFirst, takesSecond, argumentsOf}
+use Rattle.operators.specs.declared.Group.{Group}
+use Rattle.operators.specs.declared.Group.the-variants.{Absent, Input, Plain, One, Two, Last, Delay}
+use Rattle.layout.specs.Record.{Raw, num, withNum, opF, aF, bF, outF, flagF, priorFlagF, boundF, nextF, keptF, valueF, priorF}
+use Rattle.layout.proofs.Laws.{RawOk, num-ok, num-small}
+use Rattle.layout.proofs.Stores.{cond-ok, stored-ok}
+use Rattle.readers.specs.Step.{readsRow, toldLast, toldValue, toldPrior, toldSince, toldDelay, toldRow, lowered, waitingRow}
+
+-- ---- the cases of each definition
+
+module _ (s : ℕ) (r : Raw) where
+  -- argument after argument
+  pub reads-is : readsRow s r ≡ cond (takesFirst (groupOf (num opF r))) (cond (eqb (num aF r) s) true (cond (takesSecond (groupOf (num opF r))) (eqb (num bF r) s) false)) false
+  unfolding readsRow
+  reads-is = go (groupOf (num opF r))
+    where
+      first : (x : Bool) → x ≡ cond x true false
+      first true = refl
+      first false = refl
+
+      both : (x y : Bool) → (x || y) ≡ cond x true y
+      both true y = refl
+      both false y = refl
+
+      go : (g : Group) → anyOf s (map (λ (x : Argument). x .stream) (argumentsOf g (num aF r) (num bF r))) ≡ cond (takesFirst g) (cond (eqb (num aF r) s) true (cond (takesSecond g) (eqb (num bF r) s) false)) false
+      go Absent = refl
+      go Input = refl
+      go Plain = refl
+      go One = first (eqb (num aF r) s)
+      go Two = both (eqb (num aF r) s) (eqb (num bF r) s)
+      go Last = both (eqb (num aF r) s) (eqb (num bF r) s)
+      go Delay = both (eqb (num aF r) s) (eqb (num bF r) s)
+
+  pub last-no : (v : ℕ) → (num aF r ≡ s → ⊥) → toldLast s v r ≡ r
+  unfolding toldLast
+  last-no v h = simp (ne-eqb _ _ h)
+
+  pub last-yes : (v : ℕ) → num aF r ≡ s → toldLast s v r ≡ withNum keptF v (withNum flagF 1 r)
+  unfolding toldLast
+  last-yes v h = simp (eq-eqb _ _ h)
+
+  module _ (t v : ℕ) where
+    pub value-no : (num aF r ≡ s → ⊥) → toldValue s t v r ≡ r
+    unfolding toldValue
+    value-no h = simp (ne-eqb _ _ h)
+
+    pub value-else : num aF r ≡ s → (num keptF r ≡ t + 1 → ⊥) → toldValue s t v r ≡ r
+    unfolding toldValue
+    value-else e h = simp (eq-eqb _ _ e, ne-eqb _ _ h)
+
+    pub value-yes : num aF r ≡ s → num keptF r ≡ t + 1 → toldValue s t v r ≡ withNum valueF v (withNum flagF 1 r)
+    unfolding toldValue
+    value-yes e h = simp (eq-eqb _ _ e, eq-eqb _ _ h)
+
+    pub prior-no : (num aF r ≡ s → ⊥) → toldPrior s t v r ≡ r
+    unfolding toldPrior
+    prior-no h = simp (ne-eqb _ _ h)
+
+    pub prior-else : num aF r ≡ s → (num boundF r ≡ t + 1 → ⊥) → toldPrior s t v r ≡ r
+    unfolding toldPrior
+    prior-else e h = simp (eq-eqb _ _ e, ne-eqb _ _ h)
+
+    pub prior-yes : num aF r ≡ s → num boundF r ≡ t + 1 → toldPrior s t v r ≡ withNum priorF v (withNum priorFlagF 1 r)
+    unfolding toldPrior
+    prior-yes e h = simp (eq-eqb _ _ e, eq-eqb _ _ h)
+
+    pub told-behind : num boundF r ≤ t → toldRow s t v r ≡ r
+    unfolding toldRow
+    told-behind h = simp (le-ltb _ _ h)
+
+    pub told-last : isLast (groupOf (num opF r)) ≡ true → t < num boundF r → toldRow s t v r ≡ toldLast s v r
+    unfolding toldRow
+    told-last l h = rw (lt-ltb _ _ h, l)
+
+    pub told-delay : isLast (groupOf (num opF r)) ≡ false → isDelay (groupOf (num opF r)) ≡ true → t < num boundF r → toldRow s t v r ≡ toldDelay s t v r
+    unfolding toldRow
+    told-delay l d h = rw (lt-ltb _ _ h, l, d)
+
+    pub told-other : isLast (groupOf (num opF r)) ≡ false → isDelay (groupOf (num opF r)) ≡ false → toldRow s t v r ≡ r
+    unfolding toldRow
+    told-other l d = rw (l, d) (cond-same (ltb t (num boundF r)))
+      where
+        cond-same : (b : Bool) → cond b r r ≡ r
+        cond-same true = refl
+        cond-same false = refl
+
+    pub delay-is : toldDelay s t v r ≡ toldSince s t (toldPrior s t v (toldValue s t v r))
+    unfolding toldDelay
+    delay-is = refl
+
+  module _ (t : ℕ) where
+    pub since-no : (num bF r ≡ s → ⊥) → toldSince s t r ≡ r
+    unfolding toldSince
+    since-no h = simp (ne-eqb _ _ h)
+
+    pub since-else : num bF r ≡ s → (num boundF r ≡ t + 1 → ⊥) → toldSince s t r ≡ r
+    unfolding toldSince
+    since-else e h = simp (eq-eqb _ _ e, ne-eqb _ _ h)
+
+    -- h and v were read before the stores
+    pub since-yes : (h v : ℕ) → num bF r ≡ s → num boundF r ≡ t + 1 → h ≡ num priorFlagF r → v ≡ num priorF r
+        → toldSince s t r ≡ withNum keptF (t + 1) (withNum valueF v (withNum flagF h r))
+    unfolding toldSince
+    since-yes h v e k eh ev = rw (eh, ev) (simp (eq-eqb _ _ e, eq-eqb _ _ k))
+
+  module _ (acc : ℕ) where
+    pub lower-no : readsRow s r ≡ false → lowered s r acc ≡ acc
+    unfolding lowered
+    lower-no e = rw e
+
+    pub lower-less : readsRow s r ≡ true → num boundF r < acc → lowered s r acc ≡ num boundF r
+    unfolding lowered
+    lower-less e h = rw e (omega arith)
+
+    pub lower-le : readsRow s r ≡ true → lowered s r acc ≤ num boundF r
+    unfolding lowered
+    lower-le e = rw e (omega arith)
+
+    pub lower-else : readsRow s r ≡ true → acc ≤ num boundF r → lowered s r acc ≡ acc
+    unfolding lowered
+    lower-else e h = rw e (omega arith)
+
+module _ (least : ℕ) (r : Raw) where
+  pub waiting-in : num outF r ≡ 0 → waitingRow least r ≡ least
+  unfolding waitingRow
+  waiting-in h = simp (eq-eqb _ _ h)
+
+  pub waiting-less : (num outF r ≡ 0 → ⊥) → num nextF r < least → waitingRow least r ≡ num nextF r
+  unfolding waitingRow
+  waiting-less h k = rw (ne-eqb _ _ h) (omega arith)
+
+  pub waiting-else : (num outF r ≡ 0 → ⊥) → least ≤ num nextF r → waitingRow least r ≡ least
+  unfolding waitingRow
+  waiting-else h k = rw (ne-eqb _ _ h) (omega arith)
+
+-- ---- every leaf keeps the numbers within their widths
+
+module _ (v : ℕ) (hv : v < 2 ^ 64) where
+  last-ok : (s : ℕ) (r : Raw) → RawOk r → RawOk (toldLast s v r)
+  unfolding toldLast
+  last-ok s r ok = cond-ok (eqb (num aF r) s) (withNum keptF v (withNum flagF 1 r)) r (stored-ok keptF flagF v 1 r (lit< tt) hv ok) ok
+
+  pub value-ok : (s t : ℕ) (r : Raw) → RawOk r → RawOk (toldValue s t v r)
+  unfolding toldValue
+  value-ok s t r ok =
+      let x = withNum valueF v (withNum flagF 1 r) in
+      cond-ok (eqb (num aF r) s) (cond (eqb (num keptF r) (t + 1)) x r) r (cond-ok (eqb (num keptF r) (t + 1)) x r (stored-ok valueF flagF v 1 r (lit< tt) hv ok) ok) ok
+
+  pub prior-ok : (s t : ℕ) (r : Raw) → RawOk r → RawOk (toldPrior s t v r)
+  unfolding toldPrior
+  prior-ok s t r ok =
+      let x = withNum priorF v (withNum priorFlagF 1 r) in
+      cond-ok (eqb (num aF r) s) (cond (eqb (num boundF r) (t + 1)) x r) r (cond-ok (eqb (num boundF r) (t + 1)) x r (stored-ok priorF priorFlagF v 1 r (lit< tt) hv ok) ok) ok
+
+  since-ok : (s t : ℕ) → t < 2 ^ 32 → (r : Raw) → RawOk r → RawOk (toldSince s t r)
+  unfolding toldSince
+  since-ok s t ht r ok =
+      let h = num-small r priorFlagF ok (lit< tt) in
+      let p = num-small r priorF ok (lit< tt) in
+      let x = withNum valueF (num priorF r) (withNum flagF (num priorFlagF r) r) in
+      let y = withNum keptF (t + 1) x in
+      cond-ok (eqb (num bF r) s) (cond (eqb (num boundF r) (t + 1)) y r) r
+      (cond-ok (eqb (num boundF r) (t + 1)) y r (num-ok x keptF (t + 1) (stored-ok valueF flagF (num priorF r) (num priorFlagF r) r h p ok) (omega arith)) ok) ok
+
+  pub told-ok : (s t : ℕ) → t < 2 ^ 32 → (r : Raw) → RawOk r → RawOk (toldRow s t v r)
+  unfolding toldRow toldDelay
+  told-ok s t ht r ok =
+      let a = toldValue s t v r in
+      let b = toldPrior s t v a in
+      let d = cond (isDelay (groupOf (num opF r))) (toldSince s t b) r in
+      let e = cond (isLast (groupOf (num opF r))) (toldLast s v r) d in
+      cond-ok (ltb t (num boundF r)) e r
+      (cond-ok (isLast (groupOf (num opF r))) (toldLast s v r) d (last-ok s r ok)
+      (cond-ok (isDelay (groupOf (num opF r))) (toldSince s t b) r (since-ok s t ht b (prior-ok s t a (value-ok s t r ok))) ok)) ok

@@ -1,0 +1,210 @@
+// One step on bytes: an event appended, the readers told, and what nobody waits for let go.
+ghost use mathlib.Core.Path.{_≡_};
+ghost use Prim.Native.Nat.{_*_, _+_, _≤_, _<_, max};
+ghost use lib.ListN.{length};
+ghost use Rattle.layout.specs.Record as layout;
+ghost use Rattle.layout.specs.Record.{encRaw, decRaw, encode, decode, changeAll};
+ghost use Rattle.readers.specs.Step.{readsRow, toldLast, toldValue, toldPrior, toldSince, toldDelay, toldRow, leastRow, waitingRow, releasedRow, offered};
+use limits::Bound;
+use operators::Group;
+
+// Whether a record reads stream s.
+pub fn reads(r: &[u8], s: u64) -> bool
+    requires { ⌜ length (now r) ≡ 256 ⌝ }
+    ensures { λ x. ⌜ x ≡ readsRow s (decRaw (now (r .entry))) ⌝ }
+{
+    let g = operators::group_of(layout::byte_at(r, layout::OP));
+    if !operators::takes_first(g) {
+        return false;
+    }
+    let a = layout::byte_at(r, layout::A);
+    if a == s {
+        return true;
+    }
+    if !operators::takes_second(g) {
+        return false;
+    }
+    let b = layout::byte_at(r, layout::B);
+    b == s
+}
+
+// A last keeps the value of its first argument's event.
+fn tell_last(r: &mut [u8], s: u64, v: u64)
+    requires { ⌜ length (now r) ≡ 256 ⌝ }
+    ensures { λ _. ⌜ now (r .exit) ≡ encRaw (toldLast s v (decRaw (now (r .entry)))) ⌝ }
+{
+    let a = layout::byte_at(r, layout::A);
+    if a != s {
+        return;
+    }
+    layout::put_byte(r, layout::FLAG, 1);
+    layout::put_word(r, layout::KEPT, v);
+}
+
+// A delay keeps its first argument's event at its latest set point.
+fn tell_value(r: &mut [u8], s: u64, t: u32, v: u64)
+    requires { ⌜ length (now r) ≡ 256 ⌝ }
+    ensures { λ _. ⌜ now (r .exit) ≡ encRaw (toldValue s t v (decRaw (now (r .entry)))) ⌝ }
+{
+    let a = layout::byte_at(r, layout::A);
+    if a != s {
+        return;
+    }
+    let since = layout::word_at(r, layout::KEPT);
+    if since != t as u64 + 1 {
+        return;
+    }
+    layout::put_byte(r, layout::FLAG, 1);
+    layout::put_word(r, layout::VALUE, v);
+}
+
+// A delay keeps its first argument's event just below its bound.
+fn tell_prior(r: &mut [u8], s: u64, t: u32, v: u64)
+    requires { ⌜ length (now r) ≡ 256 ⌝ }
+    ensures { λ _. ⌜ now (r .exit) ≡ encRaw (toldPrior s t v (decRaw (now (r .entry)))) ⌝ }
+{
+    let a = layout::byte_at(r, layout::A);
+    if a != s {
+        return;
+    }
+    let bound = layout::word_at(r, layout::BOUND);
+    if bound != t as u64 + 1 {
+        return;
+    }
+    layout::put_byte(r, layout::PRIOR_FLAG, 1);
+    layout::put_word(r, layout::PRIOR, v);
+}
+
+// A delay has a new set point, just below its bound: its first argument's event there is its prior.
+fn tell_since(r: &mut [u8], s: u64, t: u32)
+    requires { ⌜ length (now r) ≡ 256 ⌝ }
+    ensures { λ _. ⌜ now (r .exit) ≡ encRaw (toldSince s t (decRaw (now (r .entry)))) ⌝ }
+{
+    let b = layout::byte_at(r, layout::B);
+    if b != s {
+        return;
+    }
+    let bound = layout::word_at(r, layout::BOUND);
+    if bound != t as u64 + 1 {
+        return;
+    }
+    let has = layout::byte_at(r, layout::PRIOR_FLAG);
+    let v = layout::word_at(r, layout::PRIOR);
+    layout::put_byte(r, layout::FLAG, has);
+    layout::put_word(r, layout::VALUE, v);
+    layout::put_word(r, layout::KEPT, t as u64 + 1);
+}
+
+fn tell_delay(r: &mut [u8], s: u64, t: u32, v: u64)
+    requires { ⌜ length (now r) ≡ 256 ⌝ }
+    ensures { λ _. ⌜ now (r .exit) ≡ encRaw (toldDelay s t v (decRaw (now (r .entry)))) ⌝ }
+{
+    tell_value(r, s, t, v);
+    tell_prior(r, s, t, v);
+    tell_since(r, s, t);
+}
+
+// Tells a record that stream s has the event (t, v).
+fn tell(r: &mut [u8], s: u64, t: u32, v: u64)
+    requires { ⌜ length (now r) ≡ 256 ⌝ }
+    ensures { λ _. ⌜ now (r .exit) ≡ encRaw (toldRow s t v (decRaw (now (r .entry)))) ⌝ }
+{
+    let op = layout::byte_at(r, layout::OP);
+    match operators::group_of(op) {
+        Group::Last => {
+            if (t as u64) < layout::word_at(r, layout::BOUND) {
+                tell_last(r, s, v);
+            }
+        }
+        Group::Delay => {
+            if (t as u64) < layout::word_at(r, layout::BOUND) {
+                tell_delay(r, s, t, v);
+            }
+        }
+        _ => {}
+    }
+}
+
+// Tells each of the n records that stream s has the event (t, v).
+pub fn tell_all(state: &mut [u8], n: usize, s: u64, t: u32, v: u64)
+    requires { ⌜ n * 256 ≤ length (now state) ⌝ }
+    ensures { λ _. ⌜ now (state .exit) ≡ encode n (changeAll (toldRow s t v) (decode n (now (state .entry)))) ⌝ }
+{
+    let mut i = 0;
+    while i < n {
+        let at = i * layout::RECORD;
+        let end = at + layout::RECORD;
+        tell(&mut state[at..end], s, t, v);
+        i += 1;
+    }
+}
+
+// The least bound of the readers of stream s, the horizon if none of the n records reads it. Where it is not above floor
+// any number up to floor will do, so that the first such reader ends the search.
+fn least_reader(state: &[u8], n: usize, s: u64, floor: u64) -> u64
+    requires { ⌜ n * 256 ≤ length (now state) ⌝ }
+    ensures { λ x. ⌜ max x floor ≡ max (leastRow s (decode n (now (state .entry)) .rows)) floor ⌝ }
+{
+    let mut least = Bound::HORIZON;
+    let mut i = n;
+    while 0 < i {
+        i -= 1;
+        let at = i * layout::RECORD;
+        let end = at + layout::RECORD;
+        if reads(&state[at..end], s) {
+            let bound = layout::word_at(&state[at..end], layout::BOUND);
+            if bound <= floor {
+                return bound;
+            }
+            if bound < least {
+                least = bound;
+            }
+        }
+    }
+    least
+}
+
+// The least bound of a record's readers, with collection of an output as one reader more.
+fn waiting(r: &[u8], least: u64) -> u64
+    requires { ⌜ length (now r) ≡ 256 ⌝ }
+    ensures { λ x. ⌜ x ≡ waitingRow least (decRaw (now (r .entry))) ⌝ }
+{
+    let out = layout::byte_at(r, layout::OUT);
+    if out == 0 {
+        return least;
+    }
+    let next = layout::word_at(r, layout::NEXT);
+    if next < least {
+        return next;
+    }
+    least
+}
+
+// Lets go what nobody waits for of stream i.
+pub fn release_row(state: &mut [u8], n: usize, i: usize)
+    requires { ⌜ (n * 256 ≤ length (now state)) × (i < n) ⌝ }
+    ensures { λ _. ⌜ now (state .exit) ≡ encode n (releasedRow i (decode n (now (state .entry)))) ⌝ }
+{
+    let at = i * layout::RECORD;
+    let end = at + layout::RECORD;
+    let count = layout::byte_at(&state[at..end], layout::COUNT);
+    if count == 0 {
+        return;
+    }
+    let first = layout::stamp_at(&state[at..end], 0);
+    let least = least_reader(state, n, i as u64, first);
+    let w = waiting(&state[at..end], least);
+    queue::drop_below(&mut state[at..end], w);
+}
+
+// Appends the event (t, v) to stream i, tells its readers, and lets go what nobody waits for.
+pub fn offer(state: &mut [u8], n: usize, i: usize, t: u32, v: u64)
+    requires { ⌜ (n * 256 ≤ length (now state)) × (i < n) ⌝ }
+    ensures { λ _. ⌜ now (state .exit) ≡ encode n (offered i t v (decode n (now (state .entry)))) ⌝ }
+{
+    let at = i * layout::RECORD;
+    let end = at + layout::RECORD;
+    queue::append(&mut state[at..end], t, v);
+    tell_all(state, n, i as u64, t, v);
+    release_row(state, n, i);
+}

@@ -1,0 +1,148 @@
+-- A record that passes is the record of the cell that it gives, and that cell is sound.
+use Prim.Native.Nat.{ℕ, zero, suc, min}
+use mathlib.Core.Path.{_≡_, refl, sym, ap, _∙_, subst}
+use mathlib.Core.List.{List, [], _∷_, map}
+use mathlib.Core.Bool.{Bool, true, false, not, cond}
+use native.Mathlib.Omega.{arith}
+use lib.Dec.{eqb, lit<, lit≤, T}
+use lib.ListN.{length, take, length-map}
+use lib.Seq.{length-take-le}
+use borrow.Author.Tests.{eqb-true, leb-true, ne-eqb}
+use mir.Syntax.{w64}
+use mir.Val.{ofZ, toZ}
+use Rattle.meaning.specs.Plan.{Eqn, input, nil, unit, one, two, last, delay, isInput}
+use Rattle.machine.specs.State.{Kept, room, noKept}
+use Rattle.operators.specs.Operators.{groupOf, isLast, isDelay, eqnGroup, usesK, numberOf}
+use Rattle.operators.specs.declared.Group.{Group}
+use Rattle.operators.proofs.Laws.{group-of, number-back, value-back, input-by-number}
+use Rattle.operators.proofs.Rules.{value-ok, out-ok, fields-first, fields-second, fields-reads}
+use Rattle.le.specs.Bytes.{Bytes}
+use Rattle.le.specs.Layout.{decFields}
+use Rattle.layout.specs.Record.{Raw, noSlot, num, decRaw, opF, aF, bF, outF, countF, flagF, priorFlagF, kF, boundF, nextF, keptF, valueF, priorF}
+use Rattle.layout.proofs.Laws.{RawOk, raw-ok}
+use Rattle.layout.proofs.Slots.{slots-many}
+use Rattle.encoding.specs.View.{flag, KeptNums, noNums, lastNums, delayNums, keptNums, slotOf, padTo, ofCell}
+use Rattle.encoding.specs.Back.{eventOf, heldOf, keptOf, toCell}
+use Rattle.encoding.specs.Sound.{IsValue, IsNext, LastKept, DelayKept, IsKept, SoundCell}
+use Rattle.valid.specs.Valid.{nextOk, lastOk, delayOk, noneOk, keptOk}
+use Rattle.valid.proofs.Link.{eqnIn}
+use Rattle.roundtrip.proofs.Tail.{slots-back, stamps-back}
+use Rattle.roundtrip.proofs.Back.{RowFacts, k-is, k-value, out-is, no-input, word, last-kept, delay-kept, none-kept}
+
+-- ---- kept data by the equation's group
+
+is-kept : (e : Eqn) (y : ℕ) (k : Kept) → (isLast (eqnGroup e) ≡ true → LastKept y k) → (isLast (eqnGroup e) ≡ false → isDelay (eqnGroup e) ≡ true → DelayKept y k)
+    → (isLast (eqnGroup e) ≡ false → isDelay (eqnGroup e) ≡ false → k ≡ noKept) → IsKept e y k
+is-kept input y k l d n = n refl refl
+is-kept nil y k l d n = n refl refl
+is-kept unit y k l d n = n refl refl
+is-kept (one f a) y k l d n = n refl refl
+is-kept (two g a b) y k l d n = n refl refl
+is-kept (last a b) y k l d n = l refl
+is-kept (delay a b) y k l d n = d refl refl
+
+abbrev storedNums : Raw → KeptNums
+storedNums r = record { flag = num flagF r; priorFlag = num priorFlagF r; kept = num keptF r; value = num valueF r; prior = num priorF r }
+
+module _ (r : Raw) (ok : RawOk r) (e : keptOk r ≡ true) where
+  as-last : isLast (groupOf (num opF r)) ≡ true → lastOk r ≡ true
+  unfolding keptOk
+  as-last l = rw l at e
+
+  as-delay : isLast (groupOf (num opF r)) ≡ false → isDelay (groupOf (num opF r)) ≡ true → delayOk r ≡ true
+  unfolding keptOk
+  as-delay l d = rw (l, d) at e
+
+  as-none : isLast (groupOf (num opF r)) ≡ false → isDelay (groupOf (num opF r)) ≡ false → noneOk r ≡ true
+  unfolding keptOk
+  as-none l d = rw (l, d) at e
+
+  -- q is the equation whose stored number the record has
+  module _ (q : Eqn) (n : numberOf q ≡ num opF r) where
+    same-group : groupOf (num opF r) ≡ eqnGroup q
+    same-group = sym (ap groupOf n) ∙ group-of q
+
+    kept-sound : IsKept q (num boundF r) (keptOf r)
+    kept-sound =
+        is-kept q (num boundF r) (keptOf r)
+        (λ l. let l′ = ap isLast same-group ∙ l in last-kept r ok (as-last l′) l′ .0)
+        (λ l d. let l′ = ap isLast same-group ∙ l in let d′ = ap isDelay same-group ∙ d in delay-kept r ok (as-delay l′ d′) l′ d′ .0)
+        (λ l d. let l′ = ap isLast same-group ∙ l in let d′ = ap isDelay same-group ∙ d in none-kept r ok (as-none l′ d′) l′ d′ .0)
+
+    kept-nums : keptNums q (keptOf r) ≡ storedNums r
+    kept-nums = sym (ap (λ (g : Group). numsBy g) same-group) ∙ go (isLast (groupOf (num opF r))) refl (isDelay (groupOf (num opF r))) refl
+      where
+        numsBy : Group → KeptNums
+        numsBy g = cond (isLast g) (lastNums (keptOf r)) (cond (isDelay g) (delayNums (keptOf r)) noNums)
+
+        go : (l : Bool) → isLast (groupOf (num opF r)) ≡ l → (d : Bool) → isDelay (groupOf (num opF r)) ≡ d → numsBy (groupOf (num opF r)) ≡ storedNums r
+        go true l d m = rw l (last-kept r ok (as-last l) l .1)
+        go false l true m = rw (l, m) (delay-kept r ok (as-delay l m) l m .1)
+        go false l false m = rw (l, m) (none-kept r ok (as-none l m) l m .1)
+
+-- ---- the record
+
+nums-eta : (p : List ℕ) → (let r = decRaw p in r .nums ≡ num 0 r ∷ num 1 r ∷ num 2 r ∷ num 3 r ∷ num 4 r ∷ num 5 r ∷ num 6 r ∷ num 7 r ∷ num 8 r ∷ num 9 r ∷ num 10 r ∷ num 11 r ∷ num 12 r ∷ num 13 r ∷ num 14 r ∷ [])
+unfolding decRaw decFields
+nums-eta p = refl
+
+module _ (n : ℕ) (p : List ℕ) (len : length p ≡ 256) (b : Bytes p) (f : RowFacts n p) where
+  raw : Raw
+  raw = decRaw p
+
+  count-is : min (num countF (decRaw p)) room ≡ num countF (decRaw p)
+  count-is = let c = f .count in omega arith
+
+  held-is : heldOf (decRaw p) ≡ map eventOf (take (num countF (decRaw p)) (decRaw p .slots))
+  unfolding heldOf
+  held-is = ap (λ (j : ℕ). map eventOf (take j (decRaw p .slots))) count-is
+
+  pub row-back : decRaw p ≡ ofCell (toCell (decRaw p))
+  unfolding toCell ofCell
+  row-back =
+      let r = decRaw p in
+      let ok = raw-ok p b in
+      let op = num opF r in
+      let g = f .plan in
+      let k = toZ w64 (num kF r) in
+      let o = number-back (num aF r) (num bF r) k op (g .least) (g .most) in
+      let a = fields-first n (num opF r) (num aF r) (num bF r) (num kF r) (num outF r) (g .fields) k in
+      let s = fields-second n (num opF r) (num aF r) (num bF r) (num kF r) (num outF r) (g .fields) k in
+      let v = ap (ofZ w64) (value-back (num aF r) (num bF r) k op) ∙ k-is (usesK op) (num kF r) (word r ok kF (lit≤ tt) (lit< tt)) (value-ok n (num opF r) (num aF r) (num bF r) (num kF r) (num outF r) (g .fields)) in
+      let out = out-is (groupOf op) (num outF r) (out-ok n (num opF r) (num aF r) (num bF r) (num kF r) (num outF r) (g .fields)) in
+      let kb = kept-nums r ok (f .kept) (eqnIn r) o in
+      let cn = ap length held-is ∙ length-map (take (num countF r) (r .slots)) eventOf ∙ length-take-le (num countF r) (r .slots) (rw (slots-many p) (f .count)) in
+      let sl = ap (λ (l : List Rattle.meaning.specs.Events.Event). padTo room noSlot (map slotOf l)) held-is ∙ slots-back p (num countF r) len (f .count) (ok .good) (f .zeros) in
+      sym ((λ i. record {
+        nums = o i ∷ a i ∷ s i ∷ out i ∷ cn i ∷ kb i .flag ∷ kb i .priorFlag ∷ sym (f .small) i ∷ v i ∷ num 9 r ∷ num 10 r ∷ kb i .kept ∷ kb i .value ∷ kb i .prior ∷ sym (f .rest) i ∷ [];
+        slots = sl i;
+      }) ∙ (λ i. record { nums = sym (nums-eta p) i; slots = r .slots }))
+
+  next-sound : (o : ℕ) → nextOk o (num nextF (decRaw p)) (num boundF (decRaw p)) ≡ true → IsNext (not (eqb o 0)) (num nextF (decRaw p)) (num boundF (decRaw p))
+  next-sound zero e = eqb-true (num nextF (decRaw p)) 0 e
+  next-sound (suc o) e =
+      let q : eqb (suc o) 0 ≡ false = ne-eqb (suc o) 0 (λ z. omega arith) in
+      rw q (leb-true (num nextF (decRaw p)) (num boundF (decRaw p)) (rw q at e))
+
+  pub row-sound : SoundCell n (toCell (decRaw p))
+  unfolding toCell
+  row-sound =
+      let r = decRaw p in
+      let ok = raw-ok p b in
+      let g = f .plan in
+      let k = toZ w64 (num kF r) in
+      let o = number-back (num aF r) (num bF r) k (num opF r) (g .least) (g .most) in
+      record {
+        arguments = fields-reads n (num opF r) (num aF r) (num bF r) (num kF r) (num outF r) (g .fields) k;
+        value = subst IsValue (sym (value-back (num aF r) (num bF r) k (num opF r))) (k-value (usesK (num opF r)) (num kF r) (word r ok kF (lit≤ tt) (lit< tt)));
+        out = λ t. no-input (groupOf (num opF r)) (num outF r) (out-ok n (num opF r) (num aF r) (num bF r) (num kF r) (num outF r) (g .fields)) (sym (input-by-number (num aF r) (num bF r) k (num opF r)) ∙ is-true (isInput (eqnIn r)) t);
+        bound = f .bound;
+        few = rw held-is (rw (length-map (take (num countF r) (r .slots)) eventOf, length-take-le (num countF r) (r .slots) (rw (slots-many p) (f .count))) (f .count));
+        held = rw held-is (stamps-back 0 (num boundF r) (num countF r) (r .slots) (rw (slots-many p) (f .count)) (ok .good) (f .stamps));
+        next = next-sound (num outF r) (f .next);
+        kept = kept-sound r ok (f .kept) (eqnIn r) o;
+      }
+    where
+      is-true : (q : Bool) → T q → q ≡ true
+      is-true true t = refl
+      is-true false t = absurd t

@@ -1,2 +1,0 @@
-pub mod Equation
-pub mod Reply

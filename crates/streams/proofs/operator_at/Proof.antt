@@ -1,0 +1,126 @@
+use Prim.Native.Nat.{ℕ}
+use mathlib.Core.Path.{sym, ap, _∙_}
+use mir.Syntax.{w64}
+use mir.Val.{toZ}
+use denote.Ref.{now}
+use Rattle.operators.specs.Operators.{eqnOf}
+use Rattle.layout.specs.Record.{decRaw, num, aF, bF, kF}
+use Rattle.streams.proofs.Laws as law
+use borrow.Author.Needs.{needs}
+use native.Mathlib.Omega.{arith}
+use Rattle.streams.proofs.operator_at.Statement.{statement}
+use Rattle.streams.proofs.operator_at.Tie as tie
+use Rattle.streams.proofs.operator_at.Reads as reads
+use Rattle.streams.proofs.operator_at.Lts as lts
+use Rattle.layout.proofs.byte_at.Reads as byte-at-reads
+use Rattle.streams.proofs.binary_of.Reads as binary-of-reads
+use Rattle.streams.proofs.unary_at.Reads as unary-at-reads
+
+byte-at-requires : tie.Need-byte-at-requires
+byte-at-requires c κs = search needs
+
+byte-at-requires-2 : tie.Need-byte-at-requires-2
+byte-at-requires-2 c κs = search needs
+
+byte-at-requires-3 : tie.Need-byte-at-requires-3
+byte-at-requires-3 c κs = search needs
+
+cast-t13 : tie.Need-cast-t13
+cast-t13 c = search needs
+
+cast-t14 : tie.Need-cast-t14
+cast-t14 c = search needs
+
+byte-at-requires-4 : tie.Need-byte-at-requires-4
+byte-at-requires-4 c κs = search needs
+
+byte-at-requires-5 : tie.Need-byte-at-requires-5
+byte-at-requires-5 c κs = search needs
+
+cast-t15 : tie.Need-cast-t15
+cast-t15 c = search needs
+
+cast-t16 : tie.Need-cast-t16
+cast-t16 c = search needs
+
+unary-at-requires : tie.Need-unary-at-requires
+unary-at-requires c κs = search needs
+
+byte-at-requires-6 : tie.Need-byte-at-requires-6
+byte-at-requires-6 c κs = search needs
+
+cast-t18 : tie.Need-cast-t18
+cast-t18 c = search needs
+
+binary-of-requires : tie.Need-binary-of-requires
+binary-of-requires c κs = search needs
+
+byte-at-requires-7 : tie.Need-byte-at-requires-7
+byte-at-requires-7 c κs = search needs
+
+byte-at-requires-8 : tie.Need-byte-at-requires-8
+byte-at-requires-8 c κs = search needs
+
+cast-t19 : tie.Need-cast-t19
+cast-t19 c = search needs
+
+cast-t20 : tie.Need-cast-t20
+cast-t20 c = search needs
+
+returns : tie.Need-returns
+unfolding eqnOf
+returns c = let r = decRaw (now (c .before .before .before .args .r)) in let k = toZ w64 (num kF r) in let n = c .before .byte-at .ensures .0 in ap (λ (m : ℕ). eqnOf m (num aF r) (num bF r) k) (sym (c .match .keys1) ∙ n) ∙ sym (law.look-eqn r)
+
+returns-2 : tie.Need-returns-2
+unfolding eqnOf
+returns-2 c = let r = decRaw (now (c .before .before .before .args .r)) in let k = toZ w64 (num kF r) in let n = c .before .byte-at .ensures .0 in ap (λ (m : ℕ). eqnOf m (num aF r) (num bF r) k) (sym (c .match .keys2) ∙ n) ∙ sym (law.look-eqn r)
+
+returns-3 : tie.Need-returns-3
+unfolding eqnOf
+returns-3 c = let r = decRaw (now (c .before .before .before .before .before .args .r)) in let k = toZ w64 (num kF r) in let n = c .before .before .before .byte-at .ensures .0 in ap (λ (m : ℕ). eqnOf m (c .before .byte-at2 .result) (c .byte-at3 .result) k) (sym (c .before .before .match .keys3)) ∙ (λ j. eqnOf (n j) (c .before .byte-at2 .ensures .0 j) (c .byte-at3 .ensures .0 j) k) ∙ sym (law.look-eqn r)
+
+returns-4 : tie.Need-returns-4
+unfolding eqnOf
+returns-4 c = let r = decRaw (now (c .before .before .before .before .before .args .r)) in let k = toZ w64 (num kF r) in let n = c .before .before .before .byte-at .ensures .0 in ap (λ (m : ℕ). eqnOf m (c .before .byte-at4 .result) (c .byte-at5 .result) k) (sym (c .before .before .match .keys4)) ∙ (λ j. eqnOf (n j) (c .before .byte-at4 .ensures .0 j) (c .byte-at5 .ensures .0 j) k) ∙ sym (law.look-eqn r)
+
+returns-5 : tie.Need-returns-5
+returns-5 c = let r = decRaw (now (c .before .before .before .before .before .before .before .args .r)) in let k = toZ w64 (num kF r) in let n = c .before .before .before .before .before .byte-at .ensures .0 in c .before .unary-at .ensures (c .byte-at6 .result) (num bF r) ∙ (λ j. eqnOf (n j) (c .byte-at6 .ensures .0 j) (num bF r) k) ∙ sym (law.look-eqn r)
+
+returns-6 : tie.Need-returns-6
+returns-6 c = let r = decRaw (now (c .before .before .before .before .before .before .before .before .before .args .r)) in let k = toZ w64 (num kF r) in let n = c .before .before .before .before .before .before .before .byte-at .ensures .0 in c .before .before .binary-of .ensures (c .before .byte-at7 .result) (c .byte-at8 .result) k ∙ (λ j. eqnOf (n j) (c .before .byte-at7 .ensures .0 j) (c .byte-at8 .ensures .0 j) k) ∙ sym (law.look-eqn r)
+
+returns-7 : tie.Need-returns-7
+returns-7 c = let r = decRaw (now (c .before .before .before .before .args .r)) in let k = toZ w64 (num kF r) in let n = c .before .before .byte-at .ensures .0 in law.nil-low (num aF r) (num bF r) k (c .before .before .byte-at .result) (omega arith) (c .before .match .rest .0 .0 .0 .1) (c .before .match .rest .0 .0 .1) ∙ ap (λ (m : ℕ). eqnOf m (num aF r) (num bF r) k) n ∙ sym (law.look-eqn r)
+
+returns-8 : tie.Need-returns-8
+returns-8 c = let r = decRaw (now (c .before .before .before .before .before .before .args .r)) in let k = toZ w64 (num kF r) in let n = c .before .before .before .before .byte-at .ensures .0 in law.nil-high (num aF r) (num bF r) k (c .before .before .before .before .byte-at .result) (law.over (c .before .before .before .before .byte-at .result) (omega arith) (c .before .before .before .match .rest .0 .1) (c .before .before .before .match .rest .1)) ∙ ap (λ (m : ℕ). eqnOf m (num aF r) (num bF r) k) n ∙ sym (law.look-eqn r)
+
+pub operator-at-spec : {M : Type 1} → statement M
+operator-at-spec =
+    tie.close
+    (tie.spec
+    byte-at-requires
+    byte-at-requires-2
+    byte-at-requires-3
+    cast-t13
+    cast-t14
+    byte-at-requires-4
+    byte-at-requires-5
+    cast-t15
+    cast-t16
+    unary-at-requires
+    byte-at-requires-6
+    cast-t18
+    binary-of-requires
+    byte-at-requires-7
+    byte-at-requires-8
+    cast-t19
+    cast-t20
+    returns
+    returns-2
+    returns-3
+    returns-4
+    returns-5
+    returns-6
+    returns-7
+    returns-8)

@@ -1,0 +1,85 @@
+-- A raw record read as a cell with its bound and its set point within their ranges, and the struct that it is rebuilt into.
+use Prim.Native.Nat.{ℕ, _≤_, min}
+use mathlib.Core.Path.{_≡_}
+use mathlib.Core.Bool.{false}
+use mathlib.Core.List.{List, []}
+use Rattle.meaning.specs.Plan.{Eqn, input, nil, unit, one, two, last, delay}
+use Rattle.meaning.specs.Events.{Event, horizon}
+use Rattle.machine.specs.State.{Kept, Cell, noKept}
+use Rattle.layout.specs.Record.{Raw, decRaw}
+use Rattle.encoding.specs.Back.{toCell, heldOf}
+use Rattle.queue.specs.Found.{asOption}
+use Rattle.apply.specs.Named.{unary, binary}
+use Rattle.streams.specs.declared.Op.{Op}
+use Rattle.streams.specs.declared.Op.the-variants.{In, Nil, Unit, One, Two, Last, Delay}
+use Rattle.streams.specs.declared.Kept as code
+use Rattle.streams.specs.declared.Stream.{Stream}
+use Rattle.streams.specs.declared.Look.{Look}
+
+-- a set point at most y
+abbrev pub cutKept : ℕ → Kept → Kept
+cutKept y k = record { prev = k .prev; since = min (k .since) y; value = k .value; prior = k .prior }
+
+-- the bound cut to at most the horizon, and the set point to at most that bound
+abbrev pub cut : Cell → Cell
+cut c =
+    record {
+      eqn = c .eqn;
+      out = c .out;
+      bound = min (c .bound) horizon;
+      held = c .held;
+      next = c .next;
+      kept = cutKept (min (c .bound) horizon) (c .kept);
+    }
+
+-- total: every record is one; where bound and set point are within their ranges it is the record's cell itself
+unfoldable pub lookOf : Raw → Cell
+unfolding toCell
+lookOf r = cut (toCell r)
+
+-- ---- the struct as a cell
+
+abbrev pub equation : Op → Eqn
+equation In = input
+equation Nil = nil
+equation Unit = unit
+equation (One f a) = one (unary f) a
+equation (Two g a b) = two (binary g) a b
+equation (Last a b) = last a b
+equation (Delay a b) = delay a b
+
+abbrev pub keptIn : code.Kept → Kept
+keptIn k = record { prev = asOption (k .prev); since = k .since; value = asOption (k .value); prior = asOption (k .prior) }
+
+-- the equation's own cell, as far as a move looks at it: not its held events
+abbrev pub ownCell : Eqn → ℕ → Kept → Cell
+ownCell e y k = record { eqn = e; out = false; bound = y; held = []; next = 0; kept = k }
+
+abbrev pub ownOf : Stream → Cell
+ownOf s = ownCell (equation (s .op)) (s .bound) (keptIn (s .kept))
+
+-- an argument's: its bound and its held events
+abbrev pub argCell : ℕ → List Event → Cell
+argCell y es = record { eqn = nil; out = false; bound = y; held = es; next = 0; kept = noKept }
+
+abbrev pub argOf : ℕ → List ℕ → Cell
+argOf y s = argCell y (heldOf (decRaw s))
+
+-- what validity would say of the struct
+pub record Sound (s : Stream) : Type 0 where
+  pub top : s .bound ≤ horizon
+  pub since : s .kept .since ≤ s .bound
+
+-- the struct is the record's stream
+pub record Is (s : Stream) (r : Raw) : Type 0 where
+  pub eqn : equation (s .op) ≡ lookOf r .eqn
+  pub out : s .out ≡ lookOf r .out
+  pub bound : s .bound ≡ lookOf r .bound
+  pub kept : keptIn (s .kept) ≡ lookOf r .kept
+
+-- what validity would say of a stream and its arguments
+pub record Within (l : Look) : Type 0 where
+  pub top : l .stream .bound ≤ horizon
+  pub since : l .stream .kept .since ≤ l .stream .bound
+  pub top-a : l .abound ≤ horizon
+  pub top-b : l .bbound ≤ horizon

@@ -1,0 +1,293 @@
+// A stream as a struct, with its operator inside, rebuilt from the record's bytes.
+ghost use mathlib.Core.Path.{_≡_};
+ghost use Prim.Native.Nat.{ℕ, _≤_, min, max};
+ghost use lib.IntN.{ℤ};
+ghost use lib.ListN.{length};
+ghost use mir.Syntax.{w64};
+ghost use mir.Val.{toZ};
+ghost use Rattle.meaning.specs.Plan.{calc, one, two};
+ghost use Rattle.meaning.specs.Events.{horizon};
+ghost use Rattle.machine.specs.State.{noKept};
+ghost use Rattle.meaning.specs.Plan.{argA, argB};
+ghost use Rattle.operators.specs.Operators.{eqnOf};
+ghost use Rattle.layout.specs.Record.{decRaw, num, kF};
+ghost use Rattle.encoding.specs.Back as cells;
+ghost use Rattle.queue.specs.Found.{asOption};
+ghost use Rattle.apply.specs.Named.{unary, calculation, binary};
+ghost use Rattle.streams.specs.Look.{lookOf, equation, keptIn, Sound, Is, Within};
+use apply::Binary;
+use apply::Calc;
+use apply::Unary;
+use limits::Bound;
+use queue::Found;
+
+// An equation's operator, with just the arguments that it uses.
+pub enum Op {
+    In,
+    Nil,
+    Unit,
+    One(Unary, u8),
+    Two(Binary, u8, u8),
+    Last(u8, u8),
+    Delay(u8, u8),
+}
+
+// What a last or a delay keeps.
+pub struct Kept {
+    pub prev: Found,
+    pub since: u64,
+    pub value: Found,
+    pub prior: Found,
+}
+
+// A stream, rebuilt from its record: its operator with just the arguments that it uses, and what the engine knows of it.
+pub struct Stream {
+    pub op: Op,
+    pub out: bool,
+    pub bound: u64,
+    pub kept: Kept,
+}
+
+// What a move looks at: the stream, and its arguments' bounds.
+pub struct Look {
+    pub stream: Stream,
+    pub abound: u64,
+    pub bbound: u64,
+}
+
+// The operator of one argument with stored number n, with the k of the record if it uses one.
+fn unary_at(r: &[u8], n: u64) -> Unary
+    requires { ⌜ (length (now r) ≡ 256) × (4 ≤ n) × (n ≤ 7) ⌝ }
+    ensures { λ f. ⌜ ((a b : ℕ) → one (unary f) a ≡ eqnOf n a b (toZ w64 (num kF (decRaw (now (r .entry)))))) ⌝ }
+{
+    match n {
+        4 => Unary::Time,
+        5 => {
+            let k = num::of_bits(layout::word_at(r, layout::K));
+            Unary::Set(k)
+        }
+        6 => {
+            let k = num::of_bits(layout::word_at(r, layout::K));
+            Unary::Plus(k)
+        }
+        _ => Unary::Neg,
+    }
+}
+
+fn calc_of(n: u64) -> Calc
+    requires { ⌜ (8 ≤ n) × (n ≤ 15) ⌝ }
+    ensures { λ r. ⌜ ((a b : ℕ) (k : ℤ) → two (calc (calculation r)) a b ≡ eqnOf n a b k) ⌝ }
+{
+    match n {
+        8 => Calc::Add,
+        9 => Calc::Sub,
+        10 => Calc::Mul,
+        11 => Calc::Div,
+        12 => Calc::Rem,
+        13 => Calc::Lt,
+        14 => Calc::Le,
+        _ => Calc::Eq,
+    }
+}
+
+fn binary_of(n: u64) -> Binary
+    requires { ⌜ (8 ≤ n) × (n ≤ 17) ⌝ }
+    ensures { λ r. ⌜ ((a b : ℕ) (k : ℤ) → two (binary r) a b ≡ eqnOf n a b k) ⌝ }
+{
+    match n {
+        16 => Binary::Keep,
+        17 => Binary::Merge,
+        _ => {
+            let g = calc_of(n);
+            Binary::Arith(g)
+        }
+    }
+}
+
+// The first argument of an operator; 0 if it uses none.
+pub fn first(op: Op) -> u8
+    ensures { λ r. ⌜ r ≡ argA (equation op) ⌝ }
+{
+    match op {
+        Op::In => 0,
+        Op::Nil => 0,
+        Op::Unit => 0,
+        Op::One(_, a) => a,
+        Op::Two(_, a, _) => a,
+        Op::Last(a, _) => a,
+        Op::Delay(a, _) => a,
+    }
+}
+
+// The second argument of an operator; 0 if it uses none.
+pub fn second(op: Op) -> u8
+    ensures { λ r. ⌜ r ≡ argB (equation op) ⌝ }
+{
+    match op {
+        Op::In => 0,
+        Op::Nil => 0,
+        Op::Unit => 0,
+        Op::One(_, _) => 0,
+        Op::Two(_, _, b) => b,
+        Op::Last(_, b) => b,
+        Op::Delay(_, b) => b,
+    }
+}
+
+pub fn smaller(x: u64, y: u64) -> u64
+    ensures { λ r. ⌜ r ≡ min x y ⌝ }
+{
+    if x < y { x } else { y }
+}
+
+pub fn larger(x: u64, y: u64) -> u64
+    ensures { λ r. ⌜ r ≡ max x y ⌝ }
+{
+    if x < y { y } else { x }
+}
+
+// The bound of a record, at most the horizon.
+pub fn bound_of(r: &[u8]) -> u64
+    requires { ⌜ length (now r) ≡ 256 ⌝ }
+    ensures { λ x. ⌜ (x ≡ lookOf (decRaw (now (r .entry))) .bound) × (x ≤ horizon) ⌝ }
+{
+    smaller(layout::word_at(r, layout::BOUND), Bound::HORIZON)
+}
+
+// The operator of a record: ranges of the stored number choose the group, and only what the group uses is read.
+pub fn operator_at(r: &[u8]) -> Op
+    requires { ⌜ length (now r) ≡ 256 ⌝ }
+    ensures { λ x. ⌜ equation x ≡ lookOf (decRaw (now (r .entry))) .eqn ⌝ }
+{
+    let n = layout::byte_at(r, layout::OP);
+    match n {
+        1 => Op::In,
+        3 => Op::Unit,
+        4..=7 => {
+            let f = unary_at(r, n);
+            let a = layout::byte_at(r, layout::A);
+            Op::One(f, a as u8)
+        }
+        8..=17 => {
+            let g = binary_of(n);
+            let a = layout::byte_at(r, layout::A);
+            let b = layout::byte_at(r, layout::B);
+            Op::Two(g, a as u8, b as u8)
+        }
+        18 => {
+            let a = layout::byte_at(r, layout::A);
+            let b = layout::byte_at(r, layout::B);
+            Op::Last(a as u8, b as u8)
+        }
+        19 => {
+            let a = layout::byte_at(r, layout::A);
+            let b = layout::byte_at(r, layout::B);
+            Op::Delay(a as u8, b as u8)
+        }
+        _ => Op::Nil,
+    }
+}
+
+// A stored value that may be absent.
+fn optional(has: u64, bits: u64) -> Found
+    ensures { λ r. ⌜ asOption r ≡ cells.optional has bits ⌝ }
+{
+    if has == 0 {
+        return Found::Nothing;
+    }
+    Found::Value(num::of_bits(bits))
+}
+
+// Nothing is kept.
+fn nothing() -> Kept
+    ensures { λ k. ⌜ keptIn k ≡ noKept ⌝ }
+{
+    Kept {
+        prev: Found::Nothing,
+        since: 0,
+        value: Found::Nothing,
+        prior: Found::Nothing,
+    }
+}
+
+// What the record of a stream with this operator keeps, with a set point at most the bound.
+fn kept_at(r: &[u8], op: Op, bound: u64) -> Kept
+    requires { ⌜ (length (now r) ≡ 256) × (equation op ≡ lookOf (decRaw (now r)) .eqn) × (bound ≡ lookOf (decRaw (now r)) .bound) ⌝ }
+    ensures { λ k. ⌜ keptIn k ≡ lookOf (decRaw (now (r .entry))) .kept ⌝ }
+{
+    match op {
+        Op::Last(_, _) => {
+            let prev = optional(
+                layout::byte_at(r, layout::FLAG),
+                layout::word_at(r, layout::KEPT),
+            );
+            Kept {
+                prev: prev,
+                since: 0,
+                value: Found::Nothing,
+                prior: Found::Nothing,
+            }
+        }
+        Op::Delay(_, _) => {
+            let since = smaller(layout::word_at(r, layout::KEPT), bound);
+            let value = optional(
+                layout::byte_at(r, layout::FLAG),
+                layout::word_at(r, layout::VALUE),
+            );
+            let prior = optional(
+                layout::byte_at(r, layout::PRIOR_FLAG),
+                layout::word_at(r, layout::PRIOR),
+            );
+            Kept {
+                prev: Found::Nothing,
+                since: since,
+                value: value,
+                prior: prior,
+            }
+        }
+        Op::In => nothing(),
+        Op::Nil => nothing(),
+        Op::Unit => nothing(),
+        Op::One(_, _) => nothing(),
+        Op::Two(_, _, _) => nothing(),
+    }
+}
+
+// The stream of a record whose operator and bound are read.
+pub fn complete(r: &[u8], op: Op, bound: u64) -> Stream
+    requires { ⌜ (length (now r) ≡ 256) × (equation op ≡ lookOf (decRaw (now r)) .eqn) × (bound ≡ lookOf (decRaw (now r)) .bound) ⌝ }
+    ensures { λ s. ⌜ Is s (decRaw (now (r .entry))) ⌝ }
+{
+    let out = layout::byte_at(r, layout::OUT) != 0;
+    let kept = kept_at(r, op, bound);
+    Stream {
+        op: op,
+        out: out,
+        bound: bound,
+        kept: kept,
+    }
+}
+
+// The stream of a record.
+pub fn stream_at(r: &[u8]) -> Stream
+    requires { ⌜ length (now r) ≡ 256 ⌝ }
+    ensures { λ s. ⌜ Is s (decRaw (now (r .entry))) ⌝ }
+{
+    let op = operator_at(r);
+    let bound = bound_of(r);
+    complete(r, op, bound)
+}
+
+// A stream with the bounds of its arguments, in a and b.
+pub fn beside(s: Stream, a: &[u8], b: &[u8]) -> Look
+    requires { ⌜ Sound s × (length (now a) ≡ 256) × (length (now b) ≡ 256) ⌝ }
+    ensures { λ l. ⌜ (l .stream ≡ s) × (l .abound ≡ lookOf (decRaw (now (a .entry))) .bound) × (l .bbound ≡ lookOf (decRaw (now (b .entry))) .bound) × Within l ⌝ }
+{
+    let abound = bound_of(a);
+    let bbound = bound_of(b);
+    Look {
+        stream: s,
+        abound: abound,
+        bbound: bbound,
+    }
+}
