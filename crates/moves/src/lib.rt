@@ -9,7 +9,7 @@ ghost use Rattle.meaning.specs.Events.{horizon};
 ghost use Rattle.machine.specs.Reach.{decide};
 ghost use Rattle.meaning.specs.Plan.{argA, argB};
 ghost use Rattle.layout.specs.Record.{num, encode, decode, rowAt, boundF};
-ghost use Rattle.streams.specs.Look.{equation, keptIn, ownOf, InRange};
+ghost use Rattle.streams.specs.Look.{equation, keptIn, ownOf, Bounded};
 ghost use Rattle.decide.specs.Near.{toNext, knownTo};
 ghost use Rattle.moves.specs.Move.{argIn, ownIn, otherIn, limitRaw, boundRaw, canRaw, keptRaw, absorbedRaw, releasedArgs, releasedAll, silentRaw, eventRaw, stepRaw, movedRaw};
 use decide::Next;
@@ -65,7 +65,7 @@ fn stuck(state: &[u8], n: usize, op: Op, bound: u64) -> bool
 
 // What a move of the stream s finds.
 fn ahead(state: &[u8], n: usize, s: Stream) -> Next
-    requires { ⌜ (n * 256 ≤ length (now state)) × (0 < n) × InRange s ⌝ }
+    requires { ⌜ (n * 256 ≤ length (now state)) × (0 < n) × Bounded s ⌝ }
     ensures next { λ r. ⌜ toNext r ≡ decide (equation (s .op)) (ownOf s) (otherIn n (argA (equation (s .op))) (decode n (now (state .entry)))) (otherIn n (argB (equation (s .op))) (decode n (now (state .entry)))) ⌝ }
     ensures known { λ r. ⌜ knownTo r ≤ horizon ⌝ }
 {

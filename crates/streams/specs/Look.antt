@@ -58,7 +58,7 @@ abbrev pub argOf : ℕ → List ℕ → Cell
 argOf y s = argCell y (heldOf (decRaw s))
 
 -- what validity would say of the struct
-pub record InRange (s : Stream) : Type 0 where
+pub record Bounded (s : Stream) : Type 0 where
   pub top : s .bound ≤ horizon
   pub since : s .kept .since ≤ s .bound
 
