@@ -124,8 +124,6 @@ pub fn is_equation(state: &[u8], n: usize, stream: u32) -> bool
     if n <= i {
         return false;
     }
-    let at = i * layout::RECORD;
-    let end = at + layout::RECORD;
-    let op = layout::byte_at(&state[at..end], layout::OP);
+    let op = layout::byte_at(layout::row_at(state, i), layout::OP);
     !operators::is_in(operators::group_of(op))
 }

@@ -14,8 +14,8 @@ use mir.Val.{toZ}
 use Rattle.meaning.specs.Events.{horizon}
 use Rattle.lines.specs.declared.Word.{Word}
 use Rattle.lines.specs.declared.Word.the-variants.{Past, Absent}
-use Rattle.lines.specs.declared.Found.{Found}
-use Rattle.lines.specs.declared.Found.the-variants.{Number, Fault}
+use Rattle.lines.specs.declared.Numeral.{Numeral}
+use Rattle.lines.specs.declared.Numeral.the-variants.{Number, Fault}
 use Rattle.lines.specs.declared.Scanned.{Scanned}
 use Rattle.lines.specs.Form.{ending, stands, skip, digit, scanned, scan, counted, orZero, whole, positive, negative, signedAfter, signed}
 use Rattle.trace.specs.declared.Record.the-variants.{Reading, Progress}
@@ -48,7 +48,7 @@ module _ (s : List ℕ) (a : ℕ) (t : List ℕ) (b : ℕ) (n : ℕ) (same : Sam
 
   -- ## Numbers
 
-  data Numbers (m : ℕ) : Found → Found → Type 0 where
+  data Numbers (m : ℕ) : Numeral → Numeral → Type 0 where
     numbers : (v k : ℕ) → k ≤ m → Numbers m (Number v (a + k)) (Number v (b + k))
     fault : Numbers m Fault Fault
 
@@ -88,11 +88,11 @@ module _ (s : List ℕ) (a : ℕ) (t : List ℕ) (b : ℕ) (n : ℕ) (same : Sam
   unfolding whole
   whole-alike k max z h = go (skip-alike (48 ∷ []) k (omega arith)) (counted-alike (k + max) k (scan-alike max k 0 h))
     where
-      go : {x y : Word} → Words (k + 1) x y → {u v : Found} → Numbers (k + max) u v → Numbers (k + max) (orZero x u) (orZero y v)
+      go : {x y : Word} → Words (k + 1) x y → {u v : Numeral} → Numbers (k + max) u v → Numbers (k + max) (orZero x u) (orZero y v)
       go (past j l) q = numbers 0 j (omega arith)
       go absent q = q
 
-  positive-alike : (m : ℕ) {x y : Found} → Numbers m x y → Numbers m (positive x) (positive y)
+  positive-alike : (m : ℕ) {x y : Numeral} → Numbers m x y → Numbers m (positive x) (positive y)
   positive-alike m (numbers v k h) = go (ltb v (2 ^ 63))
     where
       go : (p : Bool) → Numbers m (cond p (Number v (a + k)) Fault) (cond p (Number v (b + k)) Fault)
@@ -100,7 +100,7 @@ module _ (s : List ℕ) (a : ℕ) (t : List ℕ) (b : ℕ) (n : ℕ) (same : Sam
       go false = fault
   positive-alike m fault = fault
 
-  negative-alike : (m : ℕ) {x y : Found} → Numbers m x y → Numbers m (negative x) (negative y)
+  negative-alike : (m : ℕ) {x y : Numeral} → Numbers m x y → Numbers m (negative x) (negative y)
   negative-alike m (numbers v k h) = go (eqb v 0) (leb v (2 ^ 63))
     where
       go : (p q : Bool) → Numbers m (cond p Fault (cond q (Number (2 ^ 64 - v) (a + k)) Fault)) (cond p Fault (cond q (Number (2 ^ 64 - v) (b + k)) Fault))
@@ -109,7 +109,7 @@ module _ (s : List ℕ) (a : ℕ) (t : List ℕ) (b : ℕ) (n : ℕ) (same : Sam
       go false false = fault
   negative-alike m fault = fault
 
-  wider : {m l : ℕ} {x y : Found} → Numbers m x y → m ≤ l → Numbers l x y
+  wider : {m l : ℕ} {x y : Numeral} → Numbers m x y → m ≤ l → Numbers l x y
   wider (numbers v k h) q = numbers v k (omega arith)
   wider fault q = fault
 
@@ -127,7 +127,7 @@ module _ (s : List ℕ) (a : ℕ) (t : List ℕ) (b : ℕ) (n : ℕ) (same : Sam
   words (past k h) f g q = q k h
   words absent f g q = bad
 
-  found : {m : ℕ} {x y : Found} → Numbers m x y → (f g : ℕ → ℕ → Line) → ((v k : ℕ) → k ≤ m → Alike a b (f v (a + k)) (g v (b + k))) → Alike a b (number x f) (number y g)
+  found : {m : ℕ} {x y : Numeral} → Numbers m x y → (f g : ℕ → ℕ → Line) → ((v k : ℕ) → k ≤ m → Alike a b (f v (a + k)) (g v (b + k))) → Alike a b (number x f) (number y g)
   found (numbers v k h) f g q = q v k h
   found fault f g q = bad
 

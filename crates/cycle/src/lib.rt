@@ -44,7 +44,8 @@ pub fn note(graph: &mut [u8], i: usize, op: u8, a: u8, b: u8)
     }
 }
 
-fn wide(x: u8) -> usize
+// A stream's number as an index.
+fn index_of(x: u8) -> usize
     ensures { λ r. ⌜ (r ≡ x) × (r < 256) ⌝ }
 {
     x as usize
@@ -54,7 +55,7 @@ fn wide(x: u8) -> usize
 fn found(graph: &[u8; GRAPH], i: u8) -> bool
     ensures { λ r. ⌜ r ≡ (present i && eqb (getD (now (graph .entry)) (3 * i) 0) 1) ⌝ }
 {
-    let stream = wide(i);
+    let stream = index_of(i);
     if Plan::MOST <= stream {
         return false;
     }
@@ -65,7 +66,7 @@ fn found(graph: &[u8; GRAPH], i: u8) -> bool
 pub fn follow(graph: &mut [u8; GRAPH], i: u8, depth: u8) -> bool
     ensures { λ r. ⌜ walked r (now (graph .exit)) ≡ followed depth i (now (graph .entry)) ⌝ }
 {
-    let stream = wide(i);
+    let stream = index_of(i);
     if Plan::MOST <= stream {
         return false;
     }

@@ -7,7 +7,7 @@ ghost use Rattle.meaning.specs.Events.{Event, horizon};
 ghost use Rattle.machine.specs.Reach as machine;
 ghost use Rattle.layout.specs.Record.{decRaw};
 ghost use Rattle.encoding.specs.Back.{heldOf};
-ghost use Rattle.streams.specs.Look.{lookOf, equation, ownOf, argCell, argOf, Sound, Within};
+ghost use Rattle.streams.specs.Look.{lookOf, equation, ownOf, argCell, argOf, Bounded, Within};
 ghost use Rattle.events.specs.Near.{keeping, holding};
 ghost use Rattle.decide.specs.Search.{dueAt};
 ghost use Rattle.decide.specs.Near.{testIn, nearerIn, candidateIn, searchIn, reachIn, firstIn, nextIn, toNext, knownTo};
@@ -217,7 +217,7 @@ fn next_in(l: Look, a: &[u8], b: &[u8]) -> Next
 
 // What a move of the stream s finds, with its arguments in a and b.
 pub fn find_next(s: Stream, a: &[u8], b: &[u8]) -> Next
-    requires { ⌜ Sound s × (length (now a) ≡ 256) × (length (now b) ≡ 256) ⌝ }
+    requires { ⌜ Bounded s × (length (now a) ≡ 256) × (length (now b) ≡ 256) ⌝ }
     ensures next { λ n. ⌜ toNext n ≡ machine.decide (equation (s .op)) (ownOf s) (lookOf (decRaw (now (a .entry)))) (lookOf (decRaw (now (b .entry)))) ⌝ }
     ensures known { λ n. ⌜ knownTo n ≤ horizon ⌝ }
 {

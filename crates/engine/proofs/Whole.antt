@@ -110,32 +110,32 @@ load-length text s = go (ℕ-discrete (loadReply text s .number) 0)
 
 -- ---- what every call keeps
 
-record Kept (x : Since) (b : List ℕ) : Type 0 where
+record Goes (x : Since) (b : List ℕ) : Type 0 where
   rules : KeepsRules (capacity (length b)) (x .plan)
   typed : AllTyped (x .calls)
   sound : Sound (capacity (length b)) (after (x .calls) (loaded (x .plan)))
   buffer : b ≡ bytesOf (length b) (after (x .calls) (loaded (x .plan)))
   seen : x .seen ≡ log (x .calls) (loaded (x .plan))
 
-abbrev KeptOf : Option Since → List ℕ → Type 0
-KeptOf none b = Unit {0}
-KeptOf (some x) b = Kept x b
+abbrev GoesOf : Option Since → List ℕ → Type 0
+GoesOf none b = Unit {0}
+GoesOf (some x) b = Goes x b
 
 -- a load that was done: the plan is read with the room that the buffer has, which stays as long as it was
-start : (text b : List ℕ) (size : ℕ) → number (capacity size) text ≡ 0 → b ≡ bytesOf size (loaded (declared (capacity size) text)) → Kept (record { plan = declared (capacity (length b)) text; calls = []; seen = [] }) b
+start : (text b : List ℕ) (size : ℕ) → number (capacity size) text ≡ 0 → b ≡ bytesOf size (loaded (declared (capacity size) text)) → Goes (record { plan = declared (capacity (length b)) text; calls = []; seen = [] }) b
 unfolding after log
 start text b size e q =
     let sized : length b ≡ size = ap length q ∙ bytes-length size (loaded (declared (capacity size) text)) (loaded-sound (declared (capacity size) text) (taken-rendered (capacity size) text e .1)) in
     fresh (ap (λ (n : ℕ). number (capacity n) text) sized ∙ e) (q ∙ ap (λ (n : ℕ). bytesOf n (loaded (declared (capacity n) text))) (sym sized))
   where
-    fresh : number (capacity (length b)) text ≡ 0 → b ≡ bytesOf (length b) (loaded (declared (capacity (length b)) text)) → Kept (record { plan = declared (capacity (length b)) text; calls = []; seen = [] }) b
+    fresh : number (capacity (length b)) text ≡ 0 → b ≡ bytesOf (length b) (loaded (declared (capacity (length b)) text)) → Goes (record { plan = declared (capacity (length b)) text; calls = []; seen = [] }) b
     fresh e q =
         let k = taken-rendered (capacity (length b)) text e .1 in
         record { rules = k; typed = tt; sound = loaded-sound (declared (capacity (length b)) text) k; buffer = q; seen = refl }
 
 -- one call more, on a buffer that stays as long as it was
-further : (x : Since) (b : List ℕ) (c : Call) → Typed c → Kept x b
-    → Kept (record { plan = x .plan; calls = x .calls ++ c ∷ []; seen = x .seen ++ seenIn c (reply c b) ∷ [] }) (reply c b .buffer)
+further : (x : Since) (b : List ℕ) (c : Call) → Typed c → Goes x b
+    → Goes (record { plan = x .plan; calls = x .calls ++ c ∷ []; seen = x .seen ++ seenIn c (reply c b) ∷ [] }) (reply c b .buffer)
 further x b c t k =
     let M = after (x .calls) (loaded (x .plan)) in
     let size = length b in
@@ -152,22 +152,22 @@ further x b c t k =
       seen = ap₂ (λ (l : List Seen) (y : Reply). l ++ seenIn c y ∷ []) (k .seen) r ∙ sym (log-more (x .calls) c (loaded (x .plan)));
     }
 
-keeps-one : (a : Act) (s : List ℕ) (o : Option Since) → TypedAct a → KeptOf o s → KeptOf (noted a (answer a s) o) (answer a s .buffer)
+keeps-one : (a : Act) (s : List ℕ) (o : Option Since) → TypedAct a → GoesOf o s → GoesOf (noted a (answer a s) o) (answer a s .buffer)
 unfolding noted answer
 keeps-one (load text) s o t k = by (eqb (loadReply text s .number) 0) refl
   where
-    by : (x : Bool) → eqb (loadReply text s .number) 0 ≡ x → KeptOf (cond x (some (record { plan = declared (capacity (length (loadReply text s .buffer))) text; calls = []; seen = [] })) o) (loadReply text s .buffer)
+    by : (x : Bool) → eqb (loadReply text s .number) 0 ≡ x → GoesOf (cond x (some (record { plan = declared (capacity (length (loadReply text s .buffer))) text; calls = []; seen = [] })) o) (loadReply text s .buffer)
     by true e = let d = load-done text s (eqb-true (loadReply text s .number) 0 e) in start text (loadReply text s .buffer) (length s) (d .0) (d .1)
-    by false e = subst (KeptOf o) (sym (load-refused text s (eqb-false (loadReply text s .number) 0 e))) k
+    by false e = subst (GoesOf o) (sym (load-refused text s (eqb-false (loadReply text s .number) 0 e))) k
 keeps-one (make c) s none t k = tt
 keeps-one (make c) s (some x) t k = further x s c t k
 
-keeps-all : (acts : List Act) (s : List ℕ) (o : Option Since) → AllTypedActs acts → KeptOf o s → KeptOf (since acts s o) (left acts s)
+keeps-all : (acts : List Act) (s : List ℕ) (o : Option Since) → AllTypedActs acts → GoesOf o s → GoesOf (since acts s o) (left acts s)
 unfolding since left
 keeps-all [] s o t k = k
 keeps-all (a ∷ acts) s o t k = keeps-all acts (answer a s .buffer) (noted a (answer a s) o) (t .1) (keeps-one a s o (t .0) k)
 
-holds : (o : Option Since) (b : List ℕ) → KeptOf o b → HoldsOf o b
+holds : (o : Option Since) (b : List ℕ) → GoesOf o b → HoldsOf o b
 holds none b k = tt
 holds (some x) b k =
     let keep = rules-keep (x .plan) (k .rules) in

@@ -1,10 +1,9 @@
 -- The kept data of each operator, and the record that holds them.
-use Prim.Native.Nat.{ℕ, zero, suc, _<_, _≤_, _^_}
+use Prim.Native.Nat.{ℕ, _<_, _^_}
 use mathlib.Core.Path.{_≡_, refl, sym, ap, _∙_}
 use mathlib.Core.Bool.{Bool, false, cond, false≢true}
 use mathlib.Core.Option.{Option, none}
 use mathlib.Core.List.{List}
-use native.Mathlib.Omega.{arith}
 use lib.IntN.{ℤ}
 use lib.ListN.{getD}
 use borrow.Author.Tests.{eq-eqb, ne-eqb}
@@ -44,18 +43,6 @@ absorb-near (last _ _) o a b x y = refl
 absorb-near (delay _ _) o a b x y = refl
 
 -- ---- the record
-
--- a flag fits in any byte
-pub flag-wide : (f h : ℕ) → f < 8 → h ≤ 1 → h < 256 ^ getD headWidths f 0
-flag-wide zero h l k = omega arith
-flag-wide (suc zero) h l k = omega arith
-flag-wide (suc (suc zero)) h l k = omega arith
-flag-wide (suc (suc (suc zero))) h l k = omega arith
-flag-wide (suc (suc (suc (suc zero)))) h l k = omega arith
-flag-wide (suc (suc (suc (suc (suc zero))))) h l k = omega arith
-flag-wide (suc (suc (suc (suc (suc (suc zero)))))) h l k = omega arith
-flag-wide (suc (suc (suc (suc (suc (suc (suc zero))))))) h l k = omega arith
-flag-wide (suc (suc (suc (suc (suc (suc (suc (suc f)))))))) h l k = absurd (omega arith)
 
 module _ (f j has bits : ℕ) (r : Raw) where
   pub value-is : valueKept f j has bits r ≡ withNum j bits (withNum f has r)

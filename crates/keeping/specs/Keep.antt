@@ -4,7 +4,7 @@ use mathlib.Core.Bool.{false}
 use mathlib.Core.List.{List}
 use Rattle.meaning.specs.Plan.{Eqn, input, nil, unit, one, two, last, delay}
 use Rattle.meaning.specs.Events.{Event}
-use Rattle.machine.specs.State.{Kept, Cell}
+use Rattle.machine.specs.State.{Cell, Kept, absent, withBound, withHeld, withKept}
 use Rattle.layout.specs.Record.{Raw, decRaw, withNum, flagF, priorFlagF, keptF, valueF, priorF}
 use Rattle.encoding.specs.View.{flagOf, bitsOf}
 use Rattle.encoding.specs.Back.{heldOf}
@@ -13,7 +13,7 @@ use Rattle.streams.specs.Look.{keptIn}
 
 -- the moved stream's own cell, as far as its kept data need it: its bound, its held events and what it kept
 abbrev pub movedCell : ℕ → List Event → Kept → Cell
-movedCell y es k = record { eqn = nil; out = false; bound = y; held = es; next = 0; kept = k }
+movedCell y es k = withKept k (withHeld es (withBound y absent))
 
 abbrev pub movedOf : code.Kept → ℕ → List ℕ → Cell
 movedOf k y s = movedCell y (heldOf (decRaw s)) (keptIn k)

@@ -10,7 +10,7 @@ pub enum Word {
 }
 
 // What reading a number finds: the number and the position past it, or a fault of its form.
-pub enum Found {
+pub enum Numeral {
     Number(u64, usize),
     Fault,
 }
@@ -19,13 +19,6 @@ pub enum Found {
 pub struct Scanned {
     pub value: u64,
     pub next: usize,
-}
-
-// A byte as a number.
-pub fn wide(x: u8) -> u64
-    ensures { λ r. ⌜ (r ≡ x) × (r < 256) ⌝ }
-{
-    x as u64
 }
 
 // Whether the word stands at a position, and where it ends.
@@ -59,7 +52,7 @@ fn digits(text: &[u8], at: usize, max: usize) -> Scanned
         if text.len() <= p {
             return Scanned { value, next: p };
         }
-        let c = wide(text[p]);
+        let c = le::wide(text[p]);
         if c < 48 {
             return Scanned { value, next: p };
         }
@@ -74,88 +67,88 @@ fn digits(text: &[u8], at: usize, max: usize) -> Scanned
 }
 
 // A number of at most max digits, without leading zeros.
-pub fn whole(text: &[u8], at: usize, max: usize) -> Found
+pub fn whole(text: &[u8], at: usize, max: usize) -> Numeral
     requires { ⌜ max ≤ 19 ⌝ }
     ensures { λ r. ⌜ r ≡ whole (now (text .entry)) at max ⌝ }
 {
     if let Word::Past(p) = skip(text, at, b"0") {
-        return Found::Number(0, p);
+        return Numeral::Number(0, p);
     }
     let d = digits(text, at, max);
     if d.next == at {
-        return Found::Fault;
+        return Numeral::Fault;
     }
-    Found::Number(d.value, d.next)
+    Numeral::Number(d.value, d.next)
 }
 
 // A number with the line's ending byte after it.
-fn ended(text: &[u8], number: Found) -> Found
+fn ended(text: &[u8], number: Numeral) -> Numeral
     ensures { λ r. ⌜ r ≡ ended (now (text .entry)) number ⌝ }
 {
-    let Found::Number(v, p) = number else {
-        return Found::Fault;
+    let Numeral::Number(v, p) = number else {
+        return Numeral::Fault;
     };
     let Word::Past(q) = skip(text, p, b"\n") else {
-        return Found::Fault;
+        return Numeral::Fault;
     };
-    Found::Number(v, q)
+    Numeral::Number(v, q)
 }
 
 // A line: the key with its `=`, a number of at most max digits, the ending byte.
-pub fn field(text: &[u8], at: usize, key: &[u8], max: usize) -> Found
+pub fn field(text: &[u8], at: usize, key: &[u8], max: usize) -> Numeral
     requires { ⌜ max ≤ 19 ⌝ }
     ensures { λ r. ⌜ r ≡ field (now (text .entry)) at (now (key .entry)) max ⌝ }
 {
     let Word::Past(p) = skip(text, at, key) else {
-        return Found::Fault;
+        return Numeral::Fault;
     };
     ended(text, whole(text, p, max))
 }
 
 // A value in two's complement: only it may have a minus sign, never before 0.
-pub fn signed(text: &[u8], at: usize) -> Found
+pub fn signed(text: &[u8], at: usize) -> Numeral
     ensures { λ r. ⌜ r ≡ signed (now (text .entry)) at ⌝ }
 {
     let Word::Past(p) = skip(text, at, b"-") else {
-        let Found::Number(v, q) = whole(text, at, 19) else {
-            return Found::Fault;
+        let Numeral::Number(v, q) = whole(text, at, 19) else {
+            return Numeral::Fault;
         };
         if v < 0x8000_0000_0000_0000 {
-            return Found::Number(v, q);
+            return Numeral::Number(v, q);
         }
-        return Found::Fault;
+        return Numeral::Fault;
     };
-    let Found::Number(v, q) = whole(text, p, 19) else {
-        return Found::Fault;
+    let Numeral::Number(v, q) = whole(text, p, 19) else {
+        return Numeral::Fault;
     };
     if v == 0 {
-        return Found::Fault;
+        return Numeral::Fault;
     }
     if v <= 0x8000_0000_0000_0000 {
-        return Found::Number(u64::MAX - (v - 1), q);
+        return Numeral::Number(u64::MAX - (v - 1), q);
     }
-    Found::Fault
+    Numeral::Fault
 }
 
 // The k line.
-pub fn value_line(text: &[u8], at: usize) -> Found
+pub fn value_line(text: &[u8], at: usize) -> Numeral
     ensures { λ r. ⌜ r ≡ valueLine (now (text .entry)) at ⌝ }
 {
     let Word::Past(p) = skip(text, at, b"k=") else {
-        return Found::Fault;
+        return Numeral::Fault;
     };
     ended(text, signed(text, p))
 }
 
 // The out line: 0 or 1.
-pub fn out_line(text: &[u8], at: usize) -> Found
+pub fn out_line(text: &[u8], at: usize) -> Numeral
     ensures { λ r. ⌜ r ≡ outLine (now (text .entry)) at ⌝ }
 {
-    let Found::Number(v, p) = field(text, at, b"out=", 1) else {
-        return Found::Fault;
+    let Numeral::Number(v, p) = field(text, at, b"out=", 1) else {
+        return Numeral::Fault;
     };
     if v <= 1 {
-        return Found::Number(v, p);
+        return Numeral::Number(v, p);
     }
-    Found::Fault
+    Numeral::Fault
 }

@@ -4,10 +4,10 @@ use mathlib.Core.Path.{_≡_, refl, sym, ap, _∙_}
 use mathlib.Core.Bool.{Bool, true, false, cond}
 use mathlib.Core.List.{List, [], _∷_}
 use native.Mathlib.Omega.{arith}
-use lib.Dec.{ltb, lit<}
+use lib.Dec.{leb, ltb, lit<}
 use lib.ListN.{length, set}
 use lib.Seq.{set-getD}
-use borrow.Author.Tests.{ltb-true, le-leb}
+use borrow.Author.Tests.{ltb-true}
 use Rattle.meaning.specs.Plan.{Eqn, reads}
 use Rattle.meaning.specs.Events.{horizon}
 use Rattle.machine.specs.State.{room, Kept}
@@ -136,6 +136,6 @@ module _ (n : ℕ) (i : ℕ) (hi : i < n) where
 
 -- ---- a full stream only shifts its bound
 
-pub step-full : (n i : ℕ) (e : Eqn) (k : Kept) (x : Next) (held : ℕ) (st : Raws) → room ≤ held → silentRaw n i e k (boundRaw x held) st ≡ stepRaw n i e k x held st
+pub step-full : (n i : ℕ) (e : Eqn) (k : Kept) (x : Next) (held : ℕ) (st : Raws) → leb room held ≡ true → silentRaw n i e k (boundRaw x held) st ≡ stepRaw n i e k x held st
 step-full n i e k (silent r) held st h = refl
-step-full n i e k (event t v) held st h = rw (le-leb room held h)
+step-full n i e k (event t v) held st h = rw h

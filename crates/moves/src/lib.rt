@@ -9,7 +9,7 @@ ghost use Rattle.meaning.specs.Events.{horizon};
 ghost use Rattle.machine.specs.Reach.{decide};
 ghost use Rattle.meaning.specs.Plan.{argA, argB};
 ghost use Rattle.layout.specs.Record.{num, encode, decode, rowAt, boundF};
-ghost use Rattle.streams.specs.Look.{equation, keptIn, ownOf, Sound};
+ghost use Rattle.streams.specs.Look.{equation, keptIn, ownOf, Bounded};
 ghost use Rattle.decide.specs.Near.{toNext, knownTo};
 ghost use Rattle.moves.specs.Move.{argIn, ownIn, otherIn, limitRaw, boundRaw, canRaw, keptRaw, absorbedRaw, releasedArgs, releasedAll, silentRaw, eventRaw, stepRaw, movedRaw};
 use decide::Next;
@@ -36,9 +36,8 @@ fn bound_of(state: &[u8], n: usize, a: u8) -> u64
     requires { ⌜ (n * 256 ≤ length (now state)) × (0 < n) ⌝ }
     ensures { λ x. ⌜ x ≡ num boundF (rowAt (decode n (now (state .entry))) (argIn n a)) ⌝ }
 {
-    let at = argument(n, a) * layout::RECORD;
-    let end = at + layout::RECORD;
-    layout::word_at(&state[at..end], layout::BOUND)
+    let i = argument(n, a);
+    layout::word_at(layout::row_at(state, i), layout::BOUND)
 }
 
 // Whether the bounds alone, as they are stored, say that a stream with this operator cannot move: it is an input, an
@@ -66,16 +65,14 @@ fn stuck(state: &[u8], n: usize, op: Op, bound: u64) -> bool
 
 // What a move of the stream s finds.
 fn ahead(state: &[u8], n: usize, s: Stream) -> Next
-    requires { ⌜ (n * 256 ≤ length (now state)) × (0 < n) × Sound s ⌝ }
+    requires { ⌜ (n * 256 ≤ length (now state)) × (0 < n) × Bounded s ⌝ }
     ensures next { λ r. ⌜ toNext r ≡ decide (equation (s .op)) (ownOf s) (otherIn n (argA (equation (s .op))) (decode n (now (state .entry)))) (otherIn n (argB (equation (s .op))) (decode n (now (state .entry)))) ⌝ }
     ensures known { λ r. ⌜ knownTo r ≤ horizon ⌝ }
 {
     let op = s.op;
-    let a = argument(n, streams::first(op)) * layout::RECORD;
-    let a_end = a + layout::RECORD;
-    let b = argument(n, streams::second(op)) * layout::RECORD;
-    let b_end = b + layout::RECORD;
-    decide::find_next(s, &state[a..a_end], &state[b..b_end])
+    let a = layout::row_at(state, argument(n, streams::first(op)));
+    let b = layout::row_at(state, argument(n, streams::second(op)));
+    decide::find_next(s, a, b)
 }
 
 // What stream i, with this operator, that kept k, keeps once its bound is y: brought up to date from the held events.
@@ -83,20 +80,10 @@ fn kept(state: &[u8], n: usize, i: usize, op: Op, k: Kept, y: u64) -> Kept
     requires { ⌜ (n * 256 ≤ length (now state)) × (i < n) ⌝ }
     ensures { λ r. ⌜ keptIn r ≡ keptRaw n i (equation op) (keptIn k) y (decode n (now (state .entry))) ⌝ }
 {
-    let at = i * layout::RECORD;
-    let end = at + layout::RECORD;
-    let a = argument(n, streams::first(op)) * layout::RECORD;
-    let a_end = a + layout::RECORD;
-    let b = argument(n, streams::second(op)) * layout::RECORD;
-    let b_end = b + layout::RECORD;
-    keeping::absorbed(
-        op,
-        k,
-        y,
-        &state[at..end],
-        &state[a..a_end],
-        &state[b..b_end],
-    )
+    let own = layout::row_at(state, i);
+    let a = layout::row_at(state, argument(n, streams::first(op)));
+    let b = layout::row_at(state, argument(n, streams::second(op)));
+    keeping::absorbed(op, k, y, own, a, b)
 }
 
 // Brings what stream i, a last or a delay, keeps up to date.
@@ -201,10 +188,10 @@ fn bound_after(next: Next, held: u64) -> u64
     match next {
         Next::Silent(r) => r,
         Next::Event(t, _) => {
-            if Queue::ROOM as u64 <= held {
+            if Queue::new(held).is_full() {
                 return t as u64;
             }
-            t as u64 + 1
+            Bound::past(t).stamp
         }
     }
 }
@@ -218,7 +205,7 @@ fn make(state: &mut [u8], n: usize, i: usize, op: Op, k: Kept, next: Next, held:
     match next {
         Next::Silent(_) => {}
         Next::Event(t, v) => {
-            if held < Queue::ROOM as u64 {
+            if !Queue::new(held).is_full() {
                 move_event(state, n, i, op, k, t, num::bits(v));
                 return;
             }
@@ -234,16 +221,15 @@ pub fn move_one(state: &mut [u8], n: usize, i: usize) -> bool
     ensures can { λ r. ⌜ r ≡ canRaw n i (decode n (now (state .entry))) ⌝ }
     ensures moved { λ _. ⌜ now (state .exit) ≡ cond (canRaw n i (decode n (now (state .entry)))) (encode n (movedRaw n i (decode n (now (state .entry))))) (now (state .entry)) ⌝ }
 {
-    let at = i * layout::RECORD;
-    let end = at + layout::RECORD;
-    let stored = layout::word_at(&state[at..end], layout::BOUND);
-    let op = streams::operator_at(&state[at..end]);
+    let row = layout::row_at(state, i);
+    let stored = layout::word_at(row, layout::BOUND);
+    let op = streams::operator_at(row);
     if stuck(state, n, op, stored) {
         return false;
     }
     let bound = streams::smaller(stored, Bound::HORIZON);
-    let s = streams::complete(&state[at..end], op, bound);
-    let held = layout::byte_at(&state[at..end], layout::COUNT);
+    let s = streams::complete(row, op, bound);
+    let held = layout::byte_at(row, layout::COUNT);
     let next = ahead(state, n, s);
     if bound_after(next, held) == bound {
         return false;

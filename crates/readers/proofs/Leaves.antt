@@ -1,20 +1,21 @@
 -- What each leaf makes of a record: the cases of each definition.
-use Prim.Native.Nat.{ℕ, _+_, _^_, _<_, _≤_}
+use Prim.Native.Nat.{ℕ, zero, suc, _+_, _^_, _<_, _≤_}
 use mathlib.Core.Path.{_≡_, refl}
 use mathlib.Core.List.{map}
 use mathlib.Core.Bool.{Bool, true, false, cond, _||_}
 use native.Mathlib.Omega.{arith}
 use lib.Dec.{lit<, ltb, eqb}
+use lib.ListN.{getD}
 use borrow.Author.Tests.{lt-ltb, le-ltb, eq-eqb, ne-eqb}
 use Rattle.meaning.specs.Plan.{Argument}
 use Rattle.machine.specs.Step.{anyOf}
 use Rattle.operators.specs.Operators.{groupOf, isLast, isDelay, takesFirst, takesSecond, argumentsOf}
 use Rattle.operators.specs.declared.Group.{Group}
 use Rattle.operators.specs.declared.Group.the-variants.{Absent, Input, Plain, One, Two, Last, Delay}
-use Rattle.layout.specs.Record.{Raw, num, withNum, opF, aF, bF, outF, flagF, priorFlagF, boundF, nextF, keptF, valueF, priorF}
+use Rattle.layout.specs.Record.{Raw, headWidths, num, withNum, opF, aF, bF, outF, flagF, priorFlagF, boundF, nextF, keptF, valueF, priorF}
 use Rattle.layout.proofs.Laws.{RawOk, num-ok, num-small}
 use Rattle.layout.proofs.Stores.{cond-ok, stored-ok}
-use Rattle.readers.specs.Step.{readsRow, toldLast, toldValue, toldPrior, toldSince, toldDelay, toldRow, lowered, waitingRow}
+use Rattle.readers.specs.Step.{readsRow, toldLast, toldAt, toldValue, toldPrior, toldSince, toldDelay, toldRow, lowered, waitingRow}
 
 -- ---- the cases of each definition
 
@@ -50,29 +51,18 @@ module _ (s : ℕ) (r : Raw) where
   last-yes v h = simp (eq-eqb _ _ h)
 
   module _ (t v : ℕ) where
-    pub value-no : (num aF r ≡ s → ⊥) → toldValue s t v r ≡ r
-    unfolding toldValue
-    value-no h = simp (ne-eqb _ _ h)
+    module _ (d f j : ℕ) where
+      pub kept-no : (num aF r ≡ s → ⊥) → toldAt d f j s t v r ≡ r
+      unfolding toldAt
+      kept-no h = simp (ne-eqb _ _ h)
 
-    pub value-else : num aF r ≡ s → (num keptF r ≡ t + 1 → ⊥) → toldValue s t v r ≡ r
-    unfolding toldValue
-    value-else e h = simp (eq-eqb _ _ e, ne-eqb _ _ h)
+      pub kept-else : num aF r ≡ s → (num d r ≡ t + 1 → ⊥) → toldAt d f j s t v r ≡ r
+      unfolding toldAt
+      kept-else e h = simp (eq-eqb _ _ e, ne-eqb _ _ h)
 
-    pub value-yes : num aF r ≡ s → num keptF r ≡ t + 1 → toldValue s t v r ≡ withNum valueF v (withNum flagF 1 r)
-    unfolding toldValue
-    value-yes e h = simp (eq-eqb _ _ e, eq-eqb _ _ h)
-
-    pub prior-no : (num aF r ≡ s → ⊥) → toldPrior s t v r ≡ r
-    unfolding toldPrior
-    prior-no h = simp (ne-eqb _ _ h)
-
-    pub prior-else : num aF r ≡ s → (num boundF r ≡ t + 1 → ⊥) → toldPrior s t v r ≡ r
-    unfolding toldPrior
-    prior-else e h = simp (eq-eqb _ _ e, ne-eqb _ _ h)
-
-    pub prior-yes : num aF r ≡ s → num boundF r ≡ t + 1 → toldPrior s t v r ≡ withNum priorF v (withNum priorFlagF 1 r)
-    unfolding toldPrior
-    prior-yes e h = simp (eq-eqb _ _ e, eq-eqb _ _ h)
+      pub kept-yes : num aF r ≡ s → num d r ≡ t + 1 → toldAt d f j s t v r ≡ withNum j v (withNum f 1 r)
+      unfolding toldAt
+      kept-yes e h = simp (eq-eqb _ _ e, eq-eqb _ _ h)
 
     pub told-behind : num boundF r ≤ t → toldRow s t v r ≡ r
     unfolding toldRow
@@ -145,22 +135,34 @@ module _ (least : ℕ) (r : Raw) where
 
 -- ---- every leaf keeps the numbers within their widths
 
+-- a flag fits in any byte
+pub flag-wide : (f h : ℕ) → f < 8 → h ≤ 1 → h < 256 ^ getD headWidths f 0
+flag-wide zero h l k = omega arith
+flag-wide (suc zero) h l k = omega arith
+flag-wide (suc (suc zero)) h l k = omega arith
+flag-wide (suc (suc (suc zero))) h l k = omega arith
+flag-wide (suc (suc (suc (suc zero)))) h l k = omega arith
+flag-wide (suc (suc (suc (suc (suc zero))))) h l k = omega arith
+flag-wide (suc (suc (suc (suc (suc (suc zero)))))) h l k = omega arith
+flag-wide (suc (suc (suc (suc (suc (suc (suc zero))))))) h l k = omega arith
+flag-wide (suc (suc (suc (suc (suc (suc (suc (suc f)))))))) h l k = absurd (omega arith)
+
 module _ (v : ℕ) (hv : v < 2 ^ 64) where
   last-ok : (s : ℕ) (r : Raw) → RawOk r → RawOk (toldLast s v r)
   unfolding toldLast
   last-ok s r ok = cond-ok (eqb (num aF r) s) (withNum keptF v (withNum flagF 1 r)) r (stored-ok keptF flagF v 1 r (lit< tt) hv ok) ok
 
+  kept-ok : (d f j s t : ℕ) → 1 < 256 ^ getD headWidths f 0 → v < 256 ^ getD headWidths j 0 → (r : Raw) → RawOk r → RawOk (toldAt d f j s t v r)
+  unfolding toldAt
+  kept-ok d f j s t hf hj r ok =
+      let x = withNum j v (withNum f 1 r) in
+      cond-ok (eqb (num aF r) s) (cond (eqb (num d r) (t + 1)) x r) r (cond-ok (eqb (num d r) (t + 1)) x r (stored-ok j f v 1 r hf hj ok) ok) ok
+
   pub value-ok : (s t : ℕ) (r : Raw) → RawOk r → RawOk (toldValue s t v r)
-  unfolding toldValue
-  value-ok s t r ok =
-      let x = withNum valueF v (withNum flagF 1 r) in
-      cond-ok (eqb (num aF r) s) (cond (eqb (num keptF r) (t + 1)) x r) r (cond-ok (eqb (num keptF r) (t + 1)) x r (stored-ok valueF flagF v 1 r (lit< tt) hv ok) ok) ok
+  value-ok s t r ok = kept-ok keptF flagF valueF s t (lit< tt) hv r ok
 
   pub prior-ok : (s t : ℕ) (r : Raw) → RawOk r → RawOk (toldPrior s t v r)
-  unfolding toldPrior
-  prior-ok s t r ok =
-      let x = withNum priorF v (withNum priorFlagF 1 r) in
-      cond-ok (eqb (num aF r) s) (cond (eqb (num boundF r) (t + 1)) x r) r (cond-ok (eqb (num boundF r) (t + 1)) x r (stored-ok priorF priorFlagF v 1 r (lit< tt) hv ok) ok) ok
+  prior-ok s t r ok = kept-ok boundF priorFlagF priorF s t (lit< tt) hv r ok
 
   since-ok : (s t : ℕ) → t < 2 ^ 32 → (r : Raw) → RawOk r → RawOk (toldSince s t r)
   unfolding toldSince

@@ -7,11 +7,10 @@ use native.Mathlib.Omega.{arith}
 use lib.Dec.{eqb}
 use lib.ListN.{length, getD, set, drop, drop-of-length-le}
 use lib.Seq.{drop-cons, set-getD}
-use borrow.Rule.Slice.PartMut.{midOf}
 use Rattle.meaning.specs.Events.{horizon}
-use Rattle.le.specs.Bytes.{Bytes}
+use Rattle.le.specs.Bytes.{part, Bytes}
 use Rattle.layout.specs.Record.{Raw, Raws, noRaw, num, decRaw, encode, decode, rowAt, change, changeAll, slotAt, outF, countF, boundF, nextF}
-use Rattle.layout.proofs.Laws.{rows-many, row-mid, raws-ok, row-ok, change-ok, changeAll-ok, whole-then}
+use Rattle.layout.proofs.Laws.{rows-many, record-row, raws-ok, row-ok, change-ok, changeAll-ok, whole-then}
 use Rattle.readers.specs.Step.{readsRow, toldRow, lowered, leastRow, waitingRow, releasedRow, offered}
 use Rattle.queue.specs.Queue.{pushed, released}
 use Rattle.queue.proofs.Drops.{push-ok, below-none, release-none, release-floor}
@@ -27,13 +26,14 @@ pub least-start : (s n : ℕ) (p : List ℕ) → horizon ≡ leastRow s (drop n 
 unfolding leastRow
 least-start s n p = sym (ap (leastRow s) (drop-of-length-le (decode n p .rows) {i = n} (rw (rows-many n p) (omega arith))))
 
-pub least-turn : (s n acc acc′ : ℕ) (p : List ℕ) (i k : ℕ) → 0 < i → i ≤ n → k ≡ 256 → acc ≡ leastRow s (drop i (decode n p .rows))
-    → acc′ ≡ lowered s (decRaw (midOf ((i - 1) * 256) k p)) acc → acc′ ≡ leastRow s (drop (i - 1) (decode n p .rows))
-least-turn s n acc acc′ p i k h l q inv e =
+-- q holds the record before
+pub least-turn : (s n acc acc′ : ℕ) (p q : List ℕ) (i : ℕ) → 0 < i → i ≤ n → q ≡ part p ((i - 1) * 256) 256 → acc ≡ leastRow s (drop i (decode n p .rows))
+    → acc′ ≡ lowered s (decRaw q) acc → acc′ ≡ leastRow s (drop (i - 1) (decode n p .rows))
+least-turn s n acc acc′ p q i h l own inv e =
     let rows = decode n p .rows in
     let f : suc (i - 1) ≡ i = omega arith in
     let m : i - 1 < length rows = rw (rows-many n p) (omega arith) in
-    e ∙ ap₂ (lowered s) (sym (row-mid n p (i - 1) k (omega arith) q)) (inv ∙ ap (λ (j : ℕ). leastRow s (drop j rows)) (sym f))
+    e ∙ ap₂ (lowered s) (record-row n p q (i - 1) (omega arith) own) (inv ∙ ap (λ (j : ℕ). leastRow s (drop j rows)) (sym f))
     ∙ sym (ap (leastRow s) (drop-cons rows (i - 1) noRaw m) ∙ least-more s (getD rows (i - 1) noRaw) (drop (suc (i - 1)) rows))
 
 lowered-le : (s : ℕ) (r : Raw) (acc : ℕ) → lowered s r acc ≤ acc

@@ -18,13 +18,17 @@ readsRow s r = anyOf s (map (λ x. x .stream) (argumentsOf (groupOf (num opF r))
 unfoldable pub toldLast : ℕ → ℕ → Raw → Raw
 toldLast s v r = cond (eqb (num aF r) s) (withNum keptF v (withNum flagF 1 r)) r
 
-unfoldable pub toldValue : ℕ → ℕ → ℕ → Raw → Raw
-toldValue s t v r =
-    cond (eqb (num aF r) s) (cond (eqb (num keptF r) (t + 1)) (withNum valueF v (withNum flagF 1 r)) r) r
+-- a delay's event of its first argument, at the time that number d is one past: that it is there in number f, its value in j
+unfoldable pub toldAt : (d f j : ℕ) → (s t v : ℕ) → Raw → Raw
+toldAt d f j s t v r = cond (eqb (num aF r) s) (cond (eqb (num d r) (t + 1)) (withNum j v (withNum f 1 r)) r) r
 
-unfoldable pub toldPrior : ℕ → ℕ → ℕ → Raw → Raw
-toldPrior s t v r =
-    cond (eqb (num aF r) s) (cond (eqb (num boundF r) (t + 1)) (withNum priorF v (withNum priorFlagF 1 r)) r) r
+-- at its latest set point
+abbrev pub toldValue : (s t v : ℕ) → Raw → Raw
+toldValue s t v r = toldAt keptF flagF valueF s t v r
+
+-- just below its bound
+abbrev pub toldPrior : (s t v : ℕ) → Raw → Raw
+toldPrior s t v r = toldAt boundF priorFlagF priorF s t v r
 
 unfoldable pub toldSince : ℕ → ℕ → Raw → Raw
 toldSince s t r =
@@ -35,7 +39,7 @@ toldSince s t r =
     r
 
 unfoldable pub toldDelay : ℕ → ℕ → ℕ → Raw → Raw
-unfolding toldValue toldPrior toldSince
+unfolding toldAt toldSince
 toldDelay s t v r = toldSince s t (toldPrior s t v (toldValue s t v r))
 
 unfoldable pub toldRow : ℕ → ℕ → ℕ → Raw → Raw

@@ -4,7 +4,7 @@ ghost use Prim.Native.Nat.{_*_, _+_, _≤_, _<_, max};
 ghost use lib.ListN.{length};
 ghost use Rattle.layout.specs.Record as layout;
 ghost use Rattle.layout.specs.Record.{encRaw, decRaw, encode, decode, changeAll};
-ghost use Rattle.readers.specs.Step.{readsRow, toldLast, toldValue, toldPrior, toldSince, toldDelay, toldRow, leastRow, waitingRow, releasedRow, offered};
+ghost use Rattle.readers.specs.Step.{readsRow, toldLast, toldAt, toldSince, toldDelay, toldRow, leastRow, waitingRow, releasedRow, offered};
 use limits::Bound;
 use operators::Group;
 
@@ -41,38 +41,22 @@ fn tell_last(r: &mut [u8], s: u64, v: u64)
     layout::put_word(r, layout::KEPT, v);
 }
 
-// A delay keeps its first argument's event at its latest set point.
-fn tell_value(r: &mut [u8], s: u64, t: u32, v: u64)
-    requires { ⌜ length (now r) ≡ 256 ⌝ }
-    ensures { λ _. ⌜ now (r .exit) ≡ encRaw (toldValue s t v (decRaw (now (r .entry)))) ⌝ }
+// A delay keeps its first argument's event at the time that word due is one past: that it is there in byte f, its value in
+// word w.
+fn tell_kept(r: &mut [u8], due: usize, f: usize, w: usize, s: u64, t: u32, v: u64)
+    requires { ⌜ (length (now r) ≡ 256) × (due < 7) × (f < 8) × (w < 7) ⌝ }
+    ensures { λ _. ⌜ now (r .exit) ≡ encRaw (toldAt (8 + due) f (8 + w) s t v (decRaw (now (r .entry)))) ⌝ }
 {
     let a = layout::byte_at(r, layout::A);
     if a != s {
         return;
     }
-    let since = layout::word_at(r, layout::KEPT);
-    if since != t as u64 + 1 {
+    let past = layout::word_at(r, due);
+    if past != t as u64 + 1 {
         return;
     }
-    layout::put_byte(r, layout::FLAG, 1);
-    layout::put_word(r, layout::VALUE, v);
-}
-
-// A delay keeps its first argument's event just below its bound.
-fn tell_prior(r: &mut [u8], s: u64, t: u32, v: u64)
-    requires { ⌜ length (now r) ≡ 256 ⌝ }
-    ensures { λ _. ⌜ now (r .exit) ≡ encRaw (toldPrior s t v (decRaw (now (r .entry)))) ⌝ }
-{
-    let a = layout::byte_at(r, layout::A);
-    if a != s {
-        return;
-    }
-    let bound = layout::word_at(r, layout::BOUND);
-    if bound != t as u64 + 1 {
-        return;
-    }
-    layout::put_byte(r, layout::PRIOR_FLAG, 1);
-    layout::put_word(r, layout::PRIOR, v);
+    layout::put_byte(r, f, 1);
+    layout::put_word(r, w, v);
 }
 
 // A delay has a new set point, just below its bound: its first argument's event there is its prior.
@@ -95,12 +79,13 @@ fn tell_since(r: &mut [u8], s: u64, t: u32)
     layout::put_word(r, layout::KEPT, t as u64 + 1);
 }
 
+// A delay's value is told at its latest set point, its prior just below its bound.
 fn tell_delay(r: &mut [u8], s: u64, t: u32, v: u64)
     requires { ⌜ length (now r) ≡ 256 ⌝ }
     ensures { λ _. ⌜ now (r .exit) ≡ encRaw (toldDelay s t v (decRaw (now (r .entry)))) ⌝ }
 {
-    tell_value(r, s, t, v);
-    tell_prior(r, s, t, v);
+    tell_kept(r, layout::KEPT, layout::FLAG, layout::VALUE, s, t, v);
+    tell_kept(r, layout::BOUND, layout::PRIOR_FLAG, layout::PRIOR, s, t, v);
     tell_since(r, s, t);
 }
 
@@ -149,10 +134,9 @@ fn least_reader(state: &[u8], n: usize, s: u64, floor: u64) -> u64
     let mut i = n;
     while 0 < i {
         i -= 1;
-        let at = i * layout::RECORD;
-        let end = at + layout::RECORD;
-        if reads(&state[at..end], s) {
-            let bound = layout::word_at(&state[at..end], layout::BOUND);
+        let r = layout::row_at(state, i);
+        if reads(r, s) {
+            let bound = layout::word_at(r, layout::BOUND);
             if bound <= floor {
                 return bound;
             }
@@ -185,15 +169,16 @@ pub fn release_row(state: &mut [u8], n: usize, i: usize)
     requires { ⌜ (n * 256 ≤ length (now state)) × (i < n) ⌝ }
     ensures { λ _. ⌜ now (state .exit) ≡ encode n (releasedRow i (decode n (now (state .entry)))) ⌝ }
 {
-    let at = i * layout::RECORD;
-    let end = at + layout::RECORD;
-    let count = layout::byte_at(&state[at..end], layout::COUNT);
+    let r = layout::row_at(state, i);
+    let count = layout::byte_at(r, layout::COUNT);
     if count == 0 {
         return;
     }
-    let first = layout::stamp_at(&state[at..end], 0);
+    let first = layout::stamp_at(r, 0);
     let least = least_reader(state, n, i as u64, first);
-    let w = waiting(&state[at..end], least);
+    let w = waiting(r, least);
+    let at = i * layout::RECORD;
+    let end = at + layout::RECORD;
     queue::drop_below(&mut state[at..end], w);
 }
 

@@ -16,7 +16,7 @@ use Rattle.operators.specs.Operators.{groupOf, numberOf}
 use Rattle.operators.proofs.Laws.{one-group, two-group, arguments-of}
 use Rattle.layout.specs.Record.{Raw}
 use Rattle.encoding.specs.View.{keptNums, flag, rawOf, ofCell}
-use Rattle.readers.specs.Step.{readsRow, toldLast, toldValue, toldPrior, toldSince, toldDelay, toldRow, lowered, waitingRow}
+use Rattle.readers.specs.Step.{readsRow, toldLast, toldAt, toldValue, toldPrior, toldSince, toldDelay, toldRow, lowered, waitingRow}
 
 pub cond-same : {A : Type 0} (b : Bool) (x : A) → cond b x x ≡ x
 cond-same true x = refl
@@ -59,13 +59,13 @@ module _ (s t a b : ℕ) (o : Bool) (y : ℕ) (h : List Event) (m : ℕ) where
   delay-with x = rawOf (delay a b) o y h m (keptNums (delay a b) x)
 
   value-told : (v : ℤ) (k : Kept) (p w : Bool) → eqb a s ≡ p → eqb (k .since) (t + 1) ≡ w → toldValue s t (ofZ w64 v) (delay-with k) ≡ delay-with (valueTold (eqb a s) t v k)
-  unfolding toldValue numberOf
+  unfolding toldAt numberOf
   value-told v k false w e f = rw e
   value-told v k true true e f = rw (e, f)
   value-told v k true false e f = rw (e, f)
 
   prior-told : (v : ℤ) (k : Kept) (p u : Bool) → eqb a s ≡ p → eqb y (t + 1) ≡ u → toldPrior s t (ofZ w64 v) (delay-with k) ≡ delay-with (priorTold (eqb a s) y t v k)
-  unfolding toldPrior numberOf
+  unfolding toldAt numberOf
   prior-told v k false u e f = rw e
   prior-told v k true true e f = rw (e, f)
   prior-told v k true false e f = rw (e, f)

@@ -17,8 +17,8 @@ use mir.Facts.{toZ-pos, toZ-neg}
 use Rattle.operators.specs.Operators.{Operator, operators, noOperator, nameOf}
 use Rattle.lines.specs.declared.Word.{Word}
 use Rattle.lines.specs.declared.Word.the-variants.{Past, Absent}
-use Rattle.lines.specs.declared.Found.{Found}
-use Rattle.lines.specs.declared.Found.the-variants.{Number, Fault}
+use Rattle.lines.specs.declared.Numeral.{Numeral}
+use Rattle.lines.specs.declared.Numeral.the-variants.{Number, Fault}
 use Rattle.text.specs.declared.Name.{Name}
 use Rattle.text.specs.declared.Name.the-variants as Name
 use Rattle.lines.specs.declared.Scanned.{Scanned}
@@ -105,15 +105,15 @@ scan-read s (suc n) p v i w q h b z l e =
         ∙ ap (λ (x : List ℕ). x ++ drop (p + 1) s) (sym t)
         ∙ ih d e
 
-abbrev valueIn : Found → ℕ
+abbrev valueIn : Numeral → ℕ
 valueIn (Number v p) = v
 valueIn Fault = 0
 
-abbrev placeIn : Found → ℕ
+abbrev placeIn : Numeral → ℕ
 placeIn (Number v p) = p
 placeIn Fault = 0
 
-abbrev isNumber : Found → Bool
+abbrev isNumber : Numeral → Bool
 isNumber (Number v p) = true
 isNumber Fault = false
 
@@ -167,7 +167,7 @@ whole-read s at (suc m) v p h l e = by (skip s at (48 ∷ [])) refl e
 
 -- ## Lines
 
-pub ended-read : {A : Type 0} (s : List ℕ) (x : Found) (v q : ℕ) → ended s x ≡ Number v q → ((p : ℕ) → x ≡ Number v p → drop p s ≡ 10 ∷ drop q s → A) → A
+pub ended-read : {A : Type 0} (s : List ℕ) (x : Numeral) (v q : ℕ) → ended s x ≡ Number v q → ((p : ℕ) → x ≡ Number v p → drop p s ≡ 10 ∷ drop q s → A) → A
 unfolding ended
 ended-read {A = A} s Fault v q e c = fault e
 ended-read {A = A} s (Number w p) v q e c = by (skip s p ending) refl e
@@ -180,7 +180,7 @@ ended-read {A = A} s (Number w p) v q e c = by (skip s p ending) refl e
     by Absent f e = fault e
 
 -- a key, and what follows it
-keyed : {A : Type 0} (s : List ℕ) (at : ℕ) (key : List ℕ) (f : ℕ → Found) (v q : ℕ) → after (skip s at key) f ≡ Number v q → ((p : ℕ) → drop at s ≡ key ++ drop p s → f p ≡ Number v q → A) → A
+keyed : {A : Type 0} (s : List ℕ) (at : ℕ) (key : List ℕ) (f : ℕ → Numeral) (v q : ℕ) → after (skip s at key) f ≡ Number v q → ((p : ℕ) → drop at s ≡ key ++ drop p s → f p ≡ Number v q → A) → A
 keyed {A = A} s at key f v q e c = by (skip s at key) refl e
   where
     by : (x : Word) → skip s at key ≡ x → after x f ≡ Number v q → A
@@ -215,7 +215,7 @@ signed-read s at k t e = by (skip s at (45 ∷ [])) refl e
         let l : k < 2 ^ 63 = omega (arith, ltb-true v (2 ^ 63) q) in
         (whole-read s at 19 k t (lit< tt) (lit≤ tt) (f ∙ rw (a, b)) ∙ rw (toZ-pos w64 l), omega arith)
 
-    positive-by : (x : Found) → whole s at 19 ≡ x → positive x ≡ Number k t → (drop at s ≡ valueText (toZ w64 k) ++ drop t s) × (k < 2 ^ 64)
+    positive-by : (x : Numeral) → whole s at 19 ≡ x → positive x ≡ Number k t → (drop at s ≡ valueText (toZ w64 k) ++ drop t s) × (k < 2 ^ 64)
     positive-by (Number v p) f e = up v p (ltb v (2 ^ 63)) refl f e
     positive-by Fault f e = fault e
 
@@ -231,7 +231,7 @@ signed-read s at k t e = by (skip s at (45 ∷ [])) refl e
         let z : toZ w64 k ≡ negsuc (v - 1) = ap (toZ w64) (sym a ∙ ap (λ (x : ℕ). 2 ^ 64 - x) (sym m)) ∙ toZ-neg w64 (v - 1) (omega arith) in
         (d ∙ ap (λ (x : List ℕ). 45 ∷ x) (whole-read s o 19 v t (lit< tt) (lit≤ tt) (f ∙ rw b)) ∙ rw (z, m), omega arith)
 
-    negative-by : (o : ℕ) → drop at s ≡ 45 ∷ drop o s → (x : Found) → whole s o 19 ≡ x → negative x ≡ Number k t → (drop at s ≡ valueText (toZ w64 k) ++ drop t s) × (k < 2 ^ 64)
+    negative-by : (o : ℕ) → drop at s ≡ 45 ∷ drop o s → (x : Numeral) → whole s o 19 ≡ x → negative x ≡ Number k t → (drop at s ≡ valueText (toZ w64 k) ++ drop t s) × (k < 2 ^ 64)
     negative-by o d (Number v p) f e = down o v p d f (eqb v 0) (leb v (2 ^ 63)) refl refl e
     negative-by o d Fault f e = fault e
 
@@ -265,7 +265,7 @@ out-read s at v q e = by (field s at outKey 1) refl e
         let l : v ≤ 1 = omega (arith, leb-true w 1 r) in
         (field-read s at outKey 1 v q (lit< tt) (lit≤ tt) (f ∙ rw (a, b)) ∙ ap (λ (x : List ℕ). line outKey x ++ drop q s) (text-of v l), l)
 
-    by : (x : Found) → field s at outKey 1 ≡ x → bit x ≡ Number v q → (drop at s ≡ line outKey (bitText (eqb v 1)) ++ drop q s) × (v ≤ 1)
+    by : (x : Numeral) → field s at outKey 1 ≡ x → bit x ≡ Number v q → (drop at s ≡ line outKey (bitText (eqb v 1)) ++ drop q s) × (v ≤ 1)
     by (Number w p) f e = within w p (leb w 1) refl f e
     by Fault f e = fault e
 

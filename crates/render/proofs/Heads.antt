@@ -11,8 +11,8 @@ use Rattle.operators.specs.Limits.{countFits}
 use Rattle.operators.proofs.Tests.{left, right}
 use Rattle.lines.specs.declared.Word.{Word}
 use Rattle.lines.specs.declared.Word.the-variants.{Past, Absent}
-use Rattle.lines.specs.declared.Found.{Found}
-use Rattle.lines.specs.declared.Found.the-variants.{Number, Fault}
+use Rattle.lines.specs.declared.Numeral.{Numeral}
+use Rattle.lines.specs.declared.Numeral.the-variants.{Number, Fault}
 use Rattle.text.specs.declared.Head.{Head}
 use Rattle.text.specs.declared.Head.the-variants as Head
 use Rattle.lines.specs.Form.{skip, field}
@@ -61,7 +61,7 @@ head-case {A = A} cap s n at e c = by-word (skip s 0 planLine) refl e
         let l : t ≡ at = ap placeIn e in
         c p f (g ∙ rw (k, l)) (omega (arith, leb-true 1 m (left (leb 1 m) (leb m cap) q))) (omega (arith, leb-true m cap (right (leb 1 m) (leb m cap) q)))
 
-    by-found : (p : ℕ) (x : Found) → skip s 0 planLine ≡ Past p → field s p streamsKey 3 ≡ x → counts cap x ≡ Head.Streams n at → A
+    by-found : (p : ℕ) (x : Numeral) → skip s 0 planLine ≡ Past p → field s p streamsKey 3 ≡ x → counts cap x ≡ Head.Streams n at → A
     by-found p (Number m t) f g e = by-count p m t (countFits cap m) refl f g e
     by-found p Fault f g e = refused e
 
@@ -90,7 +90,7 @@ head-refused cap s e = by-word (skip s 0 planLine) e
     by-count m t true e = refused (sym e)
     by-count m t false e = clash e
 
-    by-found : (x : Found) → counts cap x ≡ Head.Refused 0 → ⊥
+    by-found : (x : Numeral) → counts cap x ≡ Head.Refused 0 → ⊥
     by-found (Number m t) e = by-count m t (countFits cap m) e
     by-found Fault e = clash e
 

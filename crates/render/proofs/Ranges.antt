@@ -9,8 +9,8 @@ use lib.Dec.{lit<}
 use Rattle.operators.specs.Operators.{operatorCount}
 use Rattle.lines.specs.declared.Word.{Word}
 use Rattle.lines.specs.declared.Word.the-variants.{Past, Absent}
-use Rattle.lines.specs.declared.Found.{Found}
-use Rattle.lines.specs.declared.Found.the-variants.{Number, Fault}
+use Rattle.lines.specs.declared.Numeral.{Numeral}
+use Rattle.lines.specs.declared.Numeral.the-variants.{Number, Fault}
 use Rattle.text.specs.declared.Name.{Name}
 use Rattle.text.specs.declared.Name.the-variants as Name
 use Rattle.text.specs.declared.Fields.{Fields}
@@ -35,7 +35,7 @@ same-stream {f} {g} e = ap (fieldsOr f) e
 pub not-refused : {A : Type 0} {r : ℕ} {f : Fields} → Lines.Refused r ≡ Lines.Stream f → A
 not-refused e = absurd (true≢false (sym (ap isStream e)))
 
-pub next-case : {A : Type 0} (x : Found) (g : ℕ → ℕ → Lines) (f : Fields) → next x g ≡ Lines.Stream f → ((v p : ℕ) → x ≡ Number v p → g v p ≡ Lines.Stream f → A) → A
+pub next-case : {A : Type 0} (x : Numeral) (g : ℕ → ℕ → Lines) (f : Fields) → next x g ≡ Lines.Stream f → ((v p : ℕ) → x ≡ Number v p → g v p ≡ Lines.Stream f → A) → A
 next-case (Number v p) g f e k = k v p refl e
 next-case Fault g f e k = not-refused e
 
@@ -141,7 +141,7 @@ clash {r} e = let z : suc r ≡ 0 = ap refusalIn e in omega arith
 not-stream : {f : Fields} → Lines.Stream f ≡ Lines.Refused 0 → ⊥
 not-stream e = not-refused (sym e)
 
-next-refused : (x : Found) (g : ℕ → ℕ → Lines) → next x g ≡ Lines.Refused 0 → ((v p : ℕ) → g v p ≡ Lines.Refused 0 → ⊥) → ⊥
+next-refused : (x : Numeral) (g : ℕ → ℕ → Lines) → next x g ≡ Lines.Refused 0 → ((v p : ℕ) → g v p ≡ Lines.Refused 0 → ⊥) → ⊥
 next-refused (Number v p) g e c = c v p e
 next-refused Fault g e c = clash e
 

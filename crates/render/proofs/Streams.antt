@@ -13,8 +13,8 @@ use borrow.Author.Tests.{lt-ltb, le-leb, ne-eqb, leb-true, eqb-true}
 use Rattle.operators.specs.Operators.{operatorCount, nameOf}
 use Rattle.operators.proofs.Numbers.{agree}
 use Rattle.lines.specs.declared.Word.the-variants.{Past, Absent}
-use Rattle.lines.specs.declared.Found.{Found}
-use Rattle.lines.specs.declared.Found.the-variants.{Number}
+use Rattle.lines.specs.declared.Numeral.{Numeral}
+use Rattle.lines.specs.declared.Numeral.the-variants.{Number}
 use Rattle.text.specs.declared.Name.{Name}
 use Rattle.text.specs.declared.Name.the-variants as Name
 use Rattle.text.specs.declared.Lines.{Lines}
@@ -33,10 +33,10 @@ abbrev pub bitsOf : ℤ → ℕ
 bitsOf (pos n) = n
 bitsOf (negsuc n) = 2 ^ 64 - suc n
 
-positive-found : (s : List ℕ) (x : Found) (v : ℕ) (r : List ℕ) → v < 2 ^ 63 → Finds s x v r → Finds s (positive x) v r
+positive-found : (s : List ℕ) (x : Numeral) (v : ℕ) (r : List ℕ) → v < 2 ^ 63 → Finds s x v r → Finds s (positive x) v r
 positive-found s x v r h f = (f .0, rw (f .1, lt-ltb v (2 ^ 63) h), f .2, f .3)
 
-negative-found : (s : List ℕ) (x : Found) (v : ℕ) (r : List ℕ) → v < 2 ^ 63 → Finds s x (suc v) r → Finds s (negative x) (2 ^ 64 - suc v) r
+negative-found : (s : List ℕ) (x : Numeral) (v : ℕ) (r : List ℕ) → v < 2 ^ 63 → Finds s x (suc v) r → Finds s (negative x) (2 ^ 64 - suc v) r
 negative-found s x v r h f = (f .0, rw (f .1, ne-eqb (suc v) 0 (λ e. omega arith), le-leb (suc v) (2 ^ 63) h), f .2, f .3)
 
 no-minus : (s : List ℕ) (at v : ℕ) (r d : List ℕ) → d ≡ decimal v → v < 10 ^ 19 → drop at s ≡ d ++ r → skip s at (45 ∷ []) ≡ Absent

@@ -9,8 +9,8 @@ use lib.ListN.{length, getD, drop, length-append, length-drop}
 use lib.Seq.{getD-drop, drop-drop, drop-append-seam}
 use borrow.Author.Tests.{lt-ltb, eq-eqb, ne-eqb}
 use Rattle.lines.specs.declared.Word.the-variants.{Past, Absent}
-use Rattle.lines.specs.declared.Found.{Found}
-use Rattle.lines.specs.declared.Found.the-variants.{Number}
+use Rattle.lines.specs.declared.Numeral.{Numeral}
+use Rattle.lines.specs.declared.Numeral.the-variants.{Number}
 use Rattle.lines.specs.Form.{ending, skip, scanned, scan, whole, ended, field}
 use Rattle.lines.proofs.Turns.{scan-go, scan-low, scan-end}
 use Rattle.decimal.specs.Decimal.{digits, decimal}
@@ -84,7 +84,7 @@ stopped s p v zero e = sym (scan-end s p v 0 refl)
 stopped s p v (suc n) e = sym (scan-low s p v (suc n) (omega arith) 10 (sym e) (lit< tt))
 
 -- the number v with the rest r behind it, within the text
-abbrev pub Finds : List ℕ → Found → ℕ → List ℕ → Type 0
+abbrev pub Finds : List ℕ → Numeral → ℕ → List ℕ → Type 0
 Finds s x v r = (p : ℕ) × (x ≡ Number v p) × (drop p s ≡ r) × (p ≤ length s)
 
 found-digits : (s : List ℕ) (at v max : ℕ) (r d : List ℕ) → d ≡ decimal v → 0 < v → v < 10 ^ 19 → length d ≤ max → drop at s ≡ d ++ (10 ∷ r) → Finds s (whole s at max) v (10 ∷ r)
@@ -118,7 +118,7 @@ whole-written s at (suc v) max r h m l e =
 
 -- ## Lines
 
-pub ended-written : (s : List ℕ) (x : Found) (v : ℕ) (r : List ℕ) → Finds s x v (10 ∷ r) → Finds s (ended s x) v r
+pub ended-written : (s : List ℕ) (x : Numeral) (v : ℕ) (r : List ℕ) → Finds s x v (10 ∷ r) → Finds s (ended s x) v r
 unfolding ended
 ended-written s x v r f =
     let p = f .0 in

@@ -20,7 +20,7 @@ use Rattle.layout.specs.Record.{Raw, num, opF, aF, bF, outF, kF, flagF, priorFl
 use Rattle.encoding.specs.View.{ofCell}
 use Rattle.encoding.specs.Back.{toCell, keptOf, optional}
 use Rattle.streams.specs.declared.Stream.{Stream}
-use Rattle.streams.specs.Look.{lookOf, cut, cutKept, Sound, Is}
+use Rattle.streams.specs.Look.{lookOf, cut, cutKept, Bounded, Is}
 
 -- ---- numbers that no operator has, and nil's own, stand for nil
 
@@ -126,7 +126,7 @@ unfolding lookOf
 look-cell c e h k = ap cut e ∙ cut-same c h k
 
 -- a record's stream is within its ranges
-pub is-sound : (s : Stream) (r : Raw) → Is s r → Sound s
+pub is-sound : (s : Stream) (r : Raw) → Is s r → Bounded s
 is-sound s r i =
     let b = i .bound in
     let q = look-bound r in

@@ -5,7 +5,7 @@ use mathlib.Core.Bool.{false}
 use mathlib.Core.List.{List, []}
 use Rattle.meaning.specs.Plan.{Eqn, input, nil, unit, one, two, last, delay}
 use Rattle.meaning.specs.Events.{Event, horizon}
-use Rattle.machine.specs.State.{Kept, Cell, noKept}
+use Rattle.machine.specs.State.{Cell, Kept, absent, fresh, withBound, withHeld, withKept, withSince}
 use Rattle.layout.specs.Record.{Raw, decRaw}
 use Rattle.encoding.specs.Back.{toCell, heldOf}
 use Rattle.queue.specs.Found.{asOption}
@@ -18,19 +18,11 @@ use Rattle.streams.specs.declared.Look.{Look}
 
 -- a set point at most y
 abbrev pub cutKept : ℕ → Kept → Kept
-cutKept y k = record { prev = k .prev; since = min (k .since) y; value = k .value; prior = k .prior }
+cutKept y k = withSince (min (k .since) y) k
 
 -- the bound cut to at most the horizon, and the set point to at most that bound
 abbrev pub cut : Cell → Cell
-cut c =
-    record {
-      eqn = c .eqn;
-      out = c .out;
-      bound = min (c .bound) horizon;
-      held = c .held;
-      next = c .next;
-      kept = cutKept (min (c .bound) horizon) (c .kept);
-    }
+cut c = withKept (cutKept (min (c .bound) horizon) (c .kept)) (withBound (min (c .bound) horizon) c)
 
 -- total: every record is one; where bound and set point are within their ranges it is the record's cell itself
 unfoldable pub lookOf : Raw → Cell
@@ -53,20 +45,20 @@ keptIn k = record { prev = asOption (k .prev); since = k .since; value = asOptio
 
 -- the equation's own cell, as far as a move looks at it: not its held events
 abbrev pub ownCell : Eqn → ℕ → Kept → Cell
-ownCell e y k = record { eqn = e; out = false; bound = y; held = []; next = 0; kept = k }
+ownCell e y k = withKept k (withBound y (fresh (record { eqn = e; out = false })))
 
 abbrev pub ownOf : Stream → Cell
 ownOf s = ownCell (equation (s .op)) (s .bound) (keptIn (s .kept))
 
 -- an argument's: its bound and its held events
 abbrev pub argCell : ℕ → List Event → Cell
-argCell y es = record { eqn = nil; out = false; bound = y; held = es; next = 0; kept = noKept }
+argCell y es = withHeld es (withBound y absent)
 
 abbrev pub argOf : ℕ → List ℕ → Cell
 argOf y s = argCell y (heldOf (decRaw s))
 
 -- what validity would say of the struct
-pub record Sound (s : Stream) : Type 0 where
+pub record Bounded (s : Stream) : Type 0 where
   pub top : s .bound ≤ horizon
   pub since : s .kept .since ≤ s .bound
 

@@ -14,7 +14,7 @@ ghost use Rattle.layout.specs.Record.{decRaw, num, kF};
 ghost use Rattle.encoding.specs.Back as cells;
 ghost use Rattle.queue.specs.Found.{asOption};
 ghost use Rattle.apply.specs.Named.{unary, calculation, binary};
-ghost use Rattle.streams.specs.Look.{lookOf, equation, keptIn, Sound, Is, Within};
+ghost use Rattle.streams.specs.Look.{lookOf, equation, keptIn, Bounded, Is, Within};
 use apply::Binary;
 use apply::Calc;
 use apply::Unary;
@@ -280,7 +280,7 @@ pub fn stream_at(r: &[u8]) -> Stream
 
 // A stream with the bounds of its arguments, in a and b.
 pub fn beside(s: Stream, a: &[u8], b: &[u8]) -> Look
-    requires { ⌜ Sound s × (length (now a) ≡ 256) × (length (now b) ≡ 256) ⌝ }
+    requires { ⌜ Bounded s × (length (now a) ≡ 256) × (length (now b) ≡ 256) ⌝ }
     ensures { λ l. ⌜ (l .stream ≡ s) × (l .abound ≡ lookOf (decRaw (now (a .entry))) .bound) × (l .bbound ≡ lookOf (decRaw (now (b .entry))) .bound) × Within l ⌝ }
 {
     let abound = bound_of(a);

@@ -8,8 +8,8 @@ use Rattle.operators.specs.Operators.{Operator, operators}
 use Rattle.operators.specs.Limits.{countFits}
 use Rattle.lines.specs.declared.Word.{Word}
 use Rattle.lines.specs.declared.Word.the-variants.{Past, Absent}
-use Rattle.lines.specs.declared.Found.{Found}
-use Rattle.lines.specs.declared.Found.the-variants.{Number, Fault}
+use Rattle.lines.specs.declared.Numeral.{Numeral}
+use Rattle.lines.specs.declared.Numeral.the-variants.{Number, Fault}
 use Rattle.lines.specs.Form.{ending, skip, field, valueLine, outLine}
 use Rattle.text.specs.declared.Name.{Name}
 use Rattle.text.specs.declared.Name.the-variants as Name
@@ -89,7 +89,7 @@ opLine s at = nameAfter s (skip s at opKey)
 -- ## A stream's five lines: op, a, b, k, out
 
 -- the next line, if this one has its form; "2 wrong key, form, missing line"
-abbrev pub next : Found → (ℕ → ℕ → Lines) → Lines
+abbrev pub next : Numeral → (ℕ → ℕ → Lines) → Lines
 next (Number v p) f = f v p
 next Fault f = Lines.Refused 2
 
@@ -112,7 +112,7 @@ stream s at = streamAfter s (opLine s at)
 -- ## The first two lines: `plan=1`, `streams=N`
 
 -- "3 streams 0 or above 32", 32 being the capacity
-abbrev pub counts : ℕ → Found → Head
+abbrev pub counts : ℕ → Numeral → Head
 counts cap (Number n p) = cond (countFits cap n) (Head.Streams n p) (Head.Refused 3)
 counts cap Fault = Head.Refused 2
 

@@ -2,8 +2,8 @@
 ghost use mathlib.Core.Path.{_≡_};
 ghost use Rattle.text.specs.Grammar.{opLine, fieldsAfter, stream, counts, head};
 ghost use Rattle.text.specs.Lookup.{packedAt, numberPacked};
-ghost use Rattle.lines.specs.declared.Found.the-variants.{Number};
-use lines::Found;
+ghost use Rattle.lines.specs.declared.Numeral.the-variants.{Number};
+use lines::Numeral;
 use lines::Word;
 use operators::Plan;
 
@@ -55,7 +55,7 @@ fn letters(text: &[u8], at: usize) -> Packed
         if text.len() <= p {
             return Packed { code, next: p };
         }
-        let c = lines::wide(text[p]);
+        let c = le::wide(text[p]);
         if c < 97 {
             return Packed { code, next: p };
         }
@@ -124,16 +124,16 @@ fn op_line(text: &[u8], at: usize) -> Name
 fn field_lines(text: &[u8], op: u8, at: usize) -> Lines
     ensures { λ r. ⌜ r ≡ fieldsAfter (now (text .entry)) op at ⌝ }
 {
-    let Found::Number(a, p) = lines::field(text, at, b"a=", 3) else {
+    let Numeral::Number(a, p) = lines::field(text, at, b"a=", 3) else {
         return Lines::Refused(2);
     };
-    let Found::Number(b, q) = lines::field(text, p, b"b=", 3) else {
+    let Numeral::Number(b, q) = lines::field(text, p, b"b=", 3) else {
         return Lines::Refused(2);
     };
-    let Found::Number(k, t) = lines::value_line(text, q) else {
+    let Numeral::Number(k, t) = lines::value_line(text, q) else {
         return Lines::Refused(2);
     };
-    let Found::Number(out, next) = lines::out_line(text, t) else {
+    let Numeral::Number(out, next) = lines::out_line(text, t) else {
         return Lines::Refused(2);
     };
     Lines::Stream(Fields {
@@ -176,7 +176,7 @@ pub fn read_head(text: &[u8], most: usize) -> Head
         return Head::Refused(2);
     };
     match lines::field(text, p, b"streams=", 3) {
-        Found::Number(n, q) => count(n, most, q),
-        Found::Fault => Head::Refused(2),
+        Numeral::Number(n, q) => count(n, most, q),
+        Numeral::Fault => Head::Refused(2),
     }
 }

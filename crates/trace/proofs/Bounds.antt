@@ -10,7 +10,7 @@ use lib.ListN.{getD}
 use borrow.Author.Tests.{leb-true}
 use Rattle.lines.specs.declared.Word.{Word}
 use Rattle.lines.specs.declared.Word.the-variants.{Past, Absent}
-use Rattle.lines.specs.declared.Found.the-variants.{Number, Fault}
+use Rattle.lines.specs.declared.Numeral.the-variants.{Number, Fault}
 use Rattle.lines.specs.declared.Scanned.{Scanned}
 use Rattle.lines.specs.Form.{stands, skip, digit, scanned, scan, counted, orZero, whole}
 use Rattle.lines.proofs.Turns.{grows}

@@ -12,8 +12,8 @@ use mir.Val.{toZ}
 use Rattle.meaning.specs.Events.{horizon}
 use Rattle.lines.specs.declared.Word.{Word}
 use Rattle.lines.specs.declared.Word.the-variants.{Past, Absent}
-use Rattle.lines.specs.declared.Found.{Found}
-use Rattle.lines.specs.declared.Found.the-variants.{Number, Fault}
+use Rattle.lines.specs.declared.Numeral.{Numeral}
+use Rattle.lines.specs.declared.Numeral.the-variants.{Number, Fault}
 use Rattle.lines.specs.Form.{ending, stands, skip, whole, positive, negative, signedAfter, signed}
 use Rattle.operators.proofs.Tests.{left}
 use Rattle.trace.specs.declared.Record.{Record}
@@ -35,7 +35,7 @@ word-case : {A : Type 0} (x : Word) (f : ℕ → Line) (r : Record) (e : ℕ) �
 word-case (Past p) f r e q k = k p refl q
 word-case Absent f r e q k = bad q
 
-number-case : {A : Type 0} (x : Found) (f : ℕ → ℕ → Line) (r : Record) (e : ℕ) → number x f ≡ Read r e → ((v p : ℕ) → x ≡ Number v p → f v p ≡ Read r e → A) → A
+number-case : {A : Type 0} (x : Numeral) (f : ℕ → ℕ → Line) (r : Record) (e : ℕ) → number x f ≡ Read r e → ((v p : ℕ) → x ≡ Number v p → f v p ≡ Read r e → A) → A
 number-case (Number v p) f r e q k = k v p refl q
 number-case Fault f r e q k = bad q
 
@@ -53,7 +53,7 @@ ending-inside s at p e = by (stands s at 10) refl e
         (sym z, omega arith)
     by false q h = let z : _≡_ {A = ℕ} 0 1 = cc in absurd (omega arith)
 
-plain-from : {A : Type 0} (x : Found) (v p : ℕ) → positive x ≡ Number v p → ((w : ℕ) → x ≡ Number w p → A) → A
+plain-from : {A : Type 0} (x : Numeral) (v p : ℕ) → positive x ≡ Number v p → ((w : ℕ) → x ≡ Number w p → A) → A
 plain-from {A = A} (Number w q) v p e k = by (ltb w (2 ^ 63)) e
   where
     by : (b : Bool) → cond b (Number w q) Fault ≡ Number v p → A
@@ -61,7 +61,7 @@ plain-from {A = A} (Number w q) v p e k = by (ltb w (2 ^ 63)) e
     by false h = fault h
 plain-from Fault v p e k = fault e
 
-minus-from : {A : Type 0} (x : Found) (v p : ℕ) → negative x ≡ Number v p → ((w : ℕ) → x ≡ Number w p → A) → A
+minus-from : {A : Type 0} (x : Numeral) (v p : ℕ) → negative x ≡ Number v p → ((w : ℕ) → x ≡ Number w p → A) → A
 minus-from {A = A} (Number w q) v p e k = by (eqb w 0) e
   where
     in-range : (b : Bool) → cond b (Number (2 ^ 64 - w) q) Fault ≡ Number v p → A

@@ -8,8 +8,8 @@ use mir.Val.{toZ}
 use Rattle.meaning.specs.Events.{horizon}
 use Rattle.lines.specs.declared.Word.{Word}
 use Rattle.lines.specs.declared.Word.the-variants.{Past, Absent}
-use Rattle.lines.specs.declared.Found.{Found}
-use Rattle.lines.specs.declared.Found.the-variants.{Number, Fault}
+use Rattle.lines.specs.declared.Numeral.{Numeral}
+use Rattle.lines.specs.declared.Numeral.the-variants.{Number, Fault}
 use Rattle.lines.specs.Form.{ending, skip, whole, signed}
 use Rattle.trace.specs.declared.Record.the-variants.{Reading, Progress}
 use Rattle.trace.specs.declared.Line.{Line}
@@ -39,7 +39,7 @@ abbrev pub word : Word → (ℕ → Line) → Line
 word (Past p) f = f p
 word Absent f = Bad
 
-abbrev pub number : Found → (ℕ → ℕ → Line) → Line
+abbrev pub number : Numeral → (ℕ → ℕ → Line) → Line
 number (Number n p) f = f n p
 number Fault f = Bad
 

@@ -3,7 +3,7 @@ ghost use mathlib.Core.Path.{_≡_};
 ghost use Prim.Native.Nat.{_<_};
 ghost use Rattle.trace.specs.Trace.{valueAfter, stampAfter, boundAfter, inputAfter, line};
 use limits::Bound;
-use lines::Found;
+use lines::Numeral;
 use lines::Word;
 
 // What a line offers to an input.
@@ -25,7 +25,7 @@ fn value_after(text: &[u8], stream: u32, stamp: u32, at: usize) -> Line
     let Word::Past(p) = lines::skip(text, at, b" v=") else {
         return Line::Bad;
     };
-    let Found::Number(v, q) = lines::signed(text, p) else {
+    let Numeral::Number(v, q) = lines::signed(text, p) else {
         return Line::Bad;
     };
     let Word::Past(next) = lines::skip(text, q, b"\n") else {
@@ -46,7 +46,7 @@ fn value_after(text: &[u8], stream: u32, stamp: u32, at: usize) -> Line
 fn stamp_after(text: &[u8], stream: u32, at: usize) -> Line
     ensures { λ r. ⌜ r ≡ stampAfter (now (text .entry)) stream at ⌝ }
 {
-    let Found::Number(t, p) = lines::whole(text, at, 10) else {
+    let Numeral::Number(t, p) = lines::whole(text, at, 10) else {
         return Line::Bad;
     };
     if t < Bound::HORIZON {
@@ -59,7 +59,7 @@ fn stamp_after(text: &[u8], stream: u32, at: usize) -> Line
 fn bound_after(text: &[u8], stream: u32, at: usize) -> Line
     ensures { λ r. ⌜ r ≡ boundAfter (now (text .entry)) stream at ⌝ }
 {
-    let Found::Number(bound, p) = lines::whole(text, at, 10) else {
+    let Numeral::Number(bound, p) = lines::whole(text, at, 10) else {
         return Line::Bad;
     };
     let Word::Past(next) = lines::skip(text, p, b"\n") else {
@@ -88,7 +88,7 @@ pub fn read(text: &[u8], at: usize) -> Line
     let Word::Past(p) = lines::skip(text, at, b"s=") else {
         return Line::Bad;
     };
-    let Found::Number(s, q) = lines::whole(text, p, 3) else {
+    let Numeral::Number(s, q) = lines::whole(text, p, 3) else {
         return Line::Bad;
     };
     input_after(text, s as u32, q)

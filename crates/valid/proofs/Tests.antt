@@ -8,8 +8,8 @@ use native.Mathlib.Nat.{add-zero}
 use lib.Dec.{eqb, leb}
 use lib.ListN.{length, getD, take, drop}
 use lib.Seq.{drop-cons, drop-drop, getD-drop}
-use borrow.Author.Tests.{eq-eqb, ne-eqb, le-leb, lt-leb, not-true, not-false, leb-true}
-use borrow.Rule.Slice.PartMut.{midOf}
+use borrow.Author.Tests.{eq-eqb, ne-eqb, not-true, not-false, leb-true}
+use Rattle.le.specs.Bytes.{part}
 use Rattle.layout.specs.Record.{Slot, Raw, noSlot, num, countF, boundF, outF, nextF, smallF, lastF}
 use Rattle.machine.specs.State.{room}
 use Rattle.meaning.specs.Events.{horizon}
@@ -32,12 +32,6 @@ stop-eq m n x h = rw (ne-eqb m n h)
 
 pub pass-eq : (m n : ℕ) (x y : Bool) → m ≡ n → y ≡ x → y ≡ (eqb m n && x)
 pass-eq m n x y h q = rw (eq-eqb m n h) q
-
-pub stop-le : (m n : ℕ) (x : Bool) → n < m → false ≡ (leb m n && x)
-stop-le m n x h = rw (lt-leb m n h)
-
-pub pass-le : (m n : ℕ) (x y : Bool) → m ≤ n → y ≡ x → y ≡ (leb m n && x)
-pass-le m n x y h q = rw (le-leb m n h) q
 
 -- what both sides of a conjunction say
 pub left : (p x : Bool) → (p && x) ≡ true → p ≡ true
@@ -81,14 +75,13 @@ unfolding allRows
 rows-none f zero s e = refl
 rows-none f (suc m) s e = absurd (omega arith)
 
-pub rows-turn : (f : List ℕ → Bool) (n i k : ℕ) (s : List ℕ) → i < n → k ≡ 256
-    → allRows f (n - i) (drop (i * 256) s) ≡ (f (midOf (i * 256) k s) && allRows f (n - (i + 1)) (drop ((i + 1) * 256) s))
-rows-turn f n i k s h q =
+pub rows-turn : (f : List ℕ → Bool) (n i : ℕ) (s : List ℕ) → i < n
+    → allRows f (n - i) (drop (i * 256) s) ≡ (f (part s (i * 256) 256) && allRows f (n - (i + 1)) (drop ((i + 1) * 256) s))
+rows-turn f n i s h =
     let e : n - i ≡ suc (n - (i + 1)) = omega arith in
     let m : i * 256 + 256 ≡ (i + 1) * 256 = omega arith in
     ap (λ (j : ℕ). allRows f j (drop (i * 256) s)) e ∙ rows-more f (n - (i + 1)) (drop (i * 256) s)
     ∙ ap (λ (l : List ℕ). f (take 256 (drop (i * 256) s)) && allRows f (n - (i + 1)) l) (drop-drop 256 (i * 256) s ∙ ap (λ (j : ℕ). drop j s) m)
-    ∙ ap (λ (j : ℕ). f (midOf (i * 256) j s) && allRows f (n - (i + 1)) (drop ((i + 1) * 256) s)) (sym q)
 
 pub sizes-count : (r : Raw) → sizesOk r ≡ true → num countF r ≤ room
 unfolding sizesOk

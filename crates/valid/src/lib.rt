@@ -41,11 +41,11 @@ fn sizes_ok(r: &[u8]) -> bool
     ensures { λ x. ⌜ x ≡ sizesOk (decRaw (now (r .entry))) ⌝ }
 {
     let count = layout::byte_at(r, layout::COUNT);
-    if Queue::ROOM < count {
+    if !Queue::new(count).fits() {
         return false;
     }
     let bound = layout::word_at(r, layout::BOUND);
-    if Bound::HORIZON < bound {
+    if !Bound::new(bound).fits() {
         return false;
     }
     if !next_ok(
@@ -205,9 +205,7 @@ fn rows_ok(state: &[u8], n: usize) -> bool
 {
     let mut i = 0;
     while i < n {
-        let at = i * layout::RECORD;
-        let end = at + layout::RECORD;
-        if !row_ok(&state[at..end], n as u64) {
+        if !row_ok(layout::row_at(state, i), n as u64) {
             return false;
         }
         i += 1;

@@ -12,7 +12,7 @@ use borrow.Fn.PlainCycle.{Measures, is, falls, and}
 use Rattle.cycle.proofs.follow.Reads as follow
 use Rattle.cycle.proofs.follow.Kinds as follow-kinds
 use Rattle.cycle.proofs.+follow.Lts-follow as follow-lts
-use Rattle.cycle.proofs.wide.Reads as wide-reads
+use Rattle.cycle.proofs.index_of.Reads as index-of-reads
 use Rattle.cycle.proofs.found.Reads as found-reads
 use Rattle.cycle.proofs.+follow.{statement}
 use Rattle.cycle.proofs.+follow.Tie.{close}
@@ -26,29 +26,29 @@ follow-at t = and 1 follow-kinds.ps (is 1 follow-kinds.ps μ-follow t) follow.Pr
 abbrev follow-below : ℕ → In 1 follow-kinds.ps
 follow-below t = and 1 follow-kinds.ps (falls 1 follow-kinds.ps _<_ μ-follow t) follow.Pre
 
-follow-wide-requires : (t : ℕ) → follow-lts.Need-wide-requires (
-  wide-reads.Asked,
-  wide-reads.Learnt,
+follow-index-of-requires : (t : ℕ) → follow-lts.Need-index-of-requires (
+  index-of-reads.Asked,
+  index-of-reads.Learnt,
   follow-below t,
   follow.Post,
   found-reads.Asked,
   found-reads.Learnt,
 ) (follow-at t) follow.Post
-follow-wide-requires t c κs = tt
+follow-index-of-requires t c κs = tt
 
 follow-returns : (t : ℕ) → follow-lts.Need-returns (
-  wide-reads.Asked,
-  wide-reads.Learnt,
+  index-of-reads.Asked,
+  index-of-reads.Learnt,
   follow-below t,
   follow.Post,
   found-reads.Asked,
   found-reads.Learnt,
 ) (follow-at t) follow.Post
-follow-returns t c = absent (c .before .before .args .depth) (c .before .wide .result) (now (c .before .before .args .graph)) (c .if1 .taken) ∙ ap (λ (n : ℕ). followed (c .before .before .args .depth) n (now (c .before .before .args .graph))) (c .before .wide .ensures .0)
+follow-returns t c = absent (c .before .before .args .depth) (c .before .index-of .result) (now (c .before .before .args .graph)) (c .if1 .taken) ∙ ap (λ (n : ℕ). followed (c .before .before .args .depth) n (now (c .before .before .args .graph))) (c .before .index-of .ensures .0)
 
 follow-mul-at : (t : ℕ) → follow-lts.Need-mul-at (
-  wide-reads.Asked,
-  wide-reads.Learnt,
+  index-of-reads.Asked,
+  index-of-reads.Learnt,
   follow-below t,
   follow.Post,
   found-reads.Asked,
@@ -57,8 +57,8 @@ follow-mul-at : (t : ℕ) → follow-lts.Need-mul-at (
 follow-mul-at t c = omega arith
 
 follow-element-copy-out-how : (t : ℕ) → follow-lts.Need-element-copy-out-how (
-  wide-reads.Asked,
-  wide-reads.Learnt,
+  index-of-reads.Asked,
+  index-of-reads.Learnt,
   follow-below t,
   follow.Post,
   found-reads.Asked,
@@ -67,28 +67,28 @@ follow-element-copy-out-how : (t : ℕ) → follow-lts.Need-element-copy-out-how
 follow-element-copy-out-how t c = omega arith
 
 follow-returns-2 : (t : ℕ) → follow-lts.Need-returns-2 (
-  wide-reads.Asked,
-  wide-reads.Learnt,
+  index-of-reads.Asked,
+  index-of-reads.Learnt,
   follow-below t,
   follow.Post,
   found-reads.Asked,
   found-reads.Learnt,
 ) (follow-at t) follow.Post
-follow-returns-2 t c = seen (c .before .before .before .before .args .depth) (c .before .before .before .wide .result) (now (c .before .before .before .before .args .graph)) (omega arith) (c .if2 .taken) ∙ ap (λ (n : ℕ). followed (c .before .before .before .before .args .depth) n (now (c .before .before .before .before .args .graph))) (c .before .before .before .wide .ensures .0)
+follow-returns-2 t c = seen (c .before .before .before .before .args .depth) (c .before .before .before .index-of .result) (now (c .before .before .before .before .args .graph)) (omega arith) (c .if2 .taken) ∙ ap (λ (n : ℕ). followed (c .before .before .before .before .args .depth) n (now (c .before .before .before .before .args .graph))) (c .before .before .before .index-of .ensures .0)
 
 follow-returns-3 : (t : ℕ) → follow-lts.Need-returns-3 (
-  wide-reads.Asked,
-  wide-reads.Learnt,
+  index-of-reads.Asked,
+  index-of-reads.Learnt,
   follow-below t,
   follow.Post,
   found-reads.Asked,
   found-reads.Learnt,
 ) (follow-at t) follow.Post
-follow-returns-3 t c = stop (c .before .before .before .before .before .args .depth) (c .before .before .before .before .wide .result) (now (c .before .before .before .before .before .args .graph)) (omega arith) (c .before .if2 .left) (c .if3 .taken) ∙ ap (λ (n : ℕ). followed (c .before .before .before .before .before .args .depth) n (now (c .before .before .before .before .before .args .graph))) (c .before .before .before .before .wide .ensures .0)
+follow-returns-3 t c = stop (c .before .before .before .before .before .args .depth) (c .before .before .before .before .index-of .result) (now (c .before .before .before .before .before .args .graph)) (omega arith) (c .before .if2 .left) (c .if3 .taken) ∙ ap (λ (n : ℕ). followed (c .before .before .before .before .before .args .depth) n (now (c .before .before .before .before .before .args .graph))) (c .before .before .before .before .index-of .ensures .0)
 
 follow-element-write-graph : (t : ℕ) → follow-lts.Need-element-write-graph (
-  wide-reads.Asked,
-  wide-reads.Learnt,
+  index-of-reads.Asked,
+  index-of-reads.Learnt,
   follow-below t,
   follow.Post,
   found-reads.Asked,
@@ -97,18 +97,18 @@ follow-element-write-graph : (t : ℕ) → follow-lts.Need-element-write-graph (
 follow-element-write-graph t c = omega arith
 
 follow-returns-4 : (t : ℕ) → follow-lts.Need-returns-4 (
-  wide-reads.Asked,
-  wide-reads.Learnt,
+  index-of-reads.Asked,
+  index-of-reads.Learnt,
   follow-below t,
   follow.Post,
   found-reads.Asked,
   found-reads.Learnt,
 ) (follow-at t) follow.Post
-follow-returns-4 t c = bare (c .before .before .before .before .before .before .args .depth) (c .before .before .before .before .before .wide .result) (now (c .before .before .before .before .before .before .args .graph)) (omega arith) (c .before .before .if2 .left) (c .before .if3 .left) (c .if4 .taken) ∙ ap (λ (n : ℕ). followed (c .before .before .before .before .before .before .args .depth) n (now (c .before .before .before .before .before .before .args .graph))) (c .before .before .before .before .before .wide .ensures .0)
+follow-returns-4 t c = bare (c .before .before .before .before .before .before .args .depth) (c .before .before .before .before .before .index-of .result) (now (c .before .before .before .before .before .before .args .graph)) (omega arith) (c .before .before .if2 .left) (c .before .if3 .left) (c .if4 .taken) ∙ ap (λ (n : ℕ). followed (c .before .before .before .before .before .before .args .depth) n (now (c .before .before .before .before .before .before .args .graph))) (c .before .before .before .before .before .index-of .ensures .0)
 
 follow-add-a : (t : ℕ) → follow-lts.Need-add-a (
-  wide-reads.Asked,
-  wide-reads.Learnt,
+  index-of-reads.Asked,
+  index-of-reads.Learnt,
   follow-below t,
   follow.Post,
   found-reads.Asked,
@@ -117,8 +117,8 @@ follow-add-a : (t : ℕ) → follow-lts.Need-add-a (
 follow-add-a t c = omega arith
 
 follow-element-copy-out-a : (t : ℕ) → follow-lts.Need-element-copy-out-a (
-  wide-reads.Asked,
-  wide-reads.Learnt,
+  index-of-reads.Asked,
+  index-of-reads.Learnt,
   follow-below t,
   follow.Post,
   found-reads.Asked,
@@ -127,8 +127,8 @@ follow-element-copy-out-a : (t : ℕ) → follow-lts.Need-element-copy-out-a (
 follow-element-copy-out-a t c = omega arith
 
 follow-sub-follow : (t : ℕ) → follow-lts.Need-sub-follow (
-  wide-reads.Asked,
-  wide-reads.Learnt,
+  index-of-reads.Asked,
+  index-of-reads.Learnt,
   follow-below t,
   follow.Post,
   found-reads.Asked,
@@ -137,8 +137,8 @@ follow-sub-follow : (t : ℕ) → follow-lts.Need-sub-follow (
 follow-sub-follow t c = omega arith
 
 follow-follow-requires : (t : ℕ) → follow-lts.Need-follow-requires (
-  wide-reads.Asked,
-  wide-reads.Learnt,
+  index-of-reads.Asked,
+  index-of-reads.Learnt,
   follow-below t,
   follow.Post,
   found-reads.Asked,
@@ -147,18 +147,18 @@ follow-follow-requires : (t : ℕ) → follow-lts.Need-follow-requires (
 follow-follow-requires t c κs = omega arith
 
 follow-returns-5 : (t : ℕ) → follow-lts.Need-returns-5 (
-  wide-reads.Asked,
-  wide-reads.Learnt,
+  index-of-reads.Asked,
+  index-of-reads.Learnt,
   follow-below t,
   follow.Post,
   found-reads.Asked,
   found-reads.Learnt,
 ) (follow-at t) follow.Post
-follow-returns-5 t c = first (c .before .before .before .before .before .before .before .before .before .before .args .depth) (c .before .before .before .before .before .before .before .before .before .wide .result) (now (c .before .before .before .before .before .before .before .before .before .before .args .graph)) (omega arith) (c .before .before .before .before .before .before .if2 .left) (c .before .before .before .before .before .if3 .left) (c .before .before .before .before .if4 .left) (c .before .follow .result) (c .before .follow .last .0) (c .before .follow .ensures) (c .if5 .taken) ∙ ap (λ (n : ℕ). followed (c .before .before .before .before .before .before .before .before .before .before .args .depth) n (now (c .before .before .before .before .before .before .before .before .before .before .args .graph))) (c .before .before .before .before .before .before .before .before .before .wide .ensures .0)
+follow-returns-5 t c = first (c .before .before .before .before .before .before .before .before .before .before .args .depth) (c .before .before .before .before .before .before .before .before .before .index-of .result) (now (c .before .before .before .before .before .before .before .before .before .before .args .graph)) (omega arith) (c .before .before .before .before .before .before .if2 .left) (c .before .before .before .before .before .if3 .left) (c .before .before .before .before .if4 .left) (c .before .follow .result) (c .before .follow .last .0) (c .before .follow .ensures) (c .if5 .taken) ∙ ap (λ (n : ℕ). followed (c .before .before .before .before .before .before .before .before .before .before .args .depth) n (now (c .before .before .before .before .before .before .before .before .before .before .args .graph))) (c .before .before .before .before .before .before .before .before .before .index-of .ensures .0)
 
 follow-add-b : (t : ℕ) → follow-lts.Need-add-b (
-  wide-reads.Asked,
-  wide-reads.Learnt,
+  index-of-reads.Asked,
+  index-of-reads.Learnt,
   follow-below t,
   follow.Post,
   found-reads.Asked,
@@ -167,8 +167,8 @@ follow-add-b : (t : ℕ) → follow-lts.Need-add-b (
 follow-add-b t c = omega arith
 
 follow-element-copy-out-b : (t : ℕ) → follow-lts.Need-element-copy-out-b (
-  wide-reads.Asked,
-  wide-reads.Learnt,
+  index-of-reads.Asked,
+  index-of-reads.Learnt,
   follow-below t,
   follow.Post,
   found-reads.Asked,
@@ -177,8 +177,8 @@ follow-element-copy-out-b : (t : ℕ) → follow-lts.Need-element-copy-out-b (
 follow-element-copy-out-b t c = omega arith
 
 follow-found-requires : (t : ℕ) → follow-lts.Need-found-requires (
-  wide-reads.Asked,
-  wide-reads.Learnt,
+  index-of-reads.Asked,
+  index-of-reads.Learnt,
   follow-below t,
   follow.Post,
   found-reads.Asked,
@@ -187,8 +187,8 @@ follow-found-requires : (t : ℕ) → follow-lts.Need-found-requires (
 follow-found-requires t c κs = tt
 
 follow-element-write-graph-2 : (t : ℕ) → follow-lts.Need-element-write-graph-2 (
-  wide-reads.Asked,
-  wide-reads.Learnt,
+  index-of-reads.Asked,
+  index-of-reads.Learnt,
   follow-below t,
   follow.Post,
   found-reads.Asked,
@@ -197,18 +197,18 @@ follow-element-write-graph-2 : (t : ℕ) → follow-lts.Need-element-write-graph
 follow-element-write-graph-2 t c = omega arith
 
 follow-returns-6 : (t : ℕ) → follow-lts.Need-returns-6 (
-  wide-reads.Asked,
-  wide-reads.Learnt,
+  index-of-reads.Asked,
+  index-of-reads.Learnt,
   follow-below t,
   follow.Post,
   found-reads.Asked,
   found-reads.Learnt,
 ) (follow-at t) follow.Post
-follow-returns-6 t c = last (c .before .before .before .before .before .before .before .before .before .before .before .before .before .before .args .depth) (c .before .before .before .before .before .before .before .before .before .before .before .before .before .wide .result) (now (c .before .before .before .before .before .before .before .before .before .before .before .before .before .before .args .graph)) (omega arith) (c .before .before .before .before .before .before .before .before .before .before .if2 .left) (c .before .before .before .before .before .before .before .before .before .if3 .left) (c .before .before .before .before .before .before .before .before .if4 .left) (c .before .before .before .before .before .follow .result) (c .before .before .before .before .before .follow .last .0) (c .before .before .before .before .before .follow .ensures) (c .before .before .before .before .if5 .left) true (c .before .before .before .before .before .follow .last .0) (found-clear (c .before .before .before .before .before .before .before .before .before .before .before .before .before .before .args .depth - 1) (getD (c .before .before .before .before .before .follow .last .0) (3 * c .before .before .before .before .before .before .before .before .before .before .before .before .before .wide .result + 2) 0) (c .before .before .before .before .before .follow .last .0) (sym (c .before .found .ensures) ∙ c .if6 .taken)) refl ∙ ap (λ (n : ℕ). followed (c .before .before .before .before .before .before .before .before .before .before .before .before .before .before .args .depth) n (now (c .before .before .before .before .before .before .before .before .before .before .before .before .before .before .args .graph))) (c .before .before .before .before .before .before .before .before .before .before .before .before .before .wide .ensures .0)
+follow-returns-6 t c = last (c .before .before .before .before .before .before .before .before .before .before .before .before .before .before .args .depth) (c .before .before .before .before .before .before .before .before .before .before .before .before .before .index-of .result) (now (c .before .before .before .before .before .before .before .before .before .before .before .before .before .before .args .graph)) (omega arith) (c .before .before .before .before .before .before .before .before .before .before .if2 .left) (c .before .before .before .before .before .before .before .before .before .if3 .left) (c .before .before .before .before .before .before .before .before .if4 .left) (c .before .before .before .before .before .follow .result) (c .before .before .before .before .before .follow .last .0) (c .before .before .before .before .before .follow .ensures) (c .before .before .before .before .if5 .left) true (c .before .before .before .before .before .follow .last .0) (found-clear (c .before .before .before .before .before .before .before .before .before .before .before .before .before .before .args .depth - 1) (getD (c .before .before .before .before .before .follow .last .0) (3 * c .before .before .before .before .before .before .before .before .before .before .before .before .before .index-of .result + 2) 0) (c .before .before .before .before .before .follow .last .0) (sym (c .before .found .ensures) ∙ c .if6 .taken)) refl ∙ ap (λ (n : ℕ). followed (c .before .before .before .before .before .before .before .before .before .before .before .before .before .before .args .depth) n (now (c .before .before .before .before .before .before .before .before .before .before .before .before .before .before .args .graph))) (c .before .before .before .before .before .before .before .before .before .before .before .before .before .index-of .ensures .0)
 
 follow-sub-follow-2 : (t : ℕ) → follow-lts.Need-sub-follow-2 (
-  wide-reads.Asked,
-  wide-reads.Learnt,
+  index-of-reads.Asked,
+  index-of-reads.Learnt,
   follow-below t,
   follow.Post,
   found-reads.Asked,
@@ -217,8 +217,8 @@ follow-sub-follow-2 : (t : ℕ) → follow-lts.Need-sub-follow-2 (
 follow-sub-follow-2 t c = omega arith
 
 follow-follow-requires-2 : (t : ℕ) → follow-lts.Need-follow-requires-2 (
-  wide-reads.Asked,
-  wide-reads.Learnt,
+  index-of-reads.Asked,
+  index-of-reads.Learnt,
   follow-below t,
   follow.Post,
   found-reads.Asked,
@@ -227,18 +227,18 @@ follow-follow-requires-2 : (t : ℕ) → follow-lts.Need-follow-requires-2 (
 follow-follow-requires-2 t c κs = omega arith
 
 follow-returns-7 : (t : ℕ) → follow-lts.Need-returns-7 (
-  wide-reads.Asked,
-  wide-reads.Learnt,
+  index-of-reads.Asked,
+  index-of-reads.Learnt,
   follow-below t,
   follow.Post,
   found-reads.Asked,
   found-reads.Learnt,
 ) (follow-at t) follow.Post
-follow-returns-7 t c = second (c .before .before .before .before .before .before .before .before .before .before .before .before .before .before .before .before .before .args .depth) (c .before .before .before .before .before .before .before .before .before .before .before .before .before .before .before .before .wide .result) (now (c .before .before .before .before .before .before .before .before .before .before .before .before .before .before .before .before .before .args .graph)) (omega arith) (c .before .before .before .before .before .before .before .before .before .before .before .before .before .if2 .left) (c .before .before .before .before .before .before .before .before .before .before .before .before .if3 .left) (c .before .before .before .before .before .before .before .before .before .before .before .if4 .left) (c .before .before .before .before .before .before .before .before .follow .result) (c .before .before .before .before .before .before .before .before .follow .last .0) (c .before .before .before .before .before .before .before .before .follow .ensures) (c .before .before .before .before .before .before .before .if5 .left) (c .before .follow2 .result) (c .before .follow2 .last .0) (c .before .follow2 .ensures) (c .if7 .taken) ∙ ap (λ (n : ℕ). followed (c .before .before .before .before .before .before .before .before .before .before .before .before .before .before .before .before .before .args .depth) n (now (c .before .before .before .before .before .before .before .before .before .before .before .before .before .before .before .before .before .args .graph))) (c .before .before .before .before .before .before .before .before .before .before .before .before .before .before .before .before .wide .ensures .0)
+follow-returns-7 t c = second (c .before .before .before .before .before .before .before .before .before .before .before .before .before .before .before .before .before .args .depth) (c .before .before .before .before .before .before .before .before .before .before .before .before .before .before .before .before .index-of .result) (now (c .before .before .before .before .before .before .before .before .before .before .before .before .before .before .before .before .before .args .graph)) (omega arith) (c .before .before .before .before .before .before .before .before .before .before .before .before .before .if2 .left) (c .before .before .before .before .before .before .before .before .before .before .before .before .if3 .left) (c .before .before .before .before .before .before .before .before .before .before .before .if4 .left) (c .before .before .before .before .before .before .before .before .follow .result) (c .before .before .before .before .before .before .before .before .follow .last .0) (c .before .before .before .before .before .before .before .before .follow .ensures) (c .before .before .before .before .before .before .before .if5 .left) (c .before .follow2 .result) (c .before .follow2 .last .0) (c .before .follow2 .ensures) (c .if7 .taken) ∙ ap (λ (n : ℕ). followed (c .before .before .before .before .before .before .before .before .before .before .before .before .before .before .before .before .before .args .depth) n (now (c .before .before .before .before .before .before .before .before .before .before .before .before .before .before .before .before .before .args .graph))) (c .before .before .before .before .before .before .before .before .before .before .before .before .before .before .before .before .index-of .ensures .0)
 
 follow-element-write-graph-3 : (t : ℕ) → follow-lts.Need-element-write-graph-3 (
-  wide-reads.Asked,
-  wide-reads.Learnt,
+  index-of-reads.Asked,
+  index-of-reads.Learnt,
   follow-below t,
   follow.Post,
   found-reads.Asked,
@@ -247,19 +247,19 @@ follow-element-write-graph-3 : (t : ℕ) → follow-lts.Need-element-write-graph
 follow-element-write-graph-3 t c = omega arith
 
 follow-returns-8 : (t : ℕ) → follow-lts.Need-returns-8 (
-  wide-reads.Asked,
-  wide-reads.Learnt,
+  index-of-reads.Asked,
+  index-of-reads.Learnt,
   follow-below t,
   follow.Post,
   found-reads.Asked,
   found-reads.Learnt,
 ) (follow-at t) follow.Post
-follow-returns-8 t c = last (c .before .before .before .before .before .before .before .before .before .before .before .before .before .before .before .before .before .args .depth) (c .before .before .before .before .before .before .before .before .before .before .before .before .before .before .before .before .wide .result) (now (c .before .before .before .before .before .before .before .before .before .before .before .before .before .before .before .before .before .args .graph)) (omega arith) (c .before .before .before .before .before .before .before .before .before .before .before .before .before .if2 .left) (c .before .before .before .before .before .before .before .before .before .before .before .before .if3 .left) (c .before .before .before .before .before .before .before .before .before .before .before .if4 .left) (c .before .before .before .before .before .before .before .before .follow .result) (c .before .before .before .before .before .before .before .before .follow .last .0) (c .before .before .before .before .before .before .before .before .follow .ensures) (c .before .before .before .before .before .before .before .if5 .left) (c .before .follow2 .result) (c .before .follow2 .last .0) (c .before .follow2 .ensures) (c .if7 .left) ∙ ap (λ (n : ℕ). followed (c .before .before .before .before .before .before .before .before .before .before .before .before .before .before .before .before .before .args .depth) n (now (c .before .before .before .before .before .before .before .before .before .before .before .before .before .before .before .before .before .args .graph))) (c .before .before .before .before .before .before .before .before .before .before .before .before .before .before .before .before .wide .ensures .0)
+follow-returns-8 t c = last (c .before .before .before .before .before .before .before .before .before .before .before .before .before .before .before .before .before .args .depth) (c .before .before .before .before .before .before .before .before .before .before .before .before .before .before .before .before .index-of .result) (now (c .before .before .before .before .before .before .before .before .before .before .before .before .before .before .before .before .before .args .graph)) (omega arith) (c .before .before .before .before .before .before .before .before .before .before .before .before .before .if2 .left) (c .before .before .before .before .before .before .before .before .before .before .before .before .if3 .left) (c .before .before .before .before .before .before .before .before .before .before .before .if4 .left) (c .before .before .before .before .before .before .before .before .follow .result) (c .before .before .before .before .before .before .before .before .follow .last .0) (c .before .before .before .before .before .before .before .before .follow .ensures) (c .before .before .before .before .before .before .before .if5 .left) (c .before .follow2 .result) (c .before .follow2 .last .0) (c .before .follow2 .ensures) (c .if7 .left) ∙ ap (λ (n : ℕ). followed (c .before .before .before .before .before .before .before .before .before .before .before .before .before .before .before .before .before .args .depth) n (now (c .before .before .before .before .before .before .before .before .before .before .before .before .before .before .before .before .before .args .graph))) (c .before .before .before .before .before .before .before .before .before .before .before .before .before .before .before .before .index-of .ensures .0)
 
 pub +follow-spec : {M : Type 1} → statement M
 +follow-spec = close μ-follow λ t. follow-lts.spec (
-  wide-reads.Asked,
-  wide-reads.Learnt,
+  index-of-reads.Asked,
+  index-of-reads.Learnt,
   follow-below t,
   follow.Post,
   found-reads.Asked,
@@ -267,7 +267,7 @@ pub +follow-spec : {M : Type 1} → statement M
 )
     (follow-at t)
     follow.Post
-    (follow-wide-requires t)
+    (follow-index-of-requires t)
     (follow-returns t)
     (follow-mul-at t)
     (follow-element-copy-out-how t)

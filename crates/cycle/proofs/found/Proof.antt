@@ -11,8 +11,8 @@ use Rattle.operators.specs.Limits.{mostStreams}
 use Rattle.cycle.proofs.found.Statement.{statement}
 use Rattle.cycle.proofs.found.Tie as tie
 
-wide-requires : tie.Need-wide-requires
-wide-requires c κs = search needs
+index-of-requires : tie.Need-index-of-requires
+index-of-requires c κs = search needs
 
 returns : tie.Need-returns
 returns c = sym (rw (le-ltb (c .before .before .args .i) mostStreams (omega arith)))
@@ -24,8 +24,8 @@ element-copy-out-result : tie.Need-element-copy-out-result
 element-copy-out-result c = search needs
 
 returns-2 : tie.Need-returns-2
-returns-2 c = rw (lt-ltb (c .before .before .before .args .i) mostStreams (omega arith)) (ap (λ (n : ℕ). eqb (getD (now (c .before .before .before .args .graph)) (3 * n) 0) 1) (c .before .before .wide .ensures .0))
+returns-2 c = rw (lt-ltb (c .before .before .before .args .i) mostStreams (omega arith)) (ap (λ (n : ℕ). eqb (getD (now (c .before .before .before .args .graph)) (3 * n) 0) 1) (c .before .before .index-of .ensures .0))
 
 pub found-spec : {M : Type 1} → statement M
 found-spec =
-    tie.close (tie.spec wide-requires returns mul-result element-copy-out-result returns-2)
+    tie.close (tie.spec index-of-requires returns mul-result element-copy-out-result returns-2)

@@ -1,6 +1,6 @@
-use mathlib.Core.Path.{sym}
-use borrow.Author.Tests.{le-leb, lt-leb}
+use mathlib.Core.Path.{sym, ap, _∙_}
 use Rattle.machine.specs.State.{room}
+use lib.Dec.{leb}
 use borrow.Author.Needs.{needs}
 use native.Mathlib.Omega.{arith}
 use Rattle.moves.proofs.bound_after.Statement.{statement}
@@ -12,23 +12,26 @@ enum-known-next c = search needs
 enum-known-next-2 : tie.Need-enum-known-next-2
 enum-known-next-2 c = search needs
 
+new-requires : tie.Need-new-requires
+new-requires c κs = search needs
+
+is-full-requires : tie.Need-is-full-requires
+is-full-requires c κs = search needs
+
 cast-result : tie.Need-cast-result
 cast-result c = search needs
 
 returns : tie.Need-returns
-returns c = (sym (rw (c .before .before .next2 .given .1, le-leb room (c .before .before .before .before .args .held) (c .if1 .taken))), omega arith)
+returns c = (sym (rw (c .before .before .before .before .next2 .given .1, sym (c .before .is-full .ensures ∙ ap (leb room) (c .before .before .new .ensures)) ∙ c .if1 .taken)), omega arith)
 
-cast-result-2 : tie.Need-cast-result-2
-cast-result-2 c = search needs
-
-add-result : tie.Need-add-result
-add-result c = search needs
+past-requires : tie.Need-past-requires
+past-requires c κs = search needs
 
 returns-2 : tie.Need-returns-2
 returns-2 c = (sym (rw (c .before .next .given .1)), rw (c .before .next .given .1) at (c .before .before .before .pre))
 
 returns-3 : tie.Need-returns-3
-returns-3 c = (sym (rw (c .before .before .next2 .given .1, lt-leb room (c .before .before .before .before .args .held) (c .if1 .left))), omega arith)
+returns-3 c = (c .past .ensures .0 ∙ sym (rw (c .before .before .before .before .before .next2 .given .1, sym (c .before .before .is-full .ensures ∙ ap (leb room) (c .before .before .before .new .ensures)) ∙ c .before .if1 .left)), c .past .ensures .1)
 
 pub bound-after-spec : {M : Type 1} → statement M
 bound-after-spec =
@@ -36,9 +39,10 @@ bound-after-spec =
     (tie.spec
     enum-known-next
     enum-known-next-2
+    new-requires
+    is-full-requires
     cast-result
     returns
-    cast-result-2
-    add-result
+    past-requires
     returns-2
     returns-3)

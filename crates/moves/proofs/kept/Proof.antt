@@ -1,11 +1,9 @@
-use Prim.Native.Nat.{_+_, _-_, _*_}
-use mathlib.Core.Path.{_≡_, sym, ap, _∙_}
-use borrow.Rule.Slice.PartMut.{midOf}
+use mathlib.Core.Path.{_≡_, ap, _∙_}
 use denote.Ref.{now}
 use Rattle.machine.specs.Step.{absorb}
 use Rattle.meaning.specs.Plan.{argA, argB}
 use Rattle.layout.specs.Record.{decRaw, decode, rowAt}
-use Rattle.layout.proofs.Laws.{row-mid}
+use Rattle.layout.proofs.Laws.{record-row}
 use Rattle.encoding.specs.Back.{heldOf}
 use Rattle.streams.specs.Look.{lookOf, equation, keptIn}
 use Rattle.keeping.specs.Keep.{movedCell}
@@ -15,11 +13,8 @@ use native.Mathlib.Omega.{arith}
 use Rattle.moves.proofs.kept.Statement.{statement}
 use Rattle.moves.proofs.kept.Tie as tie
 
-mul-at : tie.Need-mul-at
-mul-at c = search needs
-
-add-end : tie.Need-add-end
-add-end c = search needs
+row-at-requires : tie.Need-row-at-requires
+row-at-requires c κs = search needs
 
 first-requires : tie.Need-first-requires
 first-requires c κs = search needs
@@ -27,11 +22,8 @@ first-requires c κs = search needs
 argument-requires : tie.Need-argument-requires
 argument-requires c κs = search needs
 
-mul-a : tie.Need-mul-a
-mul-a c = search needs
-
-add-a-end : tie.Need-add-a-end
-add-a-end c = search needs
+row-at-requires-2 : tie.Need-row-at-requires-2
+row-at-requires-2 c κs = search needs
 
 second-requires : tie.Need-second-requires
 second-requires c κs = search needs
@@ -39,67 +31,25 @@ second-requires c κs = search needs
 argument-requires-2 : tie.Need-argument-requires-2
 argument-requires-2 c κs = search needs
 
-mul-b : tie.Need-mul-b
-mul-b c = search needs
-
-add-b-end : tie.Need-add-b-end
-add-b-end c = search needs
-
-sub-absorbed : tie.Need-sub-absorbed
-sub-absorbed c = search needs
-
-part-absorbed-start : tie.Need-part-absorbed-start
-part-absorbed-start c = search needs
-
-part-absorbed-end : tie.Need-part-absorbed-end
-part-absorbed-end c = search needs
-
-sub-absorbed-2 : tie.Need-sub-absorbed-2
-sub-absorbed-2 c = search needs
-
-part-absorbed-start-2 : tie.Need-part-absorbed-start-2
-part-absorbed-start-2 c = search needs
-
-part-absorbed-end-2 : tie.Need-part-absorbed-end-2
-part-absorbed-end-2 c = search needs
-
-sub-absorbed-3 : tie.Need-sub-absorbed-3
-sub-absorbed-3 c = search needs
-
-part-absorbed-start-3 : tie.Need-part-absorbed-start-3
-part-absorbed-start-3 c = search needs
-
-part-absorbed-end-3 : tie.Need-part-absorbed-end-3
-part-absorbed-end-3 c = search needs
+row-at-requires-3 : tie.Need-row-at-requires-3
+row-at-requires-3 c κs = search needs
 
 absorbed-requires : tie.Need-absorbed-requires
 absorbed-requires c κs = search needs
 
 returns : tie.Need-returns
-returns c = let a = c .before .before .before .before .before .before .before .before .before .args in let n = a .n in let s = now (a .state) in let st = decode n s in let e = equation (a .op) in let i = a .i in let k = i * 256 + 256 - i * 256 in let mid : rowAt st i ≡ decRaw (midOf (i * 256) k s) = row-mid n s i k (omega arith) (omega arith) in let x = c .before .before .before .before .before .before .argument .result in let kx = x * 256 + 256 - x * 256 in let z = c .before .before .before .before .argument2 .result in let kz = z * 256 + 256 - z * 256 in let ma : rowAt st (argIn n (argA e)) ≡ decRaw (midOf (x * 256) kx s) = ap (rowAt st) (sym (c .before .before .before .before .before .before .argument .ensures .0 ∙ ap (argIn n) (c .before .before .before .before .before .before .before .first .ensures))) ∙ row-mid n s x kx (omega arith) (omega arith) in let mb : rowAt st (argIn n (argB e)) ≡ decRaw (midOf (z * 256) kz s) = ap (rowAt st) (sym (c .before .before .before .before .argument2 .ensures .0 ∙ ap (argIn n) (c .before .before .before .before .before .second .ensures))) ∙ row-mid n s z kz (omega arith) (omega arith) in c .absorbed .ensures ∙ sym (λ j. absorb e (movedCell (a .y) (heldOf (mid j)) (keptIn (a .k))) (lookOf (ma j)) (lookOf (mb j)))
+returns c = let a = c .before .before .before .before .before .before .before .before .before .args in let n = a .n in let s = now (a .state) in let st = decode n s in let e = equation (a .op) in let own = record-row n s (now (c .before .before .before .before .before .before .before .row-at .result)) (a .i) (omega arith) (c .before .before .before .before .before .before .before .row-at .ensures .0) in let ma : decRaw (now (c .before .before .before .before .row-at2 .result)) ≡ rowAt st (argIn n (argA e)) = record-row n s (now (c .before .before .before .before .row-at2 .result)) (c .before .before .before .before .before .argument .result) (omega arith) (c .before .before .before .before .row-at2 .ensures .0) ∙ ap (rowAt st) (c .before .before .before .before .before .argument .ensures .0 ∙ ap (argIn n) (c .before .before .before .before .before .before .first .ensures)) in let mb : decRaw (now (c .before .row-at3 .result)) ≡ rowAt st (argIn n (argB e)) = record-row n s (now (c .before .row-at3 .result)) (c .before .before .argument2 .result) (omega arith) (c .before .row-at3 .ensures .0) ∙ ap (rowAt st) (c .before .before .argument2 .ensures .0 ∙ ap (argIn n) (c .before .before .before .second .ensures)) in c .absorbed .ensures ∙ (λ j. absorb e (movedCell (a .y) (heldOf (own j)) (keptIn (a .k))) (lookOf (ma j)) (lookOf (mb j)))
 
 pub kept-spec : {M : Type 1} → statement M
 kept-spec =
     tie.close
     (tie.spec
-    mul-at
-    add-end
+    row-at-requires
     first-requires
     argument-requires
-    mul-a
-    add-a-end
+    row-at-requires-2
     second-requires
     argument-requires-2
-    mul-b
-    add-b-end
-    sub-absorbed
-    part-absorbed-start
-    part-absorbed-end
-    sub-absorbed-2
-    part-absorbed-start-2
-    part-absorbed-end-2
-    sub-absorbed-3
-    part-absorbed-start-3
-    part-absorbed-end-3
+    row-at-requires-3
     absorbed-requires
     returns)

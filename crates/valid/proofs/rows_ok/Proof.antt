@@ -1,18 +1,14 @@
-use Prim.Native.Nat.{_+_, _-_, _*_, _≤_}
-use mathlib.Core.Path.{_≡_, sym, _∙_}
+use Prim.Native.Nat.{_-_, _*_, _≤_}
+use mathlib.Core.Path.{_≡_, sym, ap, _∙_}
 use borrow.Author.Tests.{not-true, not-false}
 use native.Mathlib.Nat.{sub-zero}
 use lib.ListN.{drop}
 use denote.Ref.{now}
-use Rattle.layout.proofs.Loops.{row-len}
 use Rattle.valid.specs.Valid.{rowOk, allRows}
 use Rattle.valid.proofs.Tests
 use native.Mathlib.Omega.{arith}
 use Rattle.valid.proofs.rows_ok.Statement.{statement}
 use Rattle.valid.proofs.rows_ok.Tie as tie
-use Rattle.valid.proofs.rows_ok.Reads as reads
-use Rattle.valid.proofs.rows_ok.Lts as lts
-use Rattle.valid.proofs.row_ok.Reads as row-ok-reads
 
 abbrev Inv-loop : tie.InvT-loop
 Inv-loop state n i₀ i = (i ≤ n) × (allRows (rowOk n) (n - i) (drop (i * 256) state) ≡ allRows (rowOk n) n state)
@@ -23,26 +19,14 @@ abbrev μ-loop : tie.MeasureT-loop
 loop-holds : tie.Need-loop-holds Inv-loop μ-loop
 loop-holds c = (omega arith, simp sub-zero)
 
-mul-at : tie.Need-mul-at Inv-loop μ-loop
-mul-at c = omega arith
-
-add-end : tie.Need-add-end Inv-loop μ-loop
-add-end c = omega arith
-
-sub-row-ok : tie.Need-sub-row-ok Inv-loop μ-loop
-sub-row-ok c = omega arith
-
-part-row-ok-start : tie.Need-part-row-ok-start Inv-loop μ-loop
-part-row-ok-start c = omega arith
-
-part-row-ok-end : tie.Need-part-row-ok-end Inv-loop μ-loop
-part-row-ok-end c = omega arith
+row-at-requires : tie.Need-row-at-requires Inv-loop μ-loop
+row-at-requires c κs = omega arith
 
 row-ok-requires : tie.Need-row-ok-requires Inv-loop μ-loop
-row-ok-requires c κs = let a = c .before .before .before .before .args in let l = c .before .before .loop in row-len (a .n) (now (a .state)) (l .i) (omega arith) (omega arith)
+row-ok-requires c κs = c .row-at .ensures .1
 
 returns : tie.Need-returns Inv-loop μ-loop
-returns c = let a = c .before .before .before .before .before .before .args in let l = c .before .before .before .before .loop in let s = now (a .state) in let k = l .i * 256 + 256 - l .i * 256 in let turn = Tests.rows-turn (rowOk (a .n)) (a .n) (l .i) k s (omega arith) (omega arith) in sym (turn ∙ rw (sym (c .before .row-ok .ensures) ∙ not-true (c .before .row-ok .result) (c .if1 .taken))) ∙ l .inv .1
+returns c = let a = c .before .before .before .before .before .before .args in let l = c .before .before .before .before .loop in let turn = Tests.rows-turn (rowOk (a .n)) (a .n) (l .i) (now (a .state)) (omega arith) in let ok = sym (c .before .row-ok .ensures ∙ ap (rowOk (a .n)) (c .before .before .row-at .ensures .0)) in sym (turn ∙ rw (ok ∙ not-true (c .before .row-ok .result) (c .if1 .taken))) ∙ l .inv .1
 
 add-i : tie.Need-add-i Inv-loop μ-loop
 add-i c = omega arith
@@ -51,7 +35,7 @@ loop-less : tie.Need-loop-less Inv-loop μ-loop
 loop-less c = omega arith
 
 loop-again : tie.Need-loop-again Inv-loop μ-loop
-loop-again c = let a = c .before .before .before .before .before .before .args in let l = c .before .before .before .before .loop in let s = now (a .state) in let k = l .i * 256 + 256 - l .i * 256 in let turn = Tests.rows-turn (rowOk (a .n)) (a .n) (l .i) k s (omega arith) (omega arith) in (omega arith, sym (turn ∙ rw (sym (c .before .row-ok .ensures) ∙ not-false (c .before .row-ok .result) (c .if1 .left))) ∙ l .inv .1)
+loop-again c = let a = c .before .before .before .before .before .before .args in let l = c .before .before .before .before .loop in let turn = Tests.rows-turn (rowOk (a .n)) (a .n) (l .i) (now (a .state)) (omega arith) in let ok = sym (c .before .row-ok .ensures ∙ ap (rowOk (a .n)) (c .before .before .row-at .ensures .0)) in (omega arith, sym (turn ∙ rw (ok ∙ not-false (c .before .row-ok .result) (c .if1 .left))) ∙ l .inv .1)
 
 returns-2 : tie.Need-returns-2 Inv-loop μ-loop
 returns-2 c = let a = c .before .before .before .args in let l = c .before .loop in sym (Tests.rows-none (rowOk (a .n)) (a .n - l .i) (drop (l .i * 256) (now (a .state))) (omega arith)) ∙ l .inv .1
@@ -63,11 +47,7 @@ rows-ok-spec =
     Inv-loop
     μ-loop
     loop-holds
-    mul-at
-    add-end
-    sub-row-ok
-    part-row-ok-start
-    part-row-ok-end
+    row-at-requires
     row-ok-requires
     returns
     add-i
