@@ -15,6 +15,6 @@ use Rattle.engine.specs.Reply.{notState}
 abbrev pub loadOf : ℕ → List ℕ → List ℕ → Reply
 loadOf n text s = plain n (cond (eqb n 0) (bytesOf (length s) (loaded (declared (capacity (length s)) text))) s)
 
--- "Load checks only the state's length: 12,288 bytes, or 15.": a length that states have
+-- "15 for the state's length only": a length that no state has
 unfoldable pub loadReply : List ℕ → List ℕ → Reply
 loadReply text s = cond (ltb 0 (capacity (length s))) (loadOf (number (capacity (length s)) text) text s) (notState s)

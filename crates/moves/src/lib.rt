@@ -1,4 +1,4 @@
-// A move and a run, in place on the bytes of n records.
+// A move, in place on the bytes of n records.
 ghost use mathlib.Core.Path.{_≡_};
 ghost use mathlib.Core.Bool.{true, cond};
 ghost use mathlib.Core.List.{[], _∷_};
