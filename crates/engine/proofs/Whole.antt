@@ -13,7 +13,8 @@ use Rattle.meaning.specs.Plan.{reads, eqnAt, AllBelow}
 use Rattle.meaning.proofs.CycleTest.{test-sound}
 use Rattle.machine.specs.State.{Declared, declaredPlan, State, loaded}
 use Rattle.machine.specs.Calls.{Call, reading, progress, moving, running, collecting, call}
-use Rattle.runs.specs.History.{Seen, seenOf, Typed, AllTyped, after, log}
+use Rattle.runs.specs.Seen.{Seen, Typed, AllTyped}
+use Rattle.runs.specs.History.{seenOf, after, log}
 use Rattle.runs.specs.Claim.{Keeps}
 use Rattle.runs.proofs.Whole.{whole-runs, rest-reached}
 use Rattle.operators.specs.Limits.{mostStreams, capacity}

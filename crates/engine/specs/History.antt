@@ -8,7 +8,8 @@ use lib.Dec.{eqb}
 use lib.ListN.{length}
 use Rattle.machine.specs.State.{Declared, loaded}
 use Rattle.machine.specs.Calls.{Call, call}
-use Rattle.runs.specs.History.{Seen, Typed, after, log}
+use Rattle.runs.specs.Seen.{Seen, Typed}
+use Rattle.runs.specs.History.{after, log}
 use Rattle.runs.specs.Claim.{Claim, RestReached}
 use Rattle.operators.specs.Limits.{capacity}
 use Rattle.encoding.specs.View.{bytesOf}

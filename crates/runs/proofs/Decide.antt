@@ -23,8 +23,9 @@ use Rattle.machine.specs.Step as step
 use Rattle.machine.proofs.Search.{least-ge, least-le, least-before, least-hit}
 use Rattle.machine.proofs.Window.{Seen, has-none, latest-seam, past-cong, past-flat, past-seam}
 use Rattle.machine.proofs.Release.{each-read, waiting-le-reader}
-use Rattle.runs.proofs.Kept.{keptOf, below, pointOf, point-le, point-new, value-seam}
-use Rattle.runs.proofs.Tracks.{cut-yes, known, Ahead, Tracks, New, quiet, new-none, held-shows}
+use Rattle.runs.specs.Inside.{known, below}
+use Rattle.runs.proofs.Kept.{keptOf, pointOf, point-le, point-new, value-seam}
+use Rattle.runs.proofs.Tracks.{cut-yes, Ahead, Tracks, New, quiet, new-none, held-shows}
 use Rattle.runs.proofs.Tracks as tracks
 use Rattle.runs.proofs.Fires.{fires-latest}
 

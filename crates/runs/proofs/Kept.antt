@@ -19,12 +19,8 @@ use Rattle.machine.specs.State.{Kept, Cell, noKept}
 use Rattle.machine.specs.Reach.{view, pastLatest, valueAt}
 use Rattle.machine.specs.Step.{absorb, later, keptTold}
 use Rattle.machine.proofs.Cells.{ne-eqb, eqb-ne}
+use Rattle.runs.specs.Inside.{below}
 use Rattle.machine.proofs.Window.{Seen, seen-or, or-none, latest-suc, latest-flat, latest-seam, past-le, past-cong, past-here, past-below, past-seam}
-
--- what a stream has one below z
-abbrev pub below : Stream → ℕ → Option ℤ
-below f zero = none
-below f (suc p) = f p
 
 -- one past the latest set point below y, of a delay d with second argument b
 abbrev pub pointOf : (b d : Stream) → ℕ → ℕ

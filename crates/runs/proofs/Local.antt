@@ -19,8 +19,9 @@ use Rattle.machine.proofs.Window.{or-none}
 use Rattle.machine.proofs.Rising.{drop-more}
 use Rattle.machine.proofs.Release.{Frame, frame-waiting, waiting-grows}
 use Rattle.machine.proofs.Frame.{raise-frame, raise-eqn, raise-out, raise-next, raise-bound}
+use Rattle.runs.specs.Inside.{known}
 use Rattle.runs.proofs.Kept.{keptOf}
-use Rattle.runs.proofs.Tracks.{cut-yes, cut-no, known, Tracks, new-events, Rise}
+use Rattle.runs.proofs.Tracks.{cut-yes, cut-no, Tracks, new-events, Rise}
 use Rattle.runs.proofs.Decide.{floor-read}
 use Rattle.runs.proofs.Raise as raised
 use Rattle.runs.proofs.Tidy.{refreshed, refreshed-is, tidied, stale, near-of}

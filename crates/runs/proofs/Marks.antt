@@ -16,8 +16,9 @@ use Rattle.machine.specs.Step.{readsIt, dropBelow, leastWaiting, release}
 use Rattle.machine.proofs.Cells.{set-cases, eqb-ne}
 use Rattle.machine.proofs.Rising.{events-flat, drop-again}
 use Rattle.machine.proofs.Release.{waiting-grows, looser-waiting, release-at, release-looser}
+use Rattle.runs.specs.Inside.{cut, known}
 use Rattle.runs.proofs.Kept.{keptOf, kept-cong}
-use Rattle.runs.proofs.Tracks.{cut, cut-quiet, known, Ahead, ahead-grows, Tracks}
+use Rattle.runs.proofs.Tracks.{cut-quiet, Ahead, ahead-grows, Tracks}
 
 pub input-is : (e : Eqn) → T (isInput e) → e ≡ input
 input-is input h = refl

@@ -27,8 +27,9 @@ use Rattle.machine.proofs.Rising.{events-flat, drop-fewer}
 use Rattle.machine.proofs.Release.{Frame, frame-waiting, waiting-grows}
 use Rattle.machine.proofs.Frame.{raise-next, raise-bound}
 use Rattle.machine.proofs.Moves.{reachOf, reach-gt, goal, can-equation, can-of, no-input, goal-ge}
+use Rattle.runs.specs.Inside.{cut, known}
 use Rattle.runs.proofs.Kept.{keptOf, kept-cong}
-use Rattle.runs.proofs.Tracks.{cut, cut-yes, known, Tracks}
+use Rattle.runs.proofs.Tracks.{cut-yes, Tracks}
 use Rattle.runs.proofs.Decide.{Finds, nothing, something, finds-le, floor, floor-read, shows-now, arg-at, point-is, in-reach}
 use Rattle.runs.proofs.World.{Shape}
 use Rattle.runs.proofs.Move.{row, equation-finds, move-raise, move-tracks, move-shape}

@@ -24,8 +24,9 @@ use Rattle.machine.proofs.Cells.{set-cases, told-at, eqb-ne}
 use Rattle.machine.proofs.Window.{Seen}
 use Rattle.machine.proofs.Rising.{drop-more}
 use Rattle.machine.proofs.Release.{each-read, among, read-among, waiting-le-reader, waiting-grows, releases-at, releases-looser, looser-waiting}
+use Rattle.runs.specs.Inside.{cut, known}
 use Rattle.runs.proofs.Kept.{keptOf, kept-cong, kept-told, kept-absorbed, Edge}
-use Rattle.runs.proofs.Tracks.{cut, cut-yes, cut-no, cut-quiet, cut-event, known, Ahead, ahead-grows, Tracks, New, quiet, event, Rise, new-none, new-events, held-shows}
+use Rattle.runs.proofs.Tracks.{cut-yes, cut-no, cut-quiet, cut-event, Ahead, ahead-grows, Tracks, New, quiet, event, Rise, new-none, new-events, held-shows}
 
 -- ---- a reader ahead of the new event, a delay of it, is just ahead
 

@@ -25,8 +25,9 @@ use Rattle.machine.proofs.Window.{past-le}
 use Rattle.machine.proofs.Rising.{Rising, events-rising, rising-dropped}
 use Rattle.machine.proofs.Release.{waiting-who}
 use Rattle.machine.proofs.Moves.{reach-gt, goal-gt, can-of, no-input}
+use Rattle.runs.specs.Inside.{known}
 use Rattle.runs.proofs.Kept.{keptOf, pointOf, point-le}
-use Rattle.runs.proofs.Tracks.{known, Tracks}
+use Rattle.runs.proofs.Tracks.{Tracks}
 
 each-zip : (P Q R : ℕ → Type 0) → ((a : ℕ) → P a → Q a → R a) → (xs : List ℕ) → Each P xs → Each Q xs → Each R xs
 each-zip P Q R f [] h k = tt

@@ -19,8 +19,9 @@ use Rattle.machine.specs.Step.{later, dropBelow, leastWaiting}
 use Rattle.machine.proofs.Cells.{ne-eqb, eqb-ne}
 use Rattle.machine.proofs.Window.{Seen, seen-or, or-none, latest-flat, latest-seam, past-cong, past-flat, past-below, past-seam}
 use Rattle.machine.proofs.Rising.{drop-again}
-use Rattle.runs.proofs.Kept.{keptOf, below, pointOf, point-le}
-use Rattle.runs.proofs.Tracks.{cut-no, known, Ahead, Tracks}
+use Rattle.runs.specs.Inside.{known, below}
+use Rattle.runs.proofs.Kept.{keptOf, pointOf, point-le}
+use Rattle.runs.proofs.Tracks.{cut-no, Ahead, Tracks}
 use Rattle.runs.proofs.Decide.{shows-now, floor-read}
 
 -- ---- tidying

@@ -21,22 +21,16 @@ use Rattle.machine.proofs.Cells.{ne-eqb}
 use Rattle.machine.proofs.Window.{Seen, or-none}
 use Rattle.machine.proofs.Rising.{Rising, events-rising, events-some, events-flat, found-append, found-events, found-low, found-high, found-drop, rising-drop, rising-dropped}
 use Rattle.machine.proofs.Release.{waiting-le-next}
+use Rattle.runs.specs.Inside.{cut, known}
 use Rattle.runs.proofs.Kept.{keptOf}
 
 -- ---- what is known of a stream below k
-
-abbrev pub cut : Stream → ℕ → Stream
-cut f k p = cond (ltb p k) (f p) none
 
 pub cut-yes : (f : Stream) (k p : ℕ) → p < k → cut f k p ≡ f p
 cut-yes f k p l = rw (true-is (ltb p k) (lt→ltb p k l))
 
 pub cut-no : (f : Stream) (k p : ℕ) → k ≤ p → cut f k p ≡ none
 cut-no f k p l = rw (false-is (ltb p k) (not-T (ltb p k) (λ y. let z = ltb→lt p k y in absurd (omega arith))))
-
--- what is known in a state
-abbrev pub known : Streams → State → Streams
-known S M i = cut (S i) (cellAt M i .bound)
 
 -- ---- the invariant
 
