@@ -97,7 +97,7 @@ visits-keep = record { arguments = arguments; acyclic = test-sound 6 (declaredPl
     arguments zero = tt
     arguments (suc zero) = tt
     arguments (suc (suc zero)) = (omega arith, tt)
-    arguments (suc (suc (suc zero))) = (omega arith, omega arith, tt)
+    arguments (suc (suc (suc zero))) = (omega arith, (omega arith, tt))
     arguments (suc (suc (suc (suc zero)))) = (omega arith, tt)
-    arguments (suc (suc (suc (suc (suc zero))))) = (omega arith, omega arith, tt)
+    arguments (suc (suc (suc (suc (suc zero))))) = (omega arith, (omega arith, tt))
     arguments (suc (suc (suc (suc (suc (suc s)))))) = tt
