@@ -9,6 +9,7 @@ pub mod Marks
 pub mod Fires
 pub mod Decide
 -- what a list of calls has done, and what holds after each
+pub mod Counts
 pub mod World
 pub mod Move
 pub mod Offers
