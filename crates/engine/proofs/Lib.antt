@@ -1,3 +1,4 @@
 pub mod Replies
 pub mod Loads
+pub mod Refused
 pub mod Whole
