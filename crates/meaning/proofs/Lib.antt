@@ -10,6 +10,7 @@ pub mod Exists
 pub mod Within
 pub mod Ways
 pub mod Solution
+pub mod Firing
 pub mod Silence
 pub mod CycleTest
 pub mod Computed

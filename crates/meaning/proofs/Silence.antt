@@ -1,22 +1,23 @@
 -- From some stamp on nothing happens: no input has an event there, and no delay is left to fire.
-use mathlib.Core.Path.{_≡_, refl, sym, ap, _∙_}
+use mathlib.Core.Path.{_≡_, refl, sym, _∙_}
 use mathlib.Core.Bool.{Bool, true, false, not, cond, _&&_, _||_}
 use mathlib.Core.Option.{Option, none, some}
-use mathlib.Core.List.{_∷_, [], _++_, append-nil}
+use mathlib.Core.List.{append-nil}
 use Prim.Native.Nat.{ℕ, zero, suc, _+_, _-_, _<_, _≤_}
 use native.Mathlib.Omega.{arith}
 use native.Mathlib.Decide.{decLt}
-use lib.Dec.{T, T-not, ltb, eqb→eq}
+use lib.Dec.{T, T-not, not-T, ltb, ltb→lt, eqb→eq}
 use lib.IntN.{ℤ, pos, negsuc}
 use borrow.Author.Tests.{lt-ltb, le-ltb}
-use Rattle.meaning.specs.Plan.{Eqn, input, nil, unit, one, two, calc, keep, merge, last, delay, Plan, eqnAt, isInput, undelayed}
-use Rattle.meaning.specs.Events.{Event, Stream, Streams, has, here, events}
+use Rattle.meaning.specs.Plan.{Eqn, input, nil, unit, one, two, calc, keep, merge, last, delay, Plan, eqnAt, undelayed}
+use Rattle.meaning.specs.Events.{Stream, Streams, has, events}
 use Rattle.meaning.specs.Table.{one-at, two-at, unit-at, last-at, any-below, is, fires, delay-at, at, Solves}
 use Rattle.meaning.specs.Cycle.{Acyclic}
-use Rattle.meaning.proofs.Tests.{Is, yes!, no!, look, T-or-l, T-or-r, T-and, T-and-l, T-and-r}
+use Rattle.meaning.proofs.Tests.{false-is, T-and, T-and-l, T-and-r}
 use Rattle.meaning.proofs.Each.{each-all}
-use Rattle.meaning.proofs.Causal.{SameBelow, any-cong, at-cong}
+use Rattle.meaning.proofs.Causal.{at-cong}
 use Rattle.meaning.proofs.Solution.{solution-unique}
+use Rattle.meaning.proofs.Firing.{any-hit, any-put, Fires, fires-from}
 
 -- a value at p leads to the stamp u or beyond
 abbrev pub leads-to : (u p : ℕ) → Option ℤ → Bool
@@ -47,26 +48,6 @@ pub record Quiet (plan : Plan) (rd S : Streams) (u : ℕ) : Type 0 where
   pub inputs : (s t : ℕ) → u ≤ t → rd s t ≡ none
   pub delays : (s : ℕ) → T (settled (eqnAt plan s) S s u)
 
--- ---- some stamp below
-
-any-at : (t : ℕ) (f : ℕ → Bool) → T (any-below t f) → (p : ℕ) × (p < t) × T (f p)
-unfolding any-below
-any-at zero f h = absurd h
-any-at (suc t) f h = go (look (f t)) (any-at t f)
-  where
-    go : Is (f t) → (T (any-below t f) → (p : ℕ) × (p < t) × T (f p)) → (p : ℕ) × (p < suc t) × T (f p)
-    go (yes! e i) rest = (t, omega arith, i)
-    go (no! e i) rest = let r = rest (rw e at h) in (r .0, omega (arith, r .1), r .2)
-
-any-of : (t : ℕ) (f : ℕ → Bool) (p : ℕ) → p < t → T (f p) → T (any-below t f)
-unfolding any-below
-any-of zero f p l h = absurd (omega arith)
-any-of (suc t) f p l h = go (decLt p t) (λ k. any-of t f p k h)
-  where
-    go : Dec (p < t) → (p < t → T (any-below t f)) → T (f t || any-below t f)
-    go (yes k) rest = T-or-r (f t) (any-below t f) (rest k)
-    go (no k) rest = let e : p ≡ t = omega arith in T-or-l (f t) (any-below t f) (rw e at h)
-
 -- ---- the streams cut off at u
 
 abbrev cut : ℕ → Stream → Stream
@@ -78,7 +59,7 @@ cut-before u a t l = rw (lt-ltb t u l)
 cut-after : (u : ℕ) (a : Stream) (t : ℕ) → u ≤ t → cut u a t ≡ none
 cut-after u a t l = rw (le-ltb t u l)
 
--- a value that fires at t or later leads to u or beyond
+-- a value at p that is due at t leads to u or beyond
 due-leads : (u p t : ℕ) → u ≤ t → p < t → (o : Option ℤ) → T (is (t - p) o) → T (leads-to u p o)
 due-leads u p t l k none h = absurd h
 due-leads u p t l k (some (pos m)) h =
@@ -86,48 +67,28 @@ due-leads u p t l k (some (pos m)) h =
     rw (le-ltb (p + m) u (omega (arith, e))) tt
 due-leads u p t l k (some (negsuc m)) h = absurd h
 
+-- From a set point at u or later nothing fires, since there is none. From one below u it would be pending at u.
 module _ (u : ℕ) (a b d : Stream) (quiet : T (not (pending a b d u))) (t : ℕ) (l : u ≤ t) where
-  later-b : (p : ℕ) → T (not (any-below t (λ q. ltb p q && has (cut u b q)))) → T (not (any-below u (λ q. ltb p q && has (b q))))
-  later-b p h = go (look (any-below u (λ q. ltb p q && has (b q))))
+  no-firing : (p : ℕ) → Fires (cut u a) (cut u b) (cut u d) t p → ⊥
+  unfolding pending
+  no-firing p f = go (decLt p u)
     where
-      go : Is (any-below u (λ q. ltb p q && has (b q))) → T (not (any-below u (λ q. ltb p q && has (b q))))
-      go (no! e i) = i
-      go (yes! e i) =
-          let r = any-at u (λ q. ltb p q && has (b q)) i in
-          absurd (T-not (any-below t (λ q. ltb p q && has (cut u b q))) h (any-of t (λ q. ltb p q && has (cut u b q)) (r .0) (omega (arith, r .1)) (rw (cut-before u b (r .0) (r .1)) (r .2))))
+      above : ℕ → Bool
+      above q = ltb p q && has (b q)
+
+      go : Dec (p < u) → ⊥
+      go (no n) = rw (cut-after u b p (omega arith), cut-after u d p (omega arith)) at (f .set)
+      go (yes y) =
+          let set : T (has (b p) || has (d p)) = rw (cut-before u b p y, cut-before u d p y) at (f .set) in
+          let due : T (leads-to u p (a p)) = due-leads u p t l (f .before) (a p) (rw (cut-before u a p y) at (f .value)) in
+          let alone : T (not (any-below u above)) = not-T (any-below u above) (λ z. let r = any-hit u above z in let q = r .0 in
+          T-not (has (b q)) (rw (cut-before u b q (r .1)) at (f .quiet q (ltb→lt p q (T-and-l (ltb p q) (has (b q)) (r .2))) (omega (arith, r .1)))) (T-and-r (ltb p q) (has (b q)) (r .2))) in
+          T-not (pending a b d u) quiet (any-put u _ p y (T-and ((has (b p) || has (d p)) && leads-to u p (a p)) _ (T-and (has (b p) || has (d p)) _ set due) alone))
 
   never-fires : fires (cut u a) (cut u b) (cut u d) t ≡ false
-  unfolding fires pending
-  never-fires = go (look (fires (cut u a) (cut u b) (cut u d) t))
-    where
-      set : ℕ → Bool
-      set p = has (cut u b p) || has (cut u d p)
-
-      due : ℕ → Bool
-      due p = is (t - p) (cut u a p)
-
-      last-b : ℕ → Bool
-      last-b p = not (any-below t (λ q. ltb p q && has (cut u b q)))
-
-      at-p : (p : ℕ) → p < t → T (set p && due p && last-b p) → ⊥
-      at-p p k h = by (decLt p u)
-        where
-          r : T (set p && due p)
-          r = T-and-l (set p && due p) (last-b p) h
-
-          by : Dec (p < u) → ⊥
-          by (no n) = rw (cut-after u b p (omega arith), cut-after u d p (omega arith)) at (T-and-l (set p) (due p) r)
-          by (yes y) =
-              let x : T (has (b p) || has (d p)) = rw (cut-before u b p y, cut-before u d p y) at (T-and-l (set p) (due p) r) in
-              let v : T (leads-to u p (a p)) = due-leads u p t l k (a p) (rw (cut-before u a p y) at (T-and-r (set p) (due p) r)) in
-              let w = later-b p (T-and-r (set p && due p) (last-b p) h) in
-              T-not (pending a b d u) quiet
-              (any-of u (λ p. (has (b p) || has (d p)) && leads-to u p (a p) && not (any-below u (λ q. ltb p q && has (b q)))) p y
-              (T-and ((has (b p) || has (d p)) && leads-to u p (a p)) (not (any-below u (λ q. ltb p q && has (b q)))) (T-and (has (b p) || has (d p)) (leads-to u p (a p)) x v) w))
-
-      go : Is (fires (cut u a) (cut u b) (cut u d) t) → fires (cut u a) (cut u b) (cut u d) t ≡ false
-      go (no! e i) = e
-      go (yes! e i) = let r = any-at t (λ p. set p && due p && last-b p) i in absurd (at-p (r .0) (r .1) (r .2))
+  never-fires =
+      false-is (fires (cut u a) (cut u b) (cut u d) t)
+      (not-T (fires (cut u a) (cut u b) (cut u d) t) (λ h. let r = fires-from (cut u a) (cut u b) (cut u d) t h in no-firing (r .0) (r .1)))
 
 -- ---- the law
 

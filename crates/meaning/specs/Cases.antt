@@ -12,7 +12,7 @@ pub record Case : Type 0 where
   -- the readings of streams 0, 1, ..
   pub readings : List (List Event)
   pub stream : ℕ
-  -- all events expected of the stream
+  -- the events expected of the stream
   pub expected : List Event
   -- the stamp up to which they are computed; in a case that ends, nothing happens from there on
   pub until : ℕ

@@ -14,7 +14,7 @@ use mir.Val.{toZ}
 use mir.Facts.{toZ-pos, toZ-neg}
 use Rattle.meaning.specs.Plan.{Eqn, input, nil, unit, one, two, last, delay, eqnAt, isInput, reads, argA, argB, AllBelow}
 use Rattle.meaning.specs.CycleTest.{acyclic}
-use Rattle.meaning.proofs.Within.{Within, reads-within}
+use Rattle.meaning.proofs.Within.{reads-within}
 use Rattle.meaning.proofs.CycleTest.{test-complete}
 use Rattle.machine.specs.State.{Declared, declaredPlan}
 use Rattle.operators.specs.Operators.{nameOf, eqnOf, numberOf, valueOf}

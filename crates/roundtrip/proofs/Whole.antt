@@ -9,9 +9,9 @@ use lib.Dec.{eqb, ltb}
 use lib.ListN.{length, getD, take, drop, replicate, length-map, length-append, length-drop, length-replicate}
 use lib.Seq.{length-take-le, take-at, drop-at, ext-getD}
 use borrow.Author.Tests.{eqb-false, ne-eqb, ltb-true, lt-ltb, not-true}
-use Rattle.meaning.specs.Plan.{Eqn, eqnAt, nil}
+use Rattle.meaning.specs.Plan.{eqnAt}
 use Rattle.meaning.specs.CycleTest.{acyclic}
-use Rattle.meaning.proofs.Within.{Within, reads-within}
+use Rattle.meaning.proofs.Within.{reads-within}
 use Rattle.meaning.proofs.CycleTest.{test-sound, test-complete}
 use Rattle.machine.specs.State.{Cell, State, cellAt, planOf}
 use Rattle.operators.specs.Operators.{numberOf}
