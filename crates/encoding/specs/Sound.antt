@@ -10,7 +10,7 @@ use lib.IntN.{ℤ}
 use lib.Signed.{mag}
 use Rattle.meaning.specs.Plan.{Eqn, input, nil, unit, one, two, last, delay, isInput, reads, AllBelow}
 use Rattle.meaning.specs.Events.{Event, horizon}
-use Rattle.meaning.specs.Cycle.{acyclic}
+use Rattle.meaning.specs.Cycle.{Acyclic}
 use Rattle.machine.specs.State.{Kept, Cell, State, room, noKept, cellAt, planOf}
 use Rattle.operators.specs.Operators.{valueOf}
 
@@ -73,4 +73,4 @@ pub record Sound (cap : ℕ) (M : State) : Type 0 where
   pub some : 0 < length M
   pub few : length M ≤ cap
   pub each : (i : ℕ) → i < length M → SoundCell (length M) (cellAt M i)
-  pub acyclic : acyclic cap (planOf M) ≡ true
+  pub acyclic : Acyclic (planOf M)

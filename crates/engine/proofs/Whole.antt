@@ -8,10 +8,8 @@ use native.Mathlib.Omega.{arith}
 use lib.Dec.{eqb}
 use lib.ListN.{length, length-append, getD}
 use borrow.Author.Tests.{eqb-true, eqb-false}
-use Rattle.meaning.specs.Plan.{reads, eqnAt, AllBelow}
 use Rattle.meaning.specs.Events.{Streams, horizon}
 use Rattle.meaning.specs.Table.{Solves}
-use Rattle.meaning.proofs.CycleTest.{test-sound}
 use Rattle.machine.specs.State.{Declared, declaredPlan, State, loaded}
 use Rattle.machine.specs.Calls.{Call, reading, progress, moving, running, collecting, call}
 use Rattle.runs.specs.Seen.{Seen, Typed, AllTyped}
@@ -26,8 +24,9 @@ use Rattle.encoding.specs.Sound.{Sound}
 use Rattle.preserve.proofs.Calls.{Offered, call-sound}
 use Rattle.roundtrip.proofs.Whole.{bytes-length}
 use Rattle.plan.specs.Rules.{number, declared}
-use Rattle.plan.specs.Taken.{Each, KeepsRules}
+use Rattle.plan.specs.Taken.{KeepsRules}
 use Rattle.plan.proofs.Taken.{taken-rendered}
+use Rattle.plan.proofs.Rendered.{arguments-at}
 use Rattle.load.proofs.Fresh.{loaded-sound}
 use Rattle.calls.specs.Reply.{Reply, replyOf}
 use Rattle.calls.proofs.Replies.{call-15}
@@ -40,13 +39,8 @@ use Rattle.engine.proofs.Loads.{load-done, load-refused}
 
 -- ---- a plan that keeps the written rules is one that the theorem on runs speaks of
 
-arguments-at : (n : ℕ) (ds : List Declared) (s : ℕ) → Each n ds → AllBelow n (reads (eqnAt (declaredPlan ds) s))
-arguments-at n [] s h = tt
-arguments-at n (d ∷ ds) zero h = h .0 .arguments
-arguments-at n (d ∷ ds) (suc s) h = arguments-at n ds s (h .1)
-
 pub rules-keep : {cap : ℕ} (ds : List Declared) → KeepsRules cap ds → Keeps ds
-rules-keep {cap} ds k = record { arguments = λ s. arguments-at (length ds) ds s (k .each); acyclic = test-sound cap (declaredPlan ds) (k .clear) }
+rules-keep ds k = record { arguments = λ s. arguments-at (length ds) ds s (k .each); acyclic = k .clear }
 
 -- ---- one call more
 

@@ -157,7 +157,7 @@ pub many : (ds : List Declared) → length (loaded ds) ≡ length ds
 unfolding loaded
 many ds = length-map ds fresh
 
--- "On 0 the state holds the plan, all bounds 0, nothing held": the bytes of the fresh state of the streams declared
+-- Load "fills a fresh state, all bounds 0": the bytes of the fresh state of the streams declared
 pub taken-filled : (text s : List ℕ) → number (capacity (length s)) text ≡ 0 → filled (capacity (length s)) text s ≡ bytesOf (length s) (loaded (declared (capacity (length s)) text))
 unfolding filled bytesOf rawsOf
 taken-filled text s e =

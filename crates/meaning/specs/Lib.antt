@@ -2,5 +2,6 @@ pub mod Plan
 pub mod Events
 pub mod Table
 pub mod Cycle
+pub mod CycleTest
 pub mod Meaning
 pub mod Cases

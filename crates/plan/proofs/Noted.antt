@@ -10,7 +10,7 @@ use lib.Seq.{sets-eq, take-at, drop-append-add, drop-drop}
 use mir.Syntax.{w64}
 use mir.Val.{toZ}
 use Rattle.meaning.specs.Plan.{undelayed, argA, argB, AllBelow}
-use Rattle.meaning.specs.Cycle.{acyclic}
+use Rattle.meaning.specs.CycleTest.{acyclic}
 use Rattle.operators.specs.Limits.{mostStreams}
 use Rattle.operators.specs.Operators.{operatorCount, numberOf}
 use Rattle.operators.proofs.Laws.{number-back}

@@ -7,7 +7,7 @@ use lib.ListN.{length}
 use mir.Syntax.{w64}
 use mir.Val.{toZ}
 use Rattle.meaning.specs.Plan.{Eqn, Plan}
-use Rattle.meaning.specs.Cycle.{acyclic}
+use Rattle.meaning.specs.CycleTest.{acyclic}
 use Rattle.machine.specs.State.{Declared}
 use Rattle.operators.specs.Operators.{eqnOf}
 use Rattle.operators.specs.Rules.{fieldsOk}

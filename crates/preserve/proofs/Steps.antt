@@ -1,6 +1,6 @@
 -- Each part of a step keeps a sound state sound: a cell written, the readers told, events let go, a mark of collection.
 use Prim.Native.Nat.{ℕ, zero, suc, pred, _+_, _<_, _≤_}
-use mathlib.Core.Path.{_≡_, refl, sym, ap, _∙_}
+use mathlib.Core.Path.{_≡_, refl, sym, ap, _∙_, subst}
 use mathlib.Core.Bool.{Bool, true, false, cond, _&&_}
 use mathlib.Core.Option.{Option, none, some}
 use mathlib.Core.List.{List, [], _∷_, _++_, map, append-nil}
@@ -14,7 +14,7 @@ use borrow.Author.Tests.{ltb-true, eqb-true, eq-eqb}
 use Rattle.meaning.specs.Plan.{Eqn, input, nil, unit, one, two, last, delay, reads, argA, argB}
 use Rattle.meaning.specs.Events.{Event, ev, horizon}
 use Rattle.meaning.specs.Table.{latest}
-use Rattle.meaning.specs.Cycle.{acyclic}
+use Rattle.meaning.specs.Cycle.{Acyclic}
 use Rattle.machine.specs.State.{Kept, Cell, State, absent, cellAt, room, planOf, withBound, withHeld, withNext, withKept}
 use Rattle.machine.specs.Reach.{view, valueAt}
 use Rattle.machine.specs.Step.{advance, later, absorb, absorbed, write, valueTold, priorTold, sinceTold, keptTold, told, tell, leastWaiting, dropBelow, release, releases, raise}
@@ -38,11 +38,11 @@ plan-same M N l h =
     at (c ∷ K) (suc i) = at K i
 
 pub sound-again : {cap : ℕ} (M N : State) → Sound cap M → length N ≡ length M → ((i : ℕ) → cellAt N i .eqn ≡ cellAt M i .eqn) → ((i : ℕ) → i < length M → SoundCell (length M) (cellAt N i)) → Sound cap N
-sound-again {cap} M N ok l q h = record {
+sound-again M N ok l q h = record {
   some = rw l (ok .some);
   few = rw l (ok .few);
   each = λ i k. rw l (h i (rw l at k));
-  acyclic = ap (acyclic cap) (plan-same M N l q) ∙ ok .acyclic;
+  acyclic = subst Acyclic (sym (plan-same M N l q)) (ok .acyclic);
 }
 
 -- one cell written

@@ -33,6 +33,6 @@ unfoldable pub allText : List Declared → List ℕ
 allText [] = []
 allText (d ∷ ds) = declaredText d ++ allText ds
 
--- "`plan=1`, `streams=N`, then for streams 0 to N−1 the five lines"
+-- "`plan=1`, `streams=N` (1 to 32), then for streams 0 to N−1 the five lines"
 unfoldable pub render : List Declared → List ℕ
 render ds = planLine ++ (line streamsKey (decimal (length ds)) ++ allText ds)

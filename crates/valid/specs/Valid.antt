@@ -9,7 +9,7 @@ use lib.Dec.{ltb, eqb, leb}
 use Rattle.le.specs.Bytes.{allZero}
 use Rattle.meaning.specs.Plan.{Plan}
 use Rattle.meaning.specs.Events.{horizon}
-use Rattle.meaning.specs.Cycle.{acyclic}
+use Rattle.meaning.specs.CycleTest.{acyclic}
 use Rattle.machine.specs.State.{room, planOf}
 use Rattle.operators.specs.Operators.{groupOf, isLast, isDelay, isOperator}
 use Rattle.operators.specs.Rules.{fieldsOk}
