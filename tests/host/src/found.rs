@@ -105,7 +105,7 @@ impl Found {
         if n == 0 || state[256 * n..].iter().any(|&x| x != 0) {
             return None;
         }
-        let (plan, records) = state.chunks(256).take(n).map(|r| read_record(r, n)).collect::<Option<Vec<_>>>()?.into_iter().unzip();
+        let (plan, records): (Plan, Vec<Record>) = state.chunks(256).take(n).map(|r| read_record(r, n)).collect::<Option<Vec<_>>>()?.into_iter().unzip();
         keeps_cycle_rule(&plan).then_some(Found { plan, records })
     }
 
