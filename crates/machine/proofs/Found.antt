@@ -1,4 +1,5 @@
--- States that no call leaves: a delay ahead of its second argument. The steps from them, computed by the checker.
+-- States that no call leaves: a delay ahead of its second argument, or with events of its own. The steps from them,
+-- computed by the checker.
 use mathlib.Core.Path.{_≡_, refl}
 use mathlib.Core.Bool.{true, false}
 use mathlib.Core.Option.{Option, none, some}
@@ -59,6 +60,24 @@ founds =
       reached = 30 ∷ 30 ∷ 21 ∷ [];
       keeps = kept 21 none none;
       holds = ev 20 (pos 0) ∷ [];
+    }
+    -- its own event at 9 is a set point, and a is not known there: it cannot move, and then is silent
+    ∷ record {
+      state = inputTo 5 [] ∷ inputTo 20 [] ∷ delayTo 10 (ev 9 (pos 0) ∷ []) (kept 10 none none) ∷ [];
+      calls = moving 2 ∷ progress 0 10 ∷ moving 2 ∷ [];
+      answers = said 12 ∷ said 0 ∷ said 0 ∷ [];
+      reached = 10 ∷ 20 ∷ 21 ∷ [];
+      keeps = kept 10 none none;
+      holds = ev 9 (pos 0) ∷ [];
+    }
+    -- a has 5 there: it fires at 9 + 5
+    ∷ record {
+      state = inputTo 10 (ev 9 (pos 5) ∷ []) ∷ inputTo 20 [] ∷ delayTo 10 (ev 9 (pos 0) ∷ []) (kept 10 none none) ∷ [];
+      calls = moving 2 ∷ moving 2 ∷ [];
+      answers = said 0 ∷ said 12 ∷ [];
+      reached = 10 ∷ 20 ∷ 15 ∷ [];
+      keeps = kept 15 none none;
+      holds = ev 9 (pos 0) ∷ ev 14 (pos 0) ∷ [];
     }
     -- what is kept stands for all set points below the bound: the one at 3, whose event of a would lead to 11, is not looked at
     ∷ record {
