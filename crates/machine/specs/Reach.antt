@@ -35,7 +35,8 @@ limit (two g _ _) o a b = min (a .bound) (b .bound)
 limit (last _ _) o a b = b .bound
 limit (delay _ _) o a b = min (suc (b .bound)) horizon
 
--- one past a delay's latest set point below t, if the delay itself has no event from its bound on
+-- one past a delay's latest set point below t, if the delay itself has no event from its bound on. Its own held events
+-- are counted in `since`: `point-own` in crates/encoding/proofs/Points.antt.
 unfoldable pub point : (o b : Cell) → ℕ → ℕ
 unfolding pastLatest
 point o b t = max (o .kept .since) (pastLatest (view b) t)

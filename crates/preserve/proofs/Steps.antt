@@ -6,23 +6,26 @@ use mathlib.Core.Option.{Option, none, some}
 use mathlib.Core.List.{List, [], _∷_, _++_, map, append-nil}
 use native.Mathlib.Omega.{arith}
 use native.Mathlib.Decide.{decLt}
-use lib.Dec.{ltb, eqb}
+use lib.Dec.{T, leb, ltb, eqb}
 use lib.IntN.{ℤ}
 use lib.ListN.{length, getD, length-set, length-map, length-append, set}
-use lib.Seq.{ext-getD}
-use borrow.Author.Tests.{ltb-true, eqb-true, eq-eqb}
+use lib.Seq.{ext-getD, set-set}
+use borrow.Author.Tests.{ltb-true, leb-true, eqb-true, eq-eqb}
 use Rattle.meaning.specs.Plan.{Eqn, input, nil, unit, one, two, last, delay, reads, argA, argB}
-use Rattle.meaning.specs.Events.{Event, ev, horizon}
+use Rattle.meaning.specs.Events.{Event, ev, found, has, horizon}
 use Rattle.meaning.specs.Table.{latest}
 use Rattle.meaning.specs.Cycle.{Acyclic}
-use Rattle.machine.specs.State.{Kept, Cell, State, absent, cellAt, room, planOf, withBound, withHeld, withNext, withKept}
+use Rattle.meaning.proofs.Tests.{eqb-self}
+use Rattle.machine.specs.State.{Kept, Cell, State, absent, cellAt, room, planOf, withBound, withHeld, withNext, withKept, withSince, withValue}
 use Rattle.machine.specs.Reach.{view, valueAt}
 use Rattle.machine.specs.Step.{advance, later, absorb, absorbed, write, valueTold, priorTold, sinceTold, keptTold, told, tell, leastWaiting, dropBelow, release, releases, raise}
+use Rattle.operators.specs.Operators.{eqnGroup, isDelay}
 use Rattle.machine.proofs.Cells.{set-cases, told-at}
-use Rattle.machine.proofs.Window.{past-le}
+use Rattle.machine.proofs.Window.{past-le, past-max}
 use Rattle.machine.proofs.Rising.{drop-shorter}
 use Rattle.machine.proofs.Release.{among, release-at, release-size, releases-at, releases-size}
-use Rattle.encoding.specs.Sound.{IsValue, Rising, IsNext, DelayKept, IsKept, SoundCell, Sound}
+use Rattle.encoding.specs.Sound.{IsValue, Rising, IsNext, DelayKept, IsKept, SoundCell, Own, Sound}
+use Rattle.encoding.proofs.Points.{held-below}
 use Rattle.preserve.proofs.Values.{or-value, cond-value, latest-value, Holds, holds}
 
 -- ---- a state with the same equations, every cell sound
@@ -37,20 +40,22 @@ plan-same M N l h =
     at (c ∷ K) zero = refl
     at (c ∷ K) (suc i) = at K i
 
-pub sound-again : {cap : ℕ} (M N : State) → Sound cap M → length N ≡ length M → ((i : ℕ) → cellAt N i .eqn ≡ cellAt M i .eqn) → ((i : ℕ) → i < length M → SoundCell (length M) (cellAt N i)) → Sound cap N
-sound-again M N ok l q h = record {
+pub sound-again : {cap : ℕ} (M N : State) → Sound cap M → length N ≡ length M → ((i : ℕ) → cellAt N i .eqn ≡ cellAt M i .eqn) → ((i : ℕ) → i < length M → SoundCell (length M) (cellAt N i)) → ((i : ℕ) → i < length M → Own (cellAt N i)) → Sound cap N
+sound-again M N ok l q h w = record {
   some = rw l (ok .some);
   few = rw l (ok .few);
   each = λ i k. rw l (h i (rw l at k));
+  own = λ i k. w i (rw l at k);
   acyclic = subst Acyclic (sym (plan-same M N l q)) (ok .acyclic);
 }
 
 -- one cell written
-pub set-sound : {cap : ℕ} (M : State) (s : ℕ) (c : Cell) → Sound cap M → s < length M → c .eqn ≡ cellAt M s .eqn → SoundCell (length M) c → Sound cap (set M s c)
-set-sound M s c ok l q h =
+pub set-sound : {cap : ℕ} (M : State) (s : ℕ) (c : Cell) → Sound cap M → s < length M → c .eqn ≡ cellAt M s .eqn → SoundCell (length M) c → Own c → Sound cap (set M s c)
+set-sound M s c ok l q h w =
     sound-again M (set M s c) ok (length-set M s c)
     (set-cases (λ i d. d .eqn ≡ cellAt M i .eqn) M s c l (λ i n. refl) q)
     (set-cases (λ i d. i < length M → SoundCell (length M) d) M s c l (λ i n k. ok .each i k) (λ k. h))
+    (set-cases (λ i d. i < length M → Own d) M s c l (λ i n k. ok .own i k) (λ k. w))
 
 -- ---- rising events
 
@@ -84,15 +89,21 @@ dropped-sound : (n w : ℕ) (c : Cell) (b : Bool) → SoundCell n c → SoundCel
 dropped-sound n w c true ok = let d = drop-shorter w (c .held) in let f = ok .few in held-sound n c (dropBelow w (c .held)) ok (omega arith) (rising-drop w 0 (c .bound) (c .held) (ok .held))
 dropped-sound n w c false ok = held-sound n c (c .held) ok (ok .few) (ok .held)
 
+dropped-own : (w : ℕ) (c : Cell) (b : Bool) → Own c → Own (withHeld (cond b (dropBelow w (c .held)) (c .held)) c)
+dropped-own w c true own d = rising-drop w 0 (c .kept .since) (c .held) (own d)
+dropped-own w c false own d = own d
+
 pub release-sound : {cap : ℕ} (s : ℕ) (M : State) → Sound cap M → Sound cap (release s M)
 release-sound s M ok =
     sound-again M (release s M) ok (release-size s M) (λ i. ap (λ c. c .eqn) (release-at s M i))
     (λ i k. rw (release-at s M i) (dropped-sound (length M) (leastWaiting i M) (cellAt M i) (eqb i s) (ok .each i k)))
+    (λ i k. rw (release-at s M i) (dropped-own (leastWaiting i M) (cellAt M i) (eqb i s) (ok .own i k)))
 
 pub releases-sound : {cap : ℕ} (ss : List ℕ) (M : State) → Sound cap M → Sound cap (releases ss M)
 releases-sound ss M ok =
     sound-again M (releases ss M) ok (releases-size ss M) (λ i. ap (λ c. c .eqn) (releases-at ss M i))
     (λ i k. rw (releases-at ss M i) (dropped-sound (length M) (leastWaiting i M) (cellAt M i) (among i ss) (ok .each i k)))
+    (λ i k. rw (releases-at ss M i) (dropped-own (leastWaiting i M) (cellAt M i) (among i ss) (ok .own i k)))
 
 -- ---- told
 
@@ -128,11 +139,11 @@ module _ (y t : ℕ) (v : ℤ) (l : t < y) (hv : IsValue v) where
       }
 
   since-kept : (p : Bool) (k : Kept) → DelayKept y k → DelayKept y (sinceTold p y t k)
-  since-kept p k ok = go (p && eqb y (t + 1))
+  since-kept p k ok = go (p && leb (k .since) t)
     where
-      go : (b : Bool) → DelayKept y (record { prev = k .prev; since = cond b y (k .since); value = cond b (k .prior) (k .value); prior = k .prior })
-      go true = record { prev = ok .prev; since = omega arith; value = ok .prior; prior = ok .prior; unset = λ z. absurd (omega (arith, l)); fresh = ok .fresh }
-      go false = record { prev = ok .prev; since = ok .since; value = ok .value; prior = ok .prior; unset = ok .unset; fresh = ok .fresh }
+      go : (b : Bool) → DelayKept y (cond b (withSince (t + 1) (withValue (cond (eqb y (t + 1)) (k .prior) none) k)) k)
+      go true = record { prev = ok .prev; since = omega (arith, l); value = cond-value (eqb y (t + 1)) (k .prior) none (ok .prior) tt; prior = ok .prior; unset = λ z. absurd (omega arith); fresh = ok .fresh }
+      go false = ok
 
   kept-told : (e : Eqn) (s : ℕ) (k : Kept) → IsKept e y k → IsKept e y (keptTold e s y t v k)
   kept-told input s k ok = ok
@@ -142,6 +153,33 @@ module _ (y t : ℕ) (v : ℤ) (l : t < y) (hv : IsValue v) where
   kept-told (two g a b) s k ok = ok
   kept-told (last a b) s k ok = record { prev = cond-value (eqb a s) (some v) (k .prev) hv (ok .prev); fresh = λ z. absurd (omega (arith, l)); since = ok .since; value = ok .value; prior = ok .prior }
   kept-told (delay a b) s k ok = since-kept (eqb b s) (priorTold (eqb a s) y t v (valueTold (eqb a s) t v k)) (prior-kept (eqb a s) (valueTold (eqb a s) t v k) (value-kept (eqb a s) k ok))
+
+-- `since` never falls
+since-up : (p : Bool) (y t : ℕ) (k : Kept) → k .since ≤ sinceTold p y t k .since
+since-up p y t k = go (p && leb (k .since) t) refl
+  where
+    go : (b : Bool) → (p && leb (k .since) t) ≡ b → k .since ≤ cond b (withSince (t + 1) (withValue (cond (eqb y (t + 1)) (k .prior) none) k)) k .since
+    go true e = let h = leb-true (k .since) t (and-true p (leb (k .since) t) e .1) in omega arith
+    go false e = omega arith
+
+told-own : (e : Eqn) (s y t : ℕ) (v : ℤ) (k : Kept) (es : List Event) → (T (isDelay (eqnGroup e)) → Rising 0 (k .since) es) → T (isDelay (eqnGroup e)) → Rising 0 (keptTold e s y t v k .since) es
+told-own input s y t v k es own d = absurd d
+told-own nil s y t v k es own d = absurd d
+told-own unit s y t v k es own d = absurd d
+told-own (one f a) s y t v k es own d = absurd d
+told-own (two g a b) s y t v k es own d = absurd d
+told-own (last a b) s y t v k es own d = absurd d
+told-own (delay a b) s y t v k es own d =
+    let x = priorTold (eqb a s) y t v (valueTold (eqb a s) t v k) in
+    rising-top 0 (k .since) (sinceTold (eqb b s) y t x .since) es (since-up (eqb b s) y t x) (own d)
+
+own-told : (s t : ℕ) (v : ℤ) (c : Cell) → Own c → Own (told s t v c)
+unfolding told
+own-told s t v c own = go (ltb t (c .bound))
+  where
+    go : (b : Bool) → Own (withKept (cond b (keptTold (c .eqn) s (c .bound) t v (c .kept)) (c .kept)) c)
+    go true d = told-own (c .eqn) s (c .bound) t v (c .kept) (c .held) own d
+    go false d = own d
 
 with-kept : (n : ℕ) (c : Cell) (k : Kept) → SoundCell n c → IsKept (c .eqn) (c .bound) k → SoundCell n (withKept k c)
 with-kept n c k ok h = record { arguments = ok .arguments; value = ok .value; out = ok .out; bound = ok .bound; few = ok .few; held = ok .held; next = ok .next; kept = h }
@@ -165,6 +203,7 @@ tell-sound s (e ∷ es) M h ok =
     sound-again M (map (told s (e .stamp) (e .value)) M) ok (length-map M (told s (e .stamp) (e .value)))
     (λ i. ap (λ c. c .eqn) (told-at s (e .stamp) (e .value) M i) ∙ (unfold told in refl))
     (λ i k. rw (told-at s (e .stamp) (e .value) M i) (told-sound (length M) s (e .stamp) (e .value) (cellAt M i) (h .0) (ok .each i k)))
+    (λ i k. rw (told-at s (e .stamp) (e .value) M i) (own-told s (e .stamp) (e .value) (cellAt M i) (ok .own i k)))
 
 -- ---- written
 
@@ -233,6 +272,27 @@ absorb-kept (delay _ _) o a b z ok ha =
       fresh = λ q. absurd (omega arith);
     }
 
+-- of a stream that is written, the new event counts in `since` with the others
+rising-past : (lo top z : ℕ) (es : List Event) → Rising lo top es → lo ≤ z → ((p : ℕ) → T (has (found es p)) → p < z) → Rising lo z es
+rising-past lo top z [] r l h = l
+rising-past lo top z (e ∷ es) r l h =
+    (r .0, r .1, rising-past (suc (e .stamp)) top z es (r .2) (h (e .stamp) (rw (eqb-self (e .stamp)) tt)) (λ p k. h p (later-has (eqb (e .stamp) p) p k)))
+  where
+    later-has : (b : Bool) (p : ℕ) → T (has (found es p)) → T (has (cond b (some (e .value)) (found es p)))
+    later-has true p k = tt
+    later-has false p k = k
+
+absorb-own : (e : Eqn) (o a b : Cell) → Rising 0 (o .bound) (o .held) → T (isDelay (eqnGroup e)) → Rising 0 (absorb e o a b .since) (o .held)
+absorb-own input o a b r d = absurd d
+absorb-own nil o a b r d = absurd d
+absorb-own unit o a b r d = absurd d
+absorb-own (one f _) o a b r d = absurd d
+absorb-own (two g _ _) o a b r d = absurd d
+absorb-own (last _ _) o a b r d = absurd d
+absorb-own (delay _ _) o a b r d =
+    rising-past 0 (o .bound) (later o b) (o .held) r (omega arith)
+    (λ p k. let m = past-max (view o) (o .bound) p (held-below 0 (o .bound) (o .held) r p k) k in omega arith)
+
 absent-holds : Holds absent
 absent-holds t = tt
 
@@ -248,14 +308,15 @@ unfolding write absorbed
 write-sound s y new M ok l h top cm =
     let c = advance y new (cellAt M s) in
     let N = set M s c in
-    let okN = set-sound M s c ok l refl (advance-sound (length M) y (cellAt M s) new (ok .each s l) h top cm) in
-    let lN : s < length N = rw (length-set M s c) l in
+    let fine = advance-sound (length M) y (cellAt M s) new (ok .each s l) h top cm in
     let q : cellAt N s ≡ c = lib.Seq.getD-set-same M s c absent l in
-    let o = cellAt N s in
-    let z : 0 < o .bound = rw q (omega arith) in
-    set-sound N s (withKept (absorb (o .eqn) o (cellAt N (argA (o .eqn))) (cellAt N (argB (o .eqn)))) o) okN lN refl
-    (with-kept (length N) o (absorb (o .eqn) o (cellAt N (argA (o .eqn))) (cellAt N (argB (o .eqn)))) (okN .each s lN)
-    (absorb-kept (o .eqn) o (cellAt N (argA (o .eqn))) (cellAt N (argB (o .eqn))) z (okN .each s lN .kept) (cell-holds N okN (argA (o .eqn)))))
+    let e = c .eqn in
+    let k = absorb e c (cellAt N (argA e)) (cellAt N (argB e)) in
+    let all = set-cases (λ i. Holds) M s c l (λ i n. cell-holds M ok i) (holds (length M) c fine) in
+    let sound = set-sound M s (withKept k c) ok l refl
+    (with-kept (length M) c k fine (absorb-kept e c (cellAt N (argA e)) (cellAt N (argB e)) (omega arith) (fine .kept) (all (argA e))))
+    (absorb-own e c (cellAt N (argA e)) (cellAt N (argB e)) (fine .held)) in
+    rw (q, set-set M s c (withKept k c)) sound
 
 -- the whole step
 pub raise-sound : {cap : ℕ} (s y : ℕ) (new : List Event) (M : State) → Sound cap M → s < length M → cellAt M s .bound < y → y ≤ horizon → Comes y (cellAt M s) new → Sound cap (raise s y new M)
@@ -271,6 +332,7 @@ bound-sound s y M ok l e h top =
     let k = ok .each s l in
     set-sound M s (withBound y c) ok l refl
     (record { arguments = k .arguments; value = k .value; out = k .out; bound = top; few = k .few; held = rising-top 0 (c .bound) y (c .held) h (k .held); next = next-up (c .out) (c .next) (c .bound) y h (k .next); kept = rw e (rw e at (k .kept)) })
+    (λ d. absurd (rw e at d))
 
 -- a mark of collection
 pub next-sound : {cap : ℕ} (s n : ℕ) (M : State) → Sound cap M → s < length M → cellAt M s .out ≡ true → n ≤ cellAt M s .bound → Sound cap (set M s (withNext n (cellAt M s)))
@@ -279,3 +341,4 @@ next-sound s n M ok l e h =
     let k = ok .each s l in
     set-sound M s (withNext n c) ok l refl
     (record { arguments = k .arguments; value = k .value; out = k .out; bound = k .bound; few = k .few; held = k .held; next = rw e h; kept = k .kept })
+    (ok .own s l)

@@ -27,7 +27,7 @@ use Rattle.layout.specs.Record.{Raw, Raws, noRaw, encRaw, decRaw, encode, decod
 use Rattle.layout.proofs.Laws.{RawOk, RawsOk, raw-len, encode-decode, decode-encode, row-at, rows-many}
 use Rattle.encoding.specs.View.{ofCell, rawsOf, bytesOf}
 use Rattle.encoding.specs.Back.{toCell, stateOf}
-use Rattle.encoding.specs.Sound.{SoundCell, Sound}
+use Rattle.encoding.specs.Sound.{SoundCell, Own, Sound}
 use Rattle.encoding.proofs.Widths.{cell-raw, cell-back}
 use Rattle.valid.specs.Valid.{rowOk, allRows, streamsIn, count, planIn, valid}
 use Rattle.valid.proofs.Tests.{left, right}
@@ -35,7 +35,7 @@ use Rattle.valid.proofs.Link.{rows-at, count-few, count-fits}
 use Rattle.roundtrip.proofs.Passes.{row-passes, zeros-zero}
 use Rattle.roundtrip.proofs.Tail.{zero-list}
 use Rattle.roundtrip.proofs.Back.{row-facts}
-use Rattle.roundtrip.proofs.Rows.{row-back, row-sound}
+use Rattle.roundtrip.proofs.Rows.{row-back, row-sound, row-own}
 
 -- ---- from bytes to states
 
@@ -138,6 +138,9 @@ module _ (s : List ℕ) (b : Bytes s) (ok : valid s ≡ true) where
         each = λ i h.
             let k : i < count s = omega arith in
             rw n (rw (cell-at i k) (row-sound (count s) (part s (i * 256) 256) (row-part i k) (row-bytes i) (row-facts (count s) (part s (i * 256) 256) (facts-at i k))));
+        own = λ i h.
+            let k : i < count s = omega arith in
+            rw (cell-at i k) (row-own (count s) (part s (i * 256) 256) (row-part i k) (row-bytes i) (row-facts (count s) (part s (i * 256) 256) (facts-at i k)));
         acyclic = test-sound (capacity (length s)) (planIn (count s) s) (f .acyclic);
       }
 
@@ -277,13 +280,13 @@ module _ (size : ℕ) (M : State) (ok : Sound (capacity size) M) where
       let n : length M ≡ 0 → ⊥ = λ q. let h = ok .some in omega arith in
       let rows : allRows (rowOk (length M)) (length M) (bytesOf size M) ≡ true =
       ap (allRows (rowOk (length M)) (length M)) bytes-are
-      ∙ rows-pass (rowOk (length M)) M (replicate (size - length M * 256) 0) (all-rows′ M cells) in
+      ∙ rows-pass (rowOk (length M)) M (replicate (size - length M * 256) 0) (all-rows′ M cells (all-cells Own M (ok .own))) in
       let zeros : allZero (drop (length M * 256) (bytesOf size M)) ≡ true =
       ap (λ (l : List ℕ). allZero (drop (length M * 256) l)) bytes-are
       ∙ ap allZero (drop-at (rowsOf M) (replicate (size - length M * 256) 0) (length M * 256) rows-length) ∙ zeros-zero (size - length M * 256) in
       let cyc : acyclic (capacity (length (bytesOf size M))) (planIn (length M) (bytesOf size M)) ≡ true = ap₂ (λ (x : ℕ) (N : State). acyclic (capacity x) (planOf N)) bytes-length bytes-state ∙ test-passes in
       rw (room, bytes-count, ne-eqb (length M) 0 n, rows, zeros) cyc
     where
-      all-rows′ : (N : State) → All (SoundCell (length M)) N → All (λ c. rowOk (length M) (encRaw (ofCell c)) ≡ true) N
-      all-rows′ [] h = tt
-      all-rows′ (c ∷ N) h = (row-passes (length M) c small (h .0), all-rows′ N (h .1))
+      all-rows′ : (N : State) → All (SoundCell (length M)) N → All Own N → All (λ c. rowOk (length M) (encRaw (ofCell c)) ≡ true) N
+      all-rows′ [] h w = tt
+      all-rows′ (c ∷ N) h w = (row-passes (length M) c small (h .0) (w .0), all-rows′ N (h .1) (w .1))
