@@ -1,3 +1,5 @@
 pub mod Replay
 pub mod Rank
 pub mod Session
+pub mod Whole
+pub mod Truth
