@@ -4,18 +4,30 @@ use mathlib.Core.Path.{_≡_}
 use mathlib.Core.List.{List, [], _∷_, _++_}
 use lib.ListN.{length, drop}
 use Rattle.operators.specs.Limits.{capacity}
+use Rattle.engine.specs.Reply.{reply}
 use Rattle.engine.specs.Load.{loadReply}
 use Rattle.trace.specs.declared.Record.{Record}
 use Rattle.trace.specs.declared.Line.{Line}
 use Rattle.trace.specs.declared.Line.the-variants.{Read, Bad}
 use Rattle.trace.specs.Trace.{line}
 use Rattle.printer.specs.Print.{refusedText}
+use Rattle.replaying.specs.Replay.{callOf, refusal}
 use Rattle.replaying.specs.Session.{Replays}
 
 -- the number of what reading a line finds
 abbrev pub lineNumber : Line → ℕ
 lineNumber (Read r next) = 0
 lineNumber Bad = 16
+
+-- what is printed of a line, on a state, and the state that it leaves: "Each record goes on to an offer only where its line could
+-- be read"
+abbrev pub lineText : Line → List ℕ → List ℕ
+lineText (Read r next) s = refusal (reply (callOf r) s .number)
+lineText Bad s = refusedText (lineNumber Bad)
+
+abbrev pub lineState : Line → List ℕ → List ℕ
+lineState (Read r next) s = reply (callOf r) s .buffer
+lineState Bad s = s
 
 -- a trace, the records of its first lines in their order, and what stands behind those lines
 pub data Lines : List ℕ → List Record → List ℕ → Type 0 where
