@@ -69,7 +69,7 @@ between-more {text = text} {at} {last} {p = p} inside whole x r next e fits z =
 pub between-bad : {n : ℕ} {text : List ℕ} {at : ℕ} {last : Bool} {s : List ℕ} {p : ℕ} {t u : List ℕ} → p < length text → Whole text p last → Between n text at last s p t
     → line text p ≡ found.Bad → u ≡ t → Through n text at last s Bad u
 between-bad {n} {text} {at} {last} {s} {p} inside whole x e z =
-    (p, subst (Between n text at last s p) (sym z) x, λ rest f. (refusedText (lineNumber found.Bad), stops rest (window-bad text p rest (omega arith) (enough text p whole f) e)))
+    (p, inside, subst (Between n text at last s p) (sym z) x, λ rest f. (refusedText (lineNumber found.Bad), stops rest (window-bad text p rest (omega arith) (enough text p whole f) e)))
   where
     stops : (rest : List ℕ) → line (drop p text ++ rest) 0 ≡ found.Bad → Stops (drop p text ++ rest) (refusedText (lineNumber found.Bad))
     stops rest = rw (drop-cons text p 0 inside) (λ q. bad q)
@@ -109,8 +109,9 @@ module _ (old buffer : List ℕ) (left filled : ℕ) (order : left ≤ filled) (
       )
 
   -- nothing follows
-  ended : {n : ℕ} {s : List ℕ} {last : Bool} {p : ℕ} {t v : List ℕ} → Between n (take filled buffer) 0 last s p t → Stops (drop p (take filled buffer) ++ []) v → Ended n old s t
-  ended {p = p} {v = v} b x =
+  ended : {n : ℕ} {s : List ℕ} {last : Bool} {p : ℕ} {t v : List ℕ} → Between n (take filled buffer) 0 last s p t → Stops (drop p (take filled buffer) ++ []) v
+      → (drop p (take filled buffer) ++ [] ≡ [] → filled < length buffer) → Ended n old s (length buffer) t
+  ended {p = p} {v = v} b x short =
       record {
         brought = drop left (take filled buffer);
         records = b .records;
@@ -118,15 +119,19 @@ module _ (old buffer : List ℕ) (left filled : ℕ) (order : left ≤ filled) (
         offered = b .offered;
         lines = subst (λ (l : List ℕ). Lines l (b .records) (drop p (take filled buffer) ++ [])) (append-nil (take filled buffer) ∙ is) (b .lines [] (λ q. refl));
         stops = (v, x);
+        short = λ q. let h = short q in omega (arith, ap length is, size);
       }
 
-  pub bad-ended : {n : ℕ} {s : List ℕ} {last : Bool} {t : List ℕ} → Through n (take filled buffer) 0 last s Bad t → Ended n old s t
-  bad-ended x = ended (x .1) (x .2 [] (λ q. refl) .1)
+  pub bad-ended : {n : ℕ} {s : List ℕ} {last : Bool} {t : List ℕ} → Through n (take filled buffer) 0 last s Bad t → Ended n old s (length buffer) t
+  bad-ended x =
+      let l = x .1 in
+      ended (x .2) (x .3 [] (λ q. refl) .1)
+      (λ q. absurd (omega (arith, ap length (sym (append-nil (drop (x .0) (take filled buffer))) ∙ q), length-drop (x .0) (take filled buffer))))
 
-  pub last-ended : {n : ℕ} {s : List ℕ} {last : Bool} {p : ℕ} {t : List ℕ} → last ≡ true → Through n (take filled buffer) 0 last s (Before p) t → Ended n old s t
-  last-ended {p = p} q x =
+  pub last-ended : {n : ℕ} {s : List ℕ} {last : Bool} {p : ℕ} {t : List ℕ} → last ≡ true → filled < length buffer → Through n (take filled buffer) 0 last s (Before p) t → Ended n old s (length buffer) t
+  last-ended {p = p} q short x =
       let e : drop p (take filled buffer) ++ [] ≡ [] = append-nil (drop p (take filled buffer)) ∙ ap (λ (k : ℕ). drop k (take filled buffer)) (x .1 q) ∙ drop-length (take filled buffer) in
-      ended (x .3) (subst (λ (l : List ℕ). Stops l []) (sym e) end)
+      ended (x .3) (subst (λ (l : List ℕ). Stops l []) (sym e) end) (λ r. short)
 
 pub onward-none : (n : ℕ) (s old : List ℕ) → old ≡ [] → Onward n [] s old s
 onward-none n s old e = record { brought = []; records = []; offered = played.none; lines = λ rest. subst (λ (l : List ℕ). Lines rest [] (l ++ rest)) (sym e) none }
@@ -146,7 +151,7 @@ onward-then {old = old} {new = new} x y =
 pub onward-trailed : {n : ℕ} {s new t : List ℕ} → Onward n [] s new t → Trailed n s false t
 onward-trailed {new = new} x = record { trace = x .brought ++ []; records = x .records; rest = new ++ []; lines = x .lines []; offered = x .offered; stops = λ q. absurd (true≢false (sym q)) }
 
-pub ended-trailed : {n : ℕ} {s mid t u : List ℕ} → Onward n [] s mid t → Ended n mid t u → Trailed n s true u
+pub ended-trailed : {n : ℕ} {s mid t : List ℕ} {size : ℕ} {u : List ℕ} → Onward n [] s mid t → Ended n mid t size u → Trailed n s true u
 ended-trailed x y =
     record {
       trace = x .brought ++ y .brought;

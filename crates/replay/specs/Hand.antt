@@ -31,24 +31,25 @@ pub record Between (n : ℕ) (text : List ℕ) (at : ℕ) (last : Bool) (s : Lis
 -- can have; or to a bad line
 abbrev pub Through : (n : ℕ) (text : List ℕ) (at : ℕ) (last : Bool) → List ℕ → Stop → List ℕ → Type 0
 Through n text at last s (Before p) t = (p ≤ length text) × (last ≡ true → p ≡ length text) × (length text - p < longest) × Between n text at last s p t
-Through n text at last s Bad t = (p : ℕ) × Between n text at last s p t × ((more : List ℕ) → Follow last more → (v : List ℕ) × Stops (drop p text ++ more) v)
+Through n text at last s Bad t = (p : ℕ) × (p < length text) × Between n text at last s p t × ((more : List ℕ) → Follow last more → (v : List ℕ) × Stops (drop p text ++ more) v)
 
--- from the bytes in hand: what was read comes behind them, the lines that were replayed go, and the rest is in hand; or the trace
--- was gone through
+-- from the bytes in hand: what was read comes behind them, the lines that were replayed go, and the rest is in hand
 pub record Onward (n : ℕ) (old s new t : List ℕ) : Type 0 where
   pub brought : List ℕ
   pub records : List Record
   pub offered : Offered n s records t
   pub lines : (more : List ℕ) → Lines (old ++ (brought ++ more)) records (new ++ more)
 
-pub record Ended (n : ℕ) (old s t : List ℕ) : Type 0 where
+-- or the trace was gone through: up to a bad line, or to its end, since what was read did not fill a buffer of this size
+pub record Ended (n : ℕ) (old s : List ℕ) (size : ℕ) (t : List ℕ) : Type 0 where
   pub brought : List ℕ
   pub records : List Record
   pub rest : List ℕ
   pub offered : Offered n s records t
   pub lines : Lines (old ++ brought) records rest
   pub stops : (v : List ℕ) × Stops rest v
+  pub short : rest ≡ [] → length (old ++ brought) < size
 
 abbrev pub Advances : (n : ℕ) → List ℕ → List ℕ → Left → List ℕ → List ℕ → Type 0
 Advances n old s (Part from end) buffer t = (from ≤ end) × (end ≤ length buffer) × Onward n old s (hand buffer from end) t
-Advances n old s Done buffer t = Ended n old s t
+Advances n old s Done buffer t = Ended n old s (length buffer) t

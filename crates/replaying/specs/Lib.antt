@@ -3,3 +3,4 @@ pub mod Rank
 pub mod Session
 pub mod Whole
 pub mod Truth
+pub mod Cases

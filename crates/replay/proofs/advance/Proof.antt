@@ -1,3 +1,5 @@
+use lib.ListN.{length}
+use borrow.Author.Tests.{ltb-true}
 use mathlib.Core.Path.{sym}
 use Prim.Native.Nat.{_-_}
 use denote.Ref.{now}
@@ -59,7 +61,7 @@ same-length-4 c = search needs
 
 -- src/main.rt:118:9
 returns-2 : tie.Need-returns-2
-returns-2 c = last-ended (hand (now (c .before .before .before .before .before .before .before .before .before .before .before .before .before .before .before .args .buffer)) (c .before .before .before .before .before .before .before .before .before .before .before .before .before .before .before .args .from) (c .before .before .before .before .before .before .before .before .before .before .before .before .before .before .before .args .end)) (c .before .before .before .before .before .before .before .before .before .before .before .ready .last .1 .0) (c .before .before .before .before .before .before .before .before .before .before .before .before .before .before .before .args .end - c .before .before .before .before .before .before .before .before .before .before .before .before .before .before .before .args .from) (c .before .before .before .before .before .before .before .before .before .before .before .ready .result) (c .before .before .before .before .before .before .before .before .before .before .before .ready .ensures .0 .0) (c .before .before .before .before .before .before .before .before .before .before .before .ready .ensures .0 .1) (c .before .before .before .before .before .before .before .before .before .before .before .ready .ensures .1) (c .if1 .taken) (rw (c .before .before .p .given .1) at (c .before .before .before .before .before .before .replay-lines .ensures))
+returns-2 c = last-ended (hand (now (c .before .before .before .before .before .before .before .before .before .before .before .before .before .before .before .args .buffer)) (c .before .before .before .before .before .before .before .before .before .before .before .before .before .before .before .args .from) (c .before .before .before .before .before .before .before .before .before .before .before .before .before .before .before .args .end)) (c .before .before .before .before .before .before .before .before .before .before .before .ready .last .1 .0) (c .before .before .before .before .before .before .before .before .before .before .before .before .before .before .before .args .end - c .before .before .before .before .before .before .before .before .before .before .before .before .before .before .before .args .from) (c .before .before .before .before .before .before .before .before .before .before .before .ready .result) (c .before .before .before .before .before .before .before .before .before .before .before .ready .ensures .0 .0) (c .before .before .before .before .before .before .before .before .before .before .before .ready .ensures .0 .1) (c .before .before .before .before .before .before .before .before .before .before .before .ready .ensures .1) (c .if1 .taken) (ltb-true (c .before .before .before .before .before .before .before .before .before .before .before .ready .result) (length (c .before .before .before .before .before .before .before .before .before .before .before .ready .last .1 .0)) (c .if1 .taken)) (rw (c .before .before .p .given .1) at (c .before .before .before .before .before .before .replay-lines .ensures))
 
 -- src/main.rt:108:1
 same-length-5 : tie.Need-same-length-5
