@@ -9,7 +9,8 @@ use lib.ListN.{length, getD, set, length-set}
 use lib.Seq.{getD-set-same, getD-set-other}
 use lib.Dec.{eqb}
 use borrow.Author.Tests.{eq-eqb, eqb-true, eqb-false}
-use Rattle.meaning.specs.Plan.{Plan, eqnAt, undelayed, AllBelow}
+use Rattle.meaning.specs.Plan.{Plan, eqnAt}
+use Rattle.meaning.specs.Arguments.{undelayed, AllBelow}
 use Rattle.meaning.specs.CycleTest.{Marks, then-marked, visits, visit, downFrom, isSome, acyclic}
 use Rattle.meaning.specs.CycleTest as CycleTest
 use Rattle.operators.specs.Limits.{mostStreams}

@@ -11,7 +11,8 @@ use lib.ListN.{length, take}
 use mir.Syntax.{w64}
 use mir.Val.{ofZ, toZ}
 use mir.Facts.{toZ-ofZ}
-use Rattle.meaning.specs.Plan.{Eqn, input, nil, unit, one, two, last, delay, reads, argA, argB, AllBelow}
+use Rattle.meaning.specs.Plan.{Eqn, input, nil, unit, one, two, last, delay}
+use Rattle.meaning.specs.Arguments.{reads, argA, argB, AllBelow}
 use Rattle.meaning.specs.Events.{Event, ev, horizon}
 use Rattle.machine.specs.State.{Kept, Cell, room}
 use Rattle.operators.specs.Operators.{groupOf, numberOf, valueOf, eqnOf}

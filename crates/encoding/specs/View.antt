@@ -7,7 +7,8 @@ use lib.ListN.{length, replicate}
 use lib.IntN.{ℤ}
 use mir.Syntax.{w64}
 use mir.Val.{ofZ}
-use Rattle.meaning.specs.Plan.{Eqn, argA, argB}
+use Rattle.meaning.specs.Plan.{Eqn}
+use Rattle.meaning.specs.Arguments.{argA, argB}
 use Rattle.meaning.specs.Events.{Event}
 use Rattle.machine.specs.State.{Kept, Cell, State, room}
 use Rattle.operators.specs.Operators.{isLast, isDelay, eqnGroup, numberOf, valueOf}

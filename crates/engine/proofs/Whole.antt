@@ -111,16 +111,16 @@ further ds cs seen b c t k =
     }
 
 -- what is seen of calls made one after the other
-unfoldable pub seenBy : List Call → List ℕ → List Seen
-seenBy [] s = []
-seenBy (c ∷ cs) s = seenIn c (reply c s) ∷ seenBy cs (reply c s .buffer)
+unfoldable pub seenBy : List ℕ → List Call → List Seen
+seenBy s [] = []
+seenBy s (c ∷ cs) = seenIn c (reply c s) ∷ seenBy (reply c s .buffer) cs
 
-calls-kept : (more : List Call) (ds : List Declared) (cs : List Call) (seen : List Seen) (b : List ℕ) → AllTyped more → Kept ds cs seen b → Kept ds (cs ++ more) (seen ++ seenBy more b) (leftBy more b)
+calls-kept : (more : List Call) (ds : List Declared) (cs : List Call) (seen : List Seen) (b : List ℕ) → AllTyped more → Kept ds cs seen b → Kept ds (cs ++ more) (seen ++ seenBy b more) (leftBy b more)
 unfolding seenBy leftBy
 calls-kept [] ds cs seen b t k = rw (append-nil cs, append-nil seen) k
 calls-kept (c ∷ more) ds cs seen b t k =
     let x = seenIn c (reply c b) in
-    rw (append-assoc cs (c ∷ []) more, append-assoc seen (x ∷ []) (seenBy more (reply c b .buffer))) at
+    rw (append-assoc cs (c ∷ []) more, append-assoc seen (x ∷ []) (seenBy (reply c b .buffer) more)) at
     (calls-kept more ds (cs ++ c ∷ []) (seen ++ x ∷ []) (reply c b .buffer) (t .1) (further ds cs seen b c (t .0) k))
 
 -- ---- a history
@@ -174,17 +174,14 @@ next-answer ds cs seen b k c = reply-machine (length b) c (final ds cs) b (k .so
 next-number : (ds : List Declared) (cs : List Call) (seen : List Seen) (b : List ℕ) → Kept ds cs seen b → (c : Call) → nextNumber ds cs c ≡ reply c b .number
 next-number ds cs seen b k c = sym (ap (λ (y : Reply). y .number) (next-answer ds cs seen b k c))
 
-kept-inside : (x : Course) (b : List ℕ) (cs : List Call) → Kept (x .plan) cs (x .seen) b → Inside x b
-kept-inside x b cs k = of (subst (λ (l : List Call). Kept (x .plan) l (x .seen) b) (sym (k .made)) k)
-  where
-    of : Kept (x .plan) (callsOf (x .seen)) (x .seen) b → Inside x b
-    of k = record {
-      rules = k .rules;
-      bytes = k .bytes;
-      seen = k .logged;
-      answers = next-answer (x .plan) (callsOf (x .seen)) (x .seen) b k;
-      claim = whole-runs (x .plan) (rules-keep (x .plan) (k .rules)) (callsOf (x .seen)) (k .typed);
-    }
+kept-inside : (ds : List Declared) (cs : List Call) (seen : List Seen) (b : List ℕ) → Kept ds cs seen b → Inside ds cs seen b
+kept-inside ds cs seen b k = record {
+  rules = k .rules;
+  bytes = k .bytes;
+  logged = k .logged;
+  answers = next-answer ds cs seen b k;
+  claim = whole-runs ds (rules-keep ds (k .rules)) cs (k .typed);
+}
 
 -- ---- by what is returned
 
@@ -228,7 +225,7 @@ kept-demands x b cs k =
           more = more;
           quiet = r .quiet;
           typed = r .typed;
-          rest = rest-numbers (x .plan) (nextNumber (x .plan) (cs ++ more)) (λ d. reply d (leftBy more b) .number) (next-number (x .plan) (cs ++ more) (x .seen ++ seenBy more b) (leftBy more b) g) (r .rest);
+          rest = rest-numbers (x .plan) (nextNumber (x .plan) (cs ++ more)) (λ d. reply d (leftBy b more) .number) (next-number (x .plan) (cs ++ more) (x .seen ++ seenBy b more) (leftBy b more) g) (r .rest);
         }
 
 -- ---- the theorems
@@ -251,16 +248,19 @@ inside-holds acts t s = go (pointAfter acts s .course) (history-kept acts t s)
   where
     go : (o : Option Course) → KeptIn o (pointAfter acts s .bytes) → InsideAt o (pointAfter acts s .bytes)
     go none k = tt
-    go (some x) k = kept-inside x (pointAfter acts s .bytes) (k .0) (k .1)
+    go (some x) k =
+        let b = pointAfter acts s .bytes in
+        let g = subst (λ (l : List Call). Kept (x .plan) l (x .seen) b) (sym (k .1 .made)) (k .1) in
+        kept-inside (x .plan) (callsOf (x .seen)) (x .seen) b g
 
 -- A load that is done, and any calls after it.
 pub load-then : (text s : List ℕ) → loadReply text s .number ≡ 0 → (cs : List Call) → AllTyped cs
-    → Inside (record { plan = declared (capacity (length (loadReply text s .buffer))) text; seen = seenBy cs (loadReply text s .buffer) }) (leftBy cs (loadReply text s .buffer))
+    → Inside (declared (capacity (length (loadReply text s .buffer))) text) cs (seenBy (loadReply text s .buffer) cs) (leftBy (loadReply text s .buffer) cs)
 load-then text s e cs t =
     let d = load-done text s e in
     let b = loadReply text s .buffer in
     let ds = declared (capacity (length b)) text in
-    kept-inside (record { plan = ds; seen = seenBy cs b }) (leftBy cs b) cs (calls-kept cs ds [] [] b t (start text b (length s) (d .0) (d .1)))
+    kept-inside ds cs (seenBy b cs) (leftBy b cs) (calls-kept cs ds [] [] b t (start text b (length s) (d .0) (d .1)))
 
 -- ---- a copy put back
 

@@ -95,16 +95,16 @@ AllTypedActs (a ∷ acts) = TypedAct a × AllTypedActs acts
 -- ## Demands 2 and 3 of the list x and the bytes b that it left
 
 -- the bytes after some calls more
-unfoldable pub leftBy : List Call → List ℕ → List ℕ
-leftBy [] s = s
-leftBy (c ∷ cs) s = leftBy cs (reply c s .buffer)
+unfoldable pub leftBy : List ℕ → List Call → List ℕ
+leftBy s [] = s
+leftBy s (c ∷ cs) = leftBy (reply c s .buffer) cs
 
 -- some runs and collections more end at rest, so that what holds at rest is not empty
 pub record RestAhead (ds : List Declared) (b : List ℕ) : Type 0 where
   pub more : List Call
   pub quiet : AllQuiet more
   pub typed : AllTyped more
-  pub rest : AtRest ds (λ c. reply c (leftBy more b) .number)
+  pub rest : AtRest ds (λ c. reply c (leftBy b more) .number)
 
 pub record Demands (x : Course) (b : List ℕ) : Type 1 where
   -- the plan keeps the written rules

@@ -4,7 +4,7 @@ use mathlib.Core.Path.{_≡_}
 use mathlib.Core.Option.{Option, none, some}
 use mathlib.Core.List.{List, map}
 use lib.ListN.{length}
-use Rattle.machine.specs.State.{loaded}
+use Rattle.machine.specs.State.{Declared, loaded}
 use Rattle.machine.specs.Calls.{Call, call}
 use Rattle.runs.specs.Seen.{Seen}
 use Rattle.runs.specs.History.{log}
@@ -16,21 +16,21 @@ use Rattle.calls.specs.Reply.{replyOf}
 use Rattle.engine.specs.Reply.{reply}
 use Rattle.engine.specs.Demands.{Course}
 
--- the calls of a list, and the machine's state after them
+-- the calls of a list
 abbrev pub callsOf : List Seen → List Call
 callsOf seen = map (λ y. y .made) seen
 
--- of a list of calls and the bytes that it left
-pub record Inside (x : Course) (b : List ℕ) : Type 1 where
-  pub rules : KeepsRules (capacity (length b)) (x .plan)
+-- of the calls cs after a load of the streams ds, what was seen of them, and the bytes that they left
+pub record Inside (ds : List Declared) (cs : List Call) (seen : List Seen) (b : List ℕ) : Type 1 where
+  pub rules : KeepsRules (capacity (length b)) ds
   -- the bytes are the machine's state after the calls, and what was seen is what the machine's calls give
-  pub bytes : b ≡ bytesOf (length b) (final (x .plan) (callsOf (x .seen)))
-  pub seen : x .seen ≡ log (callsOf (x .seen)) (loaded (x .plan))
+  pub bytes : b ≡ bytesOf (length b) (final ds cs)
+  pub logged : seen ≡ log cs (loaded ds)
   -- the next call is answered from that state
-  pub answers : (c : Call) → reply c b ≡ replyOf (length b) (call c (final (x .plan) (callsOf (x .seen))))
+  pub answers : (c : Call) → reply c b ≡ replyOf (length b) (call c (final ds cs))
   -- demands 2 and 3 of these calls
-  pub claim : Claim (x .plan) (callsOf (x .seen))
+  pub claim : Claim ds cs
 
 abbrev pub InsideAt : Option Course → List ℕ → Type 1
 InsideAt none b = Unit {1}
-InsideAt (some x) b = Inside x b
+InsideAt (some x) b = Inside (x .plan) (callsOf (x .seen)) (x .seen) b

@@ -15,7 +15,8 @@ use Rattle.le.specs.Layout.{encRows, decFields, decRows}
 use Rattle.le.proofs.RoundTrip.{All}
 use Rattle.layout.specs.Record.{Raw, Raws, noSlot, noRaw, change, encRaw, decRaw, decSlot, encode, decode}
 use Rattle.layout.proofs.Laws.{RawOk, raw-ok, raw-dec, decode-encode}
-use Rattle.meaning.specs.Plan.{Eqn, input, nil, unit, one, two, last, delay, argA, argB}
+use Rattle.meaning.specs.Plan.{Eqn, input, nil, unit, one, two, last, delay}
+use Rattle.meaning.specs.Arguments.{argA, argB}
 use Rattle.machine.specs.State.{State, Declared, noKept, fresh, loaded}
 use Rattle.operators.specs.Operators.{numberOf, valueOf}
 use Rattle.operators.specs.Limits.{capacity}

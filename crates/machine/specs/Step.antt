@@ -6,7 +6,8 @@ use mathlib.Core.List.{List, [], _∷_, _++_, map}
 use lib.Dec.{leb, ltb, eqb}
 use lib.ListN.{length, set}
 use lib.IntN.{ℤ}
-use Rattle.meaning.specs.Plan.{Eqn, input, nil, unit, one, two, last, delay, isInput, reads, argA, argB}
+use Rattle.meaning.specs.Plan.{Eqn, input, nil, unit, one, two, last, delay, isInput}
+use Rattle.meaning.specs.Arguments.{reads, argA, argB}
 use Rattle.meaning.specs.Events.{Event, ev, horizon, orElse}
 use Rattle.meaning.specs.Table.{latest}
 use Rattle.machine.specs.State.{Kept, Cell, State, cellAt, room, withBound, withHeld, withKept, withPrev, withSince, withValue, withPrior}

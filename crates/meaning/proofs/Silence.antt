@@ -9,7 +9,8 @@ use native.Mathlib.Decide.{decLt}
 use lib.Dec.{T, T-not, not-T, ltb, ltb→lt, eqb→eq}
 use lib.IntN.{ℤ, pos, negsuc}
 use borrow.Author.Tests.{lt-ltb, le-ltb}
-use Rattle.meaning.specs.Plan.{Eqn, input, nil, unit, one, two, calc, keep, merge, last, delay, Plan, eqnAt, undelayed}
+use Rattle.meaning.specs.Plan.{Eqn, input, nil, unit, one, two, calc, keep, merge, last, delay, Plan, eqnAt}
+use Rattle.meaning.specs.Arguments.{undelayed}
 use Rattle.meaning.specs.Events.{Stream, Streams, has, events}
 use Rattle.meaning.specs.Table.{one-at, two-at, unit-at, last-at, any-below, is, fires, delay-at, at, Solves}
 use Rattle.meaning.specs.Cycle.{Acyclic}

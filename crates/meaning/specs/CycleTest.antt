@@ -5,7 +5,8 @@ use mathlib.Core.Option.{Option, none, some}
 use mathlib.Core.List.{List, [], _∷_}
 use lib.Dec.{eqb}
 use lib.ListN.{length}
-use Rattle.meaning.specs.Plan.{Plan, eqnAt, undelayed}
+use Rattle.meaning.specs.Plan.{Plan, eqnAt}
+use Rattle.meaning.specs.Arguments.{undelayed}
 
 -- "This is tested by following undelayed arguments from stream to stream, at most 32 deep. A stream once found clear is
 -- not followed again." The streams found clear are marked.

@@ -1,4 +1,5 @@
 pub mod Plan
+pub mod Arguments
 pub mod Events
 pub mod Table
 pub mod Cycle

@@ -12,7 +12,8 @@ use borrow.Author.Tests.{le-ltb, eq-eqb}
 use mir.Syntax.{w64}
 use mir.Val.{toZ}
 use mir.Facts.{toZ-pos, toZ-neg}
-use Rattle.meaning.specs.Plan.{Eqn, input, nil, unit, one, two, last, delay, eqnAt, isInput, reads, argA, argB, AllBelow}
+use Rattle.meaning.specs.Plan.{Eqn, input, nil, unit, one, two, last, delay, eqnAt, isInput}
+use Rattle.meaning.specs.Arguments.{reads, argA, argB, AllBelow}
 use Rattle.meaning.specs.CycleTest.{acyclic}
 use Rattle.meaning.proofs.Within.{reads-within}
 use Rattle.meaning.proofs.CycleTest.{test-complete}

@@ -12,7 +12,7 @@ use borrow.Author.Tests.{eqb-true}
 use mir.Syntax.{w64}
 use mir.Val.{toZ}
 use mir.Facts.{sfits-toZ}
-use Rattle.meaning.specs.Plan.{argA, argB}
+use Rattle.meaning.specs.Arguments.{argA, argB}
 use Rattle.meaning.specs.Cycle.{Acyclic}
 use Rattle.meaning.specs.CycleTest.{acyclic}
 use Rattle.meaning.proofs.CycleTest.{test-sound}

@@ -5,7 +5,8 @@ use mathlib.Core.Bool.{false, _&&_}
 use mathlib.Core.List.{List, [], _∷_}
 use lib.ListN.{length}
 use lib.Signed.{mag}
-use Rattle.meaning.specs.Plan.{isInput, reads, AllBelow}
+use Rattle.meaning.specs.Plan.{isInput}
+use Rattle.meaning.specs.Arguments.{reads, AllBelow}
 use Rattle.meaning.specs.Cycle.{Acyclic}
 use Rattle.machine.specs.State.{Declared, declaredPlan}
 use Rattle.operators.specs.Operators.{valueOf}

@@ -7,7 +7,7 @@ use native.Mathlib.Omega.{arith}
 use lib.Dec.{lit<, leb, ltb, eqb}
 use lib.ListN.{getD}
 use borrow.Author.Tests.{lt-ltb, le-ltb, lt-leb, le-leb, eq-eqb, ne-eqb}
-use Rattle.meaning.specs.Plan.{Argument}
+use Rattle.meaning.specs.Arguments.{Argument}
 use Rattle.machine.specs.Step.{anyOf}
 use Rattle.operators.specs.Operators.{groupOf, isLast, isDelay, takesFirst, takesSecond, argumentsOf}
 use Rattle.operators.specs.declared.Group.{Group}

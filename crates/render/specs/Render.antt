@@ -4,7 +4,7 @@ use mathlib.Core.Bool.{Bool, true, false}
 use mathlib.Core.List.{List, [], _∷_, _++_}
 use lib.ListN.{length}
 use lib.IntN.{ℤ}
-use Rattle.meaning.specs.Plan.{argA, argB}
+use Rattle.meaning.specs.Arguments.{argA, argB}
 use Rattle.machine.specs.State.{Declared}
 use Rattle.operators.specs.Operators.{nameOf, numberOf, valueOf}
 use Rattle.decimal.specs.Decimal.{decimal, valueText}

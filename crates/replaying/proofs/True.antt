@@ -3,7 +3,7 @@
 use Prim.Native.Nat.{ℕ}
 use mathlib.Core.Path.{_≡_}
 use mathlib.Core.List.{List, [], _∷_, map}
-use Rattle.runs.specs.History.{Typed, AllTyped}
+use Rattle.runs.specs.Seen.{Typed, AllTyped}
 use Rattle.trace.specs.declared.Record.{Record}
 use Rattle.trace.specs.declared.Record.the-variants.{Reading, Progress}
 use Rattle.trace.specs.declared.Line.the-variants.{Read}

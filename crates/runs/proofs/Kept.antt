@@ -11,7 +11,8 @@ use native.Mathlib.Decide.{decLt}
 use lib.Dec.{leb, eqb, eqb→eq, eqb-refl}
 use borrow.Author.Tests.{leb-false}
 use lib.IntN.{ℤ}
-use Rattle.meaning.specs.Plan.{Eqn, input, nil, unit, one, two, last, delay, reads, Each, argA, argB}
+use Rattle.meaning.specs.Plan.{Eqn, input, nil, unit, one, two, last, delay}
+use Rattle.meaning.specs.Arguments.{reads, Each, argA, argB}
 use Rattle.meaning.specs.Events.{Stream, Streams, orElse}
 use Rattle.meaning.specs.Table.{latest}
 use Rattle.meaning.proofs.Tests.{Is, yes!, no!, look, true-is}

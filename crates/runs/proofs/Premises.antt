@@ -11,7 +11,8 @@ use lib.Dec.{T, T-not}
 use lib.ListN.{length}
 use lib.IntN.{ℤ, pos, negsuc}
 use lib.Signed.{mag}
-use Rattle.meaning.specs.Plan.{set, plus, merge, input, unit, one, two, last, eqnAt, isInput, reads, AllBelow}
+use Rattle.meaning.specs.Plan.{set, plus, merge, input, unit, one, two, last, eqnAt, isInput}
+use Rattle.meaning.specs.Arguments.{reads, AllBelow}
 use Rattle.meaning.specs.CycleTest.{acyclic}
 use Rattle.meaning.proofs.Tests.{Is, yes!, no!, look}
 use Rattle.meaning.proofs.CycleTest.{test-sound}

@@ -13,7 +13,8 @@ use lib.Dec.{T, ltb, eqb, eqb→eq, ltb→lt, nltb→le, T-not}
 use lib.ListN.{set, length-set}
 use lib.Seq.{getD-set-same, getD-set-other}
 use lib.IntN.{ℤ}
-use Rattle.meaning.specs.Plan.{Eqn, input, nil, unit, one, two, last, delay, reads, argA, argB}
+use Rattle.meaning.specs.Plan.{Eqn, input, nil, unit, one, two, last, delay}
+use Rattle.meaning.specs.Arguments.{reads, argA, argB}
 use Rattle.meaning.specs.Events.{Event, ev, Streams, events, horizon}
 use Rattle.meaning.proofs.Tests.{Is, yes!, no!, look, not-or-l, not-or-r}
 use Rattle.meaning.proofs.Each.{each-map}

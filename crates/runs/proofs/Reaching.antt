@@ -12,7 +12,8 @@ use native.Mathlib.Omega.{arith}
 use native.Mathlib.Decide.{decLt}
 use lib.Dec.{T, leb, ltb, leb→le, ltb→lt, lt→ltb, le→leb, nltb→le, T-not}
 use lib.ListN.{length}
-use Rattle.meaning.specs.Plan.{Eqn, input, nil, unit, one, two, last, delay, isInput, reads, argA, argB}
+use Rattle.meaning.specs.Plan.{Eqn, input, nil, unit, one, two, last, delay, isInput}
+use Rattle.meaning.specs.Arguments.{reads, argA, argB}
 use Rattle.meaning.specs.Events.{Event, Stream, Streams, has, horizon}
 use Rattle.meaning.specs.Table.{Solves}
 use Rattle.meaning.proofs.Tests.{Is, yes!, no!, look, true-is, false-is, T-and, T-and-l, T-and-r}

@@ -13,7 +13,8 @@ use native.Mathlib.Omega.{arith}
 use native.Mathlib.Decide.{decLt}
 use lib.Dec.{T, ltb, ltb→lt, T-not, not-T}
 use lib.ListN.{length}
-use Rattle.meaning.specs.Plan.{Eqn, input, nil, unit, one, two, last, delay, Plan, eqnAt, isInput, reads, undelayed, Each, argA, argB}
+use Rattle.meaning.specs.Plan.{Eqn, input, nil, unit, one, two, last, delay, Plan, eqnAt, isInput}
+use Rattle.meaning.specs.Arguments.{reads, undelayed, Each, argA, argB}
 use Rattle.meaning.specs.Events.{Event, Streams, found, events, has, horizon}
 use Rattle.meaning.proofs.Tests.{Is, yes!, no!, look, T-and-r, eqb-self}
 use Rattle.meaning.proofs.Clear.{clear, clear-args}

@@ -10,7 +10,7 @@ use native.Mathlib.Omega.{arith}
 use lib.Dec.{T, leb, ltb, eqb, ltb→lt, nltb→le, leb→le, nleb→lt, eqb→eq}
 use lib.ListN.{length}
 use lib.IntN.{ℤ}
-use Rattle.meaning.specs.Plan.{reads}
+use Rattle.meaning.specs.Arguments.{reads}
 use Rattle.meaning.specs.Events.{Event, ev, Stream, Streams, here, events, horizon}
 use Rattle.meaning.proofs.Tests.{Is, yes!, no!, look, T-or}
 use Rattle.meaning.proofs.Each.{each-at}

@@ -9,7 +9,8 @@ use mathlib.Core.List.{List, [], _++_, List·Memᴰ}
 use lib.Dec.{T, leb, ltb}
 use lib.ListN.{length}
 use lib.IntN.{ℤ}
-use Rattle.meaning.specs.Plan.{Eqn, input, nil, unit, one, two, last, delay, reads}
+use Rattle.meaning.specs.Plan.{Eqn, input, nil, unit, one, two, last, delay}
+use Rattle.meaning.specs.Arguments.{reads}
 use Rattle.meaning.specs.Events.{Event, Stream, Streams, here, has, horizon}
 use Rattle.meaning.specs.Table.{latest}
 use Rattle.machine.specs.State.{Kept, Cell, State, cellAt, noKept, room}
