@@ -36,7 +36,7 @@ use Rattle.replaying.proofs.Made.{seenFrom, bufferAfter, Still, replays
 
 -- ## Calls after a load
 
-abbrev sinceLoad : List Declared → List Call → List Seen → Since
+abbrev pub sinceLoad : List Declared → List Call → List Seen → Since
 sinceLoad ds cs l = record { plan = ds; calls = cs; seen = l }
 
 calls-since : (s : List ℕ) (ds : List Declared) (before : List Call) (l : List Seen) (cs : List Call)
@@ -59,11 +59,11 @@ calls-typed (c ∷ cs) h = (h .0, calls-typed cs (h .1))
 
 module _ (text s : List ℕ) (done : loadReply text s .number ≡ 0) where
   -- the buffer that the load filled
-  abbrev filled : List ℕ
+  abbrev pub filled : List ℕ
   filled = loadReply text s .buffer
 
   -- the streams that it declares
-  abbrev plan : List Declared
+  abbrev pub plan : List Declared
   plan = declared (capacity (length (loadReply text s .buffer))) text
 
   load-noted : noted (load text) (loadReply text s) none ≡ some (sinceLoad plan [] [])
@@ -79,7 +79,7 @@ module _ (text s : List ℕ) (done : loadReply text s .number ≡ 0) where
   load-left cs = calls-left filled cs
 
   -- what holds of the buffer after any calls
-  after-load : (cs : List Call) → AllTyped cs → Holds (sinceLoad plan cs (seenFrom filled cs)) (bufferAfter filled cs)
+  pub after-load : (cs : List Call) → AllTyped cs → Holds (sinceLoad plan cs (seenFrom filled cs)) (bufferAfter filled cs)
   after-load cs h = rw (load-since cs, load-left cs) at (whole-bytes (load text ∷ map make cs) (tt, calls-typed cs h) s)
 
 -- ## Rest
@@ -103,7 +103,7 @@ collect-nothing i M o n = rw (collect-is i M o) (go (oldest (cellAt M i .next) (
     go none k = refl
     go (some e) k = absurd (k refl)
 
-still-rest : (n : ℕ) {x : Since} {t : List ℕ} → length (x .plan) ≤ n → Holds x t → AllTyped (x .calls) → Still n t → AtRest (x .plan) (x .calls)
+pub still-rest : (n : ℕ) {x : Since} {t : List ℕ} → length (x .plan) ≤ n → Holds x t → AllTyped (x .calls) → Still n t → AtRest (x .plan) (x .calls)
 still-rest n {x} few h typed still =
     record {
       moved = λ i e.
