@@ -4,4 +4,3 @@ pub mod Session
 pub mod Whole
 pub mod Truth
 pub mod Cases
-pub mod Example

@@ -37,17 +37,18 @@ use Rattle.decimal.specs.Decimal.{digits}
 use Rattle.trace.specs.declared.Record.the-variants.{Reading}
 use Rattle.trace.specs.Trace.{valueAfter, stampAfter, boundAfter, inputAfter, line}
 use Rattle.printer.specs.Print.{eventText}
 use Rattle.replaying.specs.declared.Place.the-variants.{Rest}
 use Rattle.replaying.specs.Replay.{Prints, start}
 use Rattle.replaying.specs.Session.{Replays, ends, goes, lineIn, printedOf, othersOf}
 use Rattle.replaying.specs.Whole.{Lines, none, more, end, Printed, refused, played}
-use Rattle.replaying.specs.Example.{visits, trace, printed}
+use Rattle.visits.specs.Example.{visits, trace, printed}
 use Rattle.replaying.proofs.Bytes.{Fine, state-bytes, reply-fine}
 use Rattle.replaying.proofs.Made.{seenFrom, bufferAfter, buffer-append, printed-append, typed-append, Still, prints-made}
 use Rattle.replaying.proofs.Told.{sinceLoad, plan, after-load, still-rest}
+use Rattle.replaying.proofs.Exists.{printed-exists}
 use Rattle.replaying.proofs.Once.{lines-once}
-use Rattle.replaying.proofs.Quiet.{seen-append, accepted-append, known-append, quiet-accepted, quiet-known, AllPlain, plain-append, linesOf, printed-handed}
-use Rattle.replaying.proofs.Visits as Visits
+use Rattle.visits.proofs.Quiet.{seen-append, accepted-append, known-append, quiet-accepted, quiet-known, AllPlain, plain-append, linesOf, printed-handed}
+use Rattle.visits.proofs.Visits as Visits
 
 -- ## The plan's text
 
@@ -152,13 +153,12 @@ module _ (s : List ℕ) (size : length s ≡ stateLength) where
   quiet-plain pre (moving a ∷ cs) h k e = let z : _≡_ {A = ℕ} 0 1 = cc in absurd (omega arith)
   quiet-plain pre (running n ∷ cs) h k e =
       (tt, subst (λ (b : List ℕ). AllPlain 5 (seenFrom b cs)) (after-one (loadReply visits s .buffer) pre (running n)) (quiet-plain (pre ++ running n ∷ []) cs (typed-append pre (running n ∷ []) h (k .0, tt)) (k .1) e))
-  quiet-plain pre (collecting i ∷ cs) h k e =
-      (
-        λ q.
-            let K = after pre (loaded Visits.streams) in
-            only-output i (rw (shape-of pre h .outs i) at (collect-output i K (rw (holds pre h .answers (collecting i)) at q))),
-        subst (λ (b : List ℕ). AllPlain 5 (seenFrom b cs)) (after-one (loadReply visits s .buffer) pre (collecting i)) (quiet-plain (pre ++ collecting i ∷ []) cs (typed-append pre (collecting i ∷ []) h (k .0, tt)) (k .1) e),
-      )
+  quiet-plain pre (collecting i ∷ cs) h k e = (
+    λ q.
+        let K = after pre (loaded Visits.streams) in
+        only-output i (rw (shape-of pre h .outs i) at (collect-output i K (rw (holds pre h .answers (collecting i)) at q))),
+    subst (λ (b : List ℕ). AllPlain 5 (seenFrom b cs)) (after-one (loadReply visits s .buffer) pre (collecting i)) (quiet-plain (pre ++ collecting i ∷ []) cs (typed-append pre (collecting i ∷ []) h (k .0, tt)) (k .1) e),
+  )
 
   fresh-fine : Bytes (loadReply visits s .buffer)
   unfolding seenFrom bufferAfter
@@ -184,8 +184,7 @@ module _ (s : List ℕ) (size : length s ≡ stateLength) where
       let m = prints-made (omega arith) p f tt in
       let f0 = loadReply visits s .buffer in
       let made = m .0 in
-      let same = seen-append f0 (x .calls) (made .calls) in
-      (
+      let same = seen-append f0 (x .calls) (made .calls) in (
         record {
           calls = x .calls ++ made .calls;
           typed = typed-append (x .calls) (made .calls) (x .typed) (made .typed);
@@ -311,3 +310,9 @@ example-prints s size (played {rs} {w = w} {t = t} {v = v} e l x m) =
   where
     shown : linesOf 5 Visits.counts ++ [] ≡ printed
     shown = unfold linesOf eventText digits in refl
+
+-- the document's bytes are what is printed
+pub example-printed : (s : List ℕ) → length s ≡ stateLength → (t : List ℕ) × Printed visits trace s printed t
+example-printed s size =
+    let x = printed-exists visits trace s in
+    (x .1, subst (λ (w : List ℕ). Printed visits trace s w (x .1)) (example-prints s size (x .2)) (x .2))
