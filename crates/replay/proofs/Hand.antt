@@ -90,7 +90,7 @@ module _ (old buffer : List ℕ) (left filled : ℕ) (order : left ≤ filled) (
   size : length (take filled buffer) ≡ filled
   size = length-take-le filled buffer inside
 
-  pub part-onward : {n : ℕ} {s : List ℕ} {last : Bool} {p : ℕ} {t : List ℕ} → last ≡ false → Through n (take filled buffer) 0 last s (Before p) t → (p ≤ filled) × (filled ≤ length buffer) × Onward n old s (hand buffer p filled) t
+  pub part-onward : {n : ℕ} {s : List ℕ} {last : Bool} {p : ℕ} {t : List ℕ} → last ≡ false → Through n (take filled buffer) 0 last s (Before p) t → (p ≤ filled) × (filled ≤ length buffer) × (o : Onward n old s (hand buffer p filled) t) × (take filled buffer ≡ old ++ o .brought)
   part-onward {p = p} no-last x =
       let h : p ≤ filled = let k = x .0 in omega (arith, size) in
       let b = x .3 in
@@ -106,11 +106,12 @@ module _ (old buffer : List ℕ) (left filled : ℕ) (order : left ≤ filled) (
               subst (λ (l : List ℕ). Lines l (b .records) (hand buffer p filled ++ rest)) (ap (λ (l : List ℕ). l ++ rest) is ∙ append-assoc old (drop left (take filled buffer)) rest)
               (subst (λ (l : List ℕ). Lines (take filled buffer ++ rest) (b .records) (l ++ rest)) same (b .lines rest (λ q. absurd (true≢false (sym q ∙ no-last)))));
         },
+        is,
       )
 
   -- nothing follows
   ended : {n : ℕ} {s : List ℕ} {last : Bool} {p : ℕ} {t v : List ℕ} → Between n (take filled buffer) 0 last s p t → Stops (drop p (take filled buffer) ++ []) v
-      → (drop p (take filled buffer) ++ [] ≡ [] → filled < length buffer) → Ended n old s (length buffer) t
+      → (drop p (take filled buffer) ++ [] ≡ [] → filled < length buffer) → Ended n old s buffer t
   ended {p = p} {v = v} b x short =
       record {
         brought = drop left (take filled buffer);
@@ -119,16 +120,17 @@ module _ (old buffer : List ℕ) (left filled : ℕ) (order : left ≤ filled) (
         offered = b .offered;
         lines = subst (λ (l : List ℕ). Lines l (b .records) (drop p (take filled buffer) ++ [])) (append-nil (take filled buffer) ∙ is) (b .lines [] (λ q. refl));
         stops = (v, x);
+        held = ap (λ (k : ℕ). take k buffer) (sym (ap length is) ∙ size) ∙ is;
         short = λ q. let h = short q in omega (arith, ap length is, size);
       }
 
-  pub bad-ended : {n : ℕ} {s : List ℕ} {last : Bool} {t : List ℕ} → Through n (take filled buffer) 0 last s Bad t → Ended n old s (length buffer) t
+  pub bad-ended : {n : ℕ} {s : List ℕ} {last : Bool} {t : List ℕ} → Through n (take filled buffer) 0 last s Bad t → Ended n old s buffer t
   bad-ended x =
       let l = x .1 in
       ended (x .2) (x .3 [] (λ q. refl) .1)
       (λ q. absurd (omega (arith, ap length (sym (append-nil (drop (x .0) (take filled buffer))) ∙ q), length-drop (x .0) (take filled buffer))))
 
-  pub last-ended : {n : ℕ} {s : List ℕ} {last : Bool} {p : ℕ} {t : List ℕ} → last ≡ true → filled < length buffer → Through n (take filled buffer) 0 last s (Before p) t → Ended n old s (length buffer) t
+  pub last-ended : {n : ℕ} {s : List ℕ} {last : Bool} {p : ℕ} {t : List ℕ} → last ≡ true → filled < length buffer → Through n (take filled buffer) 0 last s (Before p) t → Ended n old s buffer t
   last-ended {p = p} q short x =
       let e : drop p (take filled buffer) ++ [] ≡ [] = append-nil (drop p (take filled buffer)) ∙ ap (λ (k : ℕ). drop k (take filled buffer)) (x .1 q) ∙ drop-length (take filled buffer) in
       ended (x .3) (subst (λ (l : List ℕ). Stops l []) (sym e) end) (λ r. short)
@@ -151,7 +153,7 @@ onward-then {old = old} {new = new} x y =
 pub onward-trailed : {n : ℕ} {s new t : List ℕ} → Onward n [] s new t → Trailed n s false t
 onward-trailed {new = new} x = record { trace = x .brought ++ []; records = x .records; rest = new ++ []; lines = x .lines []; offered = x .offered; stops = λ q. absurd (true≢false (sym q)) }
 
-pub ended-trailed : {n : ℕ} {s mid t : List ℕ} {size : ℕ} {u : List ℕ} → Onward n [] s mid t → Ended n mid t size u → Trailed n s true u
+pub ended-trailed : {n : ℕ} {s mid t buffer u : List ℕ} → Onward n [] s mid t → Ended n mid t buffer u → Trailed n s true u
 ended-trailed x y =
     record {
       trace = x .brought ++ y .brought;

@@ -40,16 +40,18 @@ pub record Onward (n : ℕ) (old s new t : List ℕ) : Type 0 where
   pub offered : Offered n s records t
   pub lines : (more : List ℕ) → Lines (old ++ (brought ++ more)) records (new ++ more)
 
--- or the trace was gone through: up to a bad line, or to its end, since what was read did not fill a buffer of this size
-pub record Ended (n : ℕ) (old s : List ℕ) (size : ℕ) (t : List ℕ) : Type 0 where
+-- or the trace was gone through: up to a bad line, or to its end, since what was read did not fill the buffer
+pub record Ended (n : ℕ) (old s buffer t : List ℕ) : Type 0 where
   pub brought : List ℕ
   pub records : List Record
   pub rest : List ℕ
   pub offered : Offered n s records t
   pub lines : Lines (old ++ brought) records rest
   pub stops : (v : List ℕ) × Stops rest v
-  pub short : rest ≡ [] → length (old ++ brought) < size
+  pub held : take (length (old ++ brought)) buffer ≡ old ++ brought
+  pub short : rest ≡ [] → length (old ++ brought) < length buffer
 
+-- what the buffer holds up to the end is what was in hand and what was read
 abbrev pub Advances : (n : ℕ) → List ℕ → List ℕ → Left → List ℕ → List ℕ → Type 0
-Advances n old s (Part from end) buffer t = (from ≤ end) × (end ≤ length buffer) × Onward n old s (hand buffer from end) t
-Advances n old s Done buffer t = Ended n old s (length buffer) t
+Advances n old s (Part from end) buffer t = (from ≤ end) × (end ≤ length buffer) × (o : Onward n old s (hand buffer from end) t) × (take end buffer ≡ old ++ o .brought)
+Advances n old s Done buffer t = Ended n old s buffer t

@@ -25,12 +25,12 @@ use Rattle.replaying.proofs.Nearer.{step-fine}
 
 -- ## Lists of calls on a buffer
 
-buffer-append : (s : List ℕ) (cs ds : List Call) → leftBy s (cs ++ ds) ≡ leftBy (leftBy s cs) ds
+pub buffer-append : (s : List ℕ) (cs ds : List Call) → leftBy s (cs ++ ds) ≡ leftBy (leftBy s cs) ds
 unfolding leftBy
 buffer-append s [] ds = refl
 buffer-append s (c ∷ cs) ds = buffer-append (reply c s .buffer) cs ds
 
-printed-append : (s : List ℕ) (cs ds : List Call) → printedOf (seenBy s (cs ++ ds)) ≡ printedOf (seenBy s cs) ++ printedOf (seenBy (leftBy s cs) ds)
+pub printed-append : (s : List ℕ) (cs ds : List Call) → printedOf (seenBy s (cs ++ ds)) ≡ printedOf (seenBy s cs) ++ printedOf (seenBy (leftBy s cs) ds)
 unfolding seenBy leftBy printedOf
 printed-append s [] ds = refl
 printed-append s (c ∷ cs) ds =
@@ -42,7 +42,7 @@ unfolding othersOf
 offers-append [] ds = refl
 offers-append (c ∷ cs) ds = ap (λ (x : List Call). otherIn c ++ x) (offers-append cs ds) ∙ sym (append-assoc (otherIn c) (othersOf cs) (othersOf ds))
 
-typed-append : (cs ds : List Call) → AllTyped cs → AllTyped ds → AllTyped (cs ++ ds)
+pub typed-append : (cs ds : List Call) → AllTyped cs → AllTyped ds → AllTyped (cs ++ ds)
 typed-append [] ds h k = k
 typed-append (c ∷ cs) ds h k = (h .0, typed-append cs ds (h .1) k)
 
@@ -147,7 +147,7 @@ module _ (n : ℕ) (few : n ≤ 2 ^ 32) (s : List ℕ) (f : Fine s) where
 
 -- ## From one line to the next
 
-prints-made : {n : ℕ} {p : Place} {s w : List ℕ} {q : Place} {t : List ℕ} → n ≤ 2 ^ 32 → Prints n p s w q t → Fine s → Known n p s → Made s [] w t × Known n q t
+pub prints-made : {n : ℕ} {p : Place} {s w : List ℕ} {q : Place} {t : List ℕ} → n ≤ 2 ^ 32 → Prints n p s w q t → Fine s → Known n p s → Made s [] w t × Known n q t
 prints-made {p = p} {s = s} few here f h = (made-none s, h)
 prints-made {n} few (on {p} {s} x) f h =
     let r = prints-made few x (step-fine n p s (λ e. f)) (step-known n few s f p h) in

@@ -53,7 +53,7 @@ stops-once : {rest v v′ : List ℕ} → Stops rest v → Stops rest v′ → v
 stops-once end end = refl
 stops-once (bad e) (bad f) = refl
 
-lines-once : {trace : List ℕ} {rs rs′ : List Record} {rest rest′ v v′ : List ℕ} → Lines trace rs rest → Stops rest v → Lines trace rs′ rest′ → Stops rest′ v′ → (rs ≡ rs′) × (v ≡ v′)
+pub lines-once : {trace : List ℕ} {rs rs′ : List Record} {rest rest′ v v′ : List ℕ} → Lines trace rs rest → Stops rest v → Lines trace rs′ rest′ → Stops rest′ v′ → (rs ≡ rs′) × (v ≡ v′)
 lines-once none x none y = (refl, stops-once x y)
 lines-once none x (more e l) y = unreadable x e
 lines-once (more e l) x none y = unreadable y e

@@ -39,11 +39,11 @@ use Rattle.replaying.proofs.Made.{Still, replays-made}
 
 module _ (text s : List ℕ) (done : loadReply text s .number ≡ 0) where
   -- the buffer that the load filled
-  abbrev filled : List ℕ
+  abbrev pub filled : List ℕ
   filled = loadReply text s .buffer
 
   -- the streams that it declares
-  abbrev plan : List Declared
+  abbrev pub plan : List Declared
   plan = declared (capacity (length (loadReply text s .buffer))) text
 
 -- ## Rest
@@ -67,7 +67,7 @@ collect-nothing i M o n = rw (collect-is i M o) (go (oldest (cellAt M i .next) (
     go none k = refl
     go (some e) k = absurd (k refl)
 
-still-rest : (n : ℕ) (ds : List Declared) (cs : List Call) {seen : List Seen} {t : List ℕ} → length ds ≤ n → Inside ds cs seen t → AllTyped cs → Still n t → AtRest ds (nextNumber ds cs)
+pub still-rest : (n : ℕ) (ds : List Declared) (cs : List Call) {seen : List Seen} {t : List ℕ} → length ds ≤ n → Inside ds cs seen t → AllTyped cs → Still n t → AtRest ds (nextNumber ds cs)
 still-rest n ds cs few h typed still =
     record {
       moved = λ i e.

@@ -95,7 +95,7 @@ pub fn line(state: &mut [u8], text: &[u8], at: usize, out: &mut [u8]) -> Passed
     ensures state { λ _. ⌜ now (state .exit) ≡ lineState (Trace·line (now (text .entry)) at) (now (state .entry)) ⌝ }
 {
     let found = trace::read(text, at);
-    let Line::Read(read, next) = found else {
+    let Line::Read(read, _) = found else {
         let end = printer::put_refused(out, 0, BAD_LINE);
         return Passed { found, end };
     };
