@@ -1,4 +1,4 @@
--- A window of a trace: a text that holds, from a position on, the bytes of the trace from another.
+-- How: a window of a trace: a text that holds, from a position on, the bytes of the trace from another.
 use Prim.Native.Nat.{ℕ, _+_, _-_, _<_, _≤_}
 use mathlib.Core.Path.{_≡_}
 use mathlib.Core.Logic.{_⊎_}

@@ -1,4 +1,4 @@
--- The graph of a plan in bytes, and the test that follows it.
+-- How: the graph of a plan in bytes, and the test that follows it.
 use Prim.Native.Nat.{ℕ, zero, suc, _+_, _*_}
 use mathlib.Core.Bool.{Bool, true, false, cond, _&&_}
 use mathlib.Core.List.{List, [], _∷_, _++_}

@@ -1,4 +1,4 @@
--- The states that the layout can hold: what holds of every cell, of a run or not.
+-- Believe: the states that the layout can hold: what holds of every cell, of a run or not.
 use Prim.Native.Nat.{ℕ, suc, _^_, _≤_, _<_}
 use mathlib.Core.Path.{_≡_}
 use mathlib.Core.Bool.{Bool, true, false}

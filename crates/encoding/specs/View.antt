@@ -1,4 +1,4 @@
--- A cell of the machine as a raw record, and a state as bytes.
+-- Believe: a cell of the machine as a raw record, and a state as bytes.
 use Prim.Native.Nat.{ℕ, zero, suc, _*_, _-_}
 use mathlib.Core.Bool.{Bool, true, false, cond}
 use mathlib.Core.Option.{Option, none, some}

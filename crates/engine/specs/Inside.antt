@@ -1,4 +1,4 @@
--- The same histories with the machine: which state the bytes are, and demand 2 of it.
+-- Believe: the same histories with the machine: which state the bytes are, and demand 2 of it.
 use Prim.Native.Nat.{ℕ}
 use mathlib.Core.Path.{_≡_}
 use mathlib.Core.Option.{Option, none, some}

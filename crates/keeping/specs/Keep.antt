@@ -1,4 +1,4 @@
--- What a last or a delay keeps, in the numbers of its record.
+-- How: what a last or a delay keeps, in the numbers of its record.
 use Prim.Native.Nat.{ℕ}
 use mathlib.Core.Bool.{false}
 use mathlib.Core.List.{List}

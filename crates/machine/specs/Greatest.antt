@@ -1,4 +1,4 @@
--- The bounds that an equation's arguments fix, on the held events and what is kept, of any state: the reach is the greatest.
+-- Believe: the bounds that an equation's arguments fix, on the held events and what is kept, of any state: the reach is the greatest.
 use Prim.Native.Nat.{ℕ, suc, _+_, _≤_, _<_}
 use mathlib.Core.Path.{_≡_}
 use mathlib.Core.Logic.{_⊎_}

@@ -1,4 +1,4 @@
--- When an equation can move: its reach, and the first event below it. Functions of three cells: o, the equation's own,
+-- Believe: when an equation can move: its reach, and the first event below it. Functions of three cells: o, the equation's own,
 -- and a and b, those of its arguments (an argument that the operator does not use is not looked at).
 use Prim.Native.Nat.{ℕ, zero, suc, pred, _-_, min, max}
 use mathlib.Core.Bool.{Bool, true, false, cond, _&&_}

@@ -1,4 +1,4 @@
--- One step: a stream's bound goes up, with at most one new event. Only that stream, its readers and its arguments change.
+-- Believe: one step: a stream's bound goes up, with at most one new event. Only that stream, its readers and its arguments change.
 use Prim.Native.Nat.{ℕ, suc, pred, _+_, min, max}
 use mathlib.Core.Bool.{Bool, false, not, cond, _&&_, _||_}
 use mathlib.Core.Option.{none, some}

@@ -1,4 +1,4 @@
--- The arguments of an equation, and which of them is delayed.
+-- Believe: the arguments of an equation, and which of them is delayed.
 use Prim.Native.Nat.{ℕ, _<_}
 use mathlib.Core.Bool.{Bool, true, false, cond}
 use mathlib.Core.List.{List, [], _∷_, map}

@@ -1,4 +1,4 @@
--- The worked cases: plans with readings, and the events that a stream of each must have.
+-- Cases: plans with readings, and the events that a stream of each must have.
 use Prim.Native.Nat.{ℕ}
 use mathlib.Core.Bool.{Bool, true, false}
 use mathlib.Core.List.{List, [], _∷_}

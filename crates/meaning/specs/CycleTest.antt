@@ -1,4 +1,4 @@
--- The test of the cycle rule, as load makes it.
+-- How: the test of the cycle rule, as load makes it.
 use Prim.Native.Nat.{ℕ, zero, suc}
 use mathlib.Core.Bool.{Bool, true, false, cond, _||_}
 use mathlib.Core.Option.{Option, none, some}

@@ -1,4 +1,4 @@
--- A plan: a list of equations, each an operator with just the arguments which that operator uses.
+-- Believe: a plan: a list of equations, each an operator with just the arguments which that operator uses.
 use Prim.Native.Nat.{ℕ}
 use mathlib.Core.Bool.{Bool, true, false}
 use mathlib.Core.List.{List}

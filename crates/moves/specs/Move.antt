@@ -1,4 +1,4 @@
--- A move and a run on raw records: total functions of n records.
+-- How: a move and a run on raw records: total functions of n records.
 use Prim.Native.Nat.{ℕ, _+_}
 use mathlib.Core.Bool.{Bool, not, cond, _&&_}
 use mathlib.Core.List.{List, [], _∷_}

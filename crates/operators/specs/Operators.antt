@@ -1,4 +1,5 @@
--- The operator table: each operator's name, its stored number, its group, and the equation that it makes of the fields of a stream.
+-- Believe: the operator table: each operator's name, its stored number, its group, and the equation that it makes of the
+-- fields of a stream.
 use Prim.Native.Nat.{ℕ, _+_}
 use mathlib.Core.Bool.{Bool, true, false}
 use mathlib.Core.List.{List, [], _∷_, _++_, map}

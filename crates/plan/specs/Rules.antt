@@ -1,4 +1,4 @@
--- Rules 5 and 6, and the number of a whole plan text.
+-- Believe: rules 5 and 6, and the number of a whole plan text.
 use Prim.Native.Nat.{ℕ, zero, suc}
 use mathlib.Core.Bool.{Bool, true, cond, _&&_}
 use mathlib.Core.List.{List, [], _∷_, map}

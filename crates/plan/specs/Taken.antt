@@ -1,4 +1,4 @@
--- The written rules: what a plan keeps so that its text is taken.
+-- Believe: the written rules: what a plan keeps so that its text is taken.
 use Prim.Native.Nat.{ℕ, _^_, _<_, _≤_}
 use mathlib.Core.Path.{_≡_}
 use mathlib.Core.Bool.{false, _&&_}

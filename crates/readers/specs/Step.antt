@@ -1,4 +1,4 @@
--- The steps of the calls on raw records: total functions of numbers and slots.
+-- How: the steps of the calls on raw records: total functions of numbers and slots.
 use Prim.Native.Nat.{ℕ, _+_, min}
 use mathlib.Core.List.{List, [], _∷_, map}
 use mathlib.Core.Bool.{Bool, cond}

@@ -1,4 +1,4 @@
--- The text of a plan: the lines that load reads.
+-- Believe: the text of a plan: the lines that load reads.
 use Prim.Native.Nat.{ℕ}
 use mathlib.Core.Bool.{Bool, true, false}
 use mathlib.Core.List.{List, [], _∷_, _++_}

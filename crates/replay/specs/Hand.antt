@@ -1,4 +1,4 @@
--- The text in hand: the bytes of the trace that were read and not yet replayed, and what going through it comes to.
+-- How: the text in hand: the bytes of the trace that were read and not yet replayed, and what going through it comes to.
 use Prim.Native.Nat.{ℕ, _-_, _<_, _≤_}
 use mathlib.Core.Path.{_≡_}
 use mathlib.Core.Bool.{Bool, true}

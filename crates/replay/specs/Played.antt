@@ -1,4 +1,4 @@
--- The order in which the program makes its steps.
+-- How: the order in which the program makes its steps.
 use Prim.Native.Nat.{ℕ}
 use mathlib.Core.Path.{_≡_}
 use mathlib.Core.Bool.{Bool, true}

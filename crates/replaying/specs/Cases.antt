@@ -1,4 +1,4 @@
--- What is printed of events and of the numbers of offers and lines, worked out.
+-- Cases: what is printed of events and of the numbers of offers and lines, worked out.
 use Prim.Native.Nat.{ℕ}
 use Prim.Native.String.{String}
 use mathlib.Core.List.{List, [], _∷_}

@@ -1,4 +1,4 @@
--- A whole replay: the calls that it makes, what it prints of them, and what the printed lines are worth.
+-- Believe: a whole replay: the calls that it makes, what it prints of them, and what the printed lines are worth.
 use Prim.Native.Nat.{ℕ}
 use mathlib.Core.Path.{_≡_}
 use mathlib.Core.Bool.{cond}

@@ -1,4 +1,4 @@
--- What the bytes printed of a plan text and a trace text are worth.
+-- Believe: what the bytes printed of a plan text and a trace text are worth.
 use Prim.Native.Nat.{ℕ, suc}
 use mathlib.Core.Path.{_≡_}
 use mathlib.Core.List.{List, _++_}

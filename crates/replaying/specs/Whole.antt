@@ -1,4 +1,4 @@
--- What a replay of a plan text and a trace text prints, whole.
+-- Believe: what a replay of a plan text and a trace text prints, whole.
 use Prim.Native.Nat.{ℕ, suc}
 use mathlib.Core.Path.{_≡_}
 use mathlib.Core.List.{List, [], _∷_, _++_}

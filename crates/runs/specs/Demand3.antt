@@ -1,4 +1,4 @@
--- Demand 3, of a plan, what the caller of a list of calls has seen, and the numbers that a next call would return.
+-- Believe: Demand 3, of a plan, what the caller of a list of calls has seen, and the numbers that a next call would return.
 use Prim.Native.Nat.{ℕ, _≤_, _<_}
 use mathlib.Core.Path.{_≡_}
 use mathlib.Core.Bool.{Bool, false, not}

@@ -1,5 +1,5 @@
--- Demand 2 inside the state: what came into a stream, what it holds and keeps, and where a move takes its bound, each told by
--- the solution S, the bounds and the marks of collection alone.
+-- Believe: demand 2 inside the state: what a stream holds and keeps, and where a move takes its bound, each told by the
+-- solution S, the bounds and the marks of collection alone.
 use Prim.Native.Nat.{ℕ, zero, suc, _+_, _≤_, _<_, max}
 use mathlib.Core.Path.{_≡_}
 use mathlib.Core.Logic.{_⊎_, _↔_}

@@ -1,5 +1,5 @@
--- What the caller of a list of calls sees: each call with the number and the results that it returned. From that alone: the
--- accepted readings of an input, the stamp to which it is known, and the events handed out of an output.
+-- Believe: what the caller of a list of calls sees: each call with the number and the results that it returned. From that
+-- alone: the accepted readings of an input, the stamp to which it is known, and the events handed out of an output.
 use Prim.Native.Nat.{ℕ, suc, _<_, _^_}
 use mathlib.Core.Bool.{Bool, false, cond, _&&_}
 use mathlib.Core.List.{List, [], _∷_, _++_}

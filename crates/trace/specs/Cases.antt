@@ -1,4 +1,4 @@
--- Lines at the edges of the grammar, and what each reads.
+-- Cases: lines at the edges of the grammar, and what each reads.
 use Prim.Native.Nat.{ℕ}
 use Prim.Native.Char.{code}
 use Prim.Native.String as string

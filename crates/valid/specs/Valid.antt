@@ -1,4 +1,4 @@
--- What number 15 tests, reason by reason.
+-- How: what number 15 tests, reason by reason.
 use Prim.Native.Nat.{ℕ, zero, suc, _+_, _-_, _*_}
 use mathlib.Core.List.{List, [], _∷_}
 use mathlib.Core.Bool.{Bool, true, cond, _&&_, not}

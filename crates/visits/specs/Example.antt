@@ -1,4 +1,4 @@
--- Document 01's whole example, counting visits: the plan, the trace, and what is printed.
+-- Cases: Document 01's whole example, counting visits: the plan, the trace, and what is printed.
 use Prim.Native.Nat.{ℕ}
 use mathlib.Core.List.{List}
 use Rattle.trace.specs.Cases.{bytes}
