@@ -6,27 +6,26 @@ use mathlib.Core.Option.{Option, none, some}
 use mathlib.Core.List.{List, [], _∷_, _++_, map, append-nil}
 use native.Mathlib.Omega.{arith}
 use native.Mathlib.Decide.{decLt}
-use lib.Dec.{T, leb, ltb, eqb}
+use lib.Dec.{leb, ltb, eqb}
 use lib.IntN.{ℤ}
 use lib.ListN.{length, getD, length-set, length-map, length-append, set}
 use lib.Seq.{ext-getD, set-set}
-use borrow.Author.Tests.{ltb-true, leb-true, eqb-true, eq-eqb}
+use borrow.Author.Tests.{ltb-true, eqb-true, eq-eqb}
 use Rattle.meaning.specs.Plan.{Eqn, input, nil, unit, one, two, last, delay}
 use Rattle.meaning.specs.Arguments.{reads, argA, argB}
-use Rattle.meaning.specs.Events.{Event, ev, found, has, horizon}
+use Rattle.meaning.specs.Events.{Event, ev, horizon}
 use Rattle.meaning.specs.Table.{latest}
 use Rattle.meaning.specs.Cycle.{Acyclic}
-use Rattle.meaning.proofs.Tests.{eqb-self}
 use Rattle.machine.specs.State.{Kept, Cell, State, absent, cellAt, room, planOf, withBound, withHeld, withNext, withKept, withSince, withValue}
 use Rattle.machine.specs.Reach.{view, valueAt}
 use Rattle.machine.specs.Step.{advance, later, absorb, absorbed, write, valueTold, priorTold, sinceTold, keptTold, told, tell, leastWaiting, dropBelow, release, releases, raise}
-use Rattle.operators.specs.Operators.{eqnGroup, isDelay}
 use Rattle.machine.proofs.Cells.{set-cases, told-at}
-use Rattle.machine.proofs.Window.{past-le, past-max}
+use Rattle.machine.proofs.Window.{past-le}
 use Rattle.machine.proofs.Rising.{drop-shorter}
 use Rattle.machine.proofs.Release.{among, release-at, release-size, releases-at, releases-size}
 use Rattle.encoding.specs.Sound.{IsValue, Rising, IsNext, DelayKept, IsKept, SoundCell, Own, Sound}
-use Rattle.encoding.proofs.Points.{held-below}
+use Rattle.preserve.proofs.Rising.{rising-top, rising-snoc, rising-drop}
+use Rattle.preserve.proofs.Own.{dropped-own, and-true, own-told, absorb-own}
 use Rattle.preserve.proofs.Values.{or-value, cond-value, latest-value, Holds, holds}
 
 -- ---- a state with the same equations, every cell sound
@@ -58,29 +57,6 @@ set-sound M s c ok l q h w =
     (set-cases (λ i d. i < length M → SoundCell (length M) d) M s c l (λ i n k. ok .each i k) (λ k. h))
     (set-cases (λ i d. i < length M → Own d) M s c l (λ i n k. ok .own i k) (λ k. w))
 
--- ---- rising events
-
-rising-top : (lo top y : ℕ) (es : List Event) → top ≤ y → Rising lo top es → Rising lo y es
-rising-top lo top y [] h r = omega arith
-rising-top lo top y (e ∷ es) h r = (r .0, r .1, rising-top (suc (e .stamp)) top y es h (r .2))
-
-rising-low : (lo lo′ top : ℕ) (es : List Event) → lo′ ≤ lo → Rising lo top es → Rising lo′ top es
-rising-low lo lo′ top [] h r = omega arith
-rising-low lo lo′ top (e ∷ es) h r = let q = r .0 in (omega arith, r .1, r .2)
-
-rising-snoc : (lo top t : ℕ) (v : ℤ) (es : List Event) → top ≤ t → IsValue v → Rising lo top es → Rising lo (suc t) (es ++ ev t v ∷ [])
-rising-snoc lo top t v [] h k r = (omega arith, k, omega arith)
-rising-snoc lo top t v (e ∷ es) h k r = (r .0, r .1, rising-snoc (suc (e .stamp)) top t v es h k (r .2))
-
-rising-drop : (w lo top : ℕ) (es : List Event) → Rising lo top es → Rising lo top (dropBelow w es)
-unfolding dropBelow
-rising-drop w lo top [] r = r
-rising-drop w lo top (e ∷ es) r = go (ltb (e .stamp) w) (rising-drop w (suc (e .stamp)) top es (r .2))
-  where
-    go : (b : Bool) → Rising (suc (e .stamp)) top (dropBelow w es) → Rising lo top (cond b (dropBelow w es) (e ∷ es))
-    go true h = let q = r .0 in rising-low (suc (e .stamp)) lo top (dropBelow w es) (omega arith) h
-    go false h = r
-
 -- ---- let go
 
 held-sound : (n : ℕ) (c : Cell) (es : List Event) → SoundCell n c → length es ≤ room → Rising 0 (c .bound) es → SoundCell n (withHeld es c)
@@ -89,10 +65,6 @@ held-sound n c es ok l r = record { arguments = ok .arguments; value = ok .value
 dropped-sound : (n w : ℕ) (c : Cell) (b : Bool) → SoundCell n c → SoundCell n (withHeld (cond b (dropBelow w (c .held)) (c .held)) c)
 dropped-sound n w c true ok = let d = drop-shorter w (c .held) in let f = ok .few in held-sound n c (dropBelow w (c .held)) ok (omega arith) (rising-drop w 0 (c .bound) (c .held) (ok .held))
 dropped-sound n w c false ok = held-sound n c (c .held) ok (ok .few) (ok .held)
-
-dropped-own : (w : ℕ) (c : Cell) (b : Bool) → Own c → Own (withHeld (cond b (dropBelow w (c .held)) (c .held)) c)
-dropped-own w c true own d = rising-drop w 0 (c .kept .since) (c .held) (own d)
-dropped-own w c false own d = own d
 
 pub release-sound : {cap : ℕ} (s : ℕ) (M : State) → Sound cap M → Sound cap (release s M)
 release-sound s M ok =
@@ -111,10 +83,6 @@ releases-sound ss M ok =
 cond-none : (p : Bool) (v : ℤ) (o : Option ℤ) → (p ≡ true → ⊥) → o ≡ none → cond p (some v) o ≡ none
 cond-none true v o h e = absurd (h refl)
 cond-none false v o h e = e
-
-and-true : (p q : Bool) → (p && q) ≡ true → (p ≡ true) × (q ≡ true)
-and-true true q e = (refl, e)
-and-true false q e = let z : _≡_ {A = ℕ} 0 1 = ap (λ (b : Bool). cond b 1 0) e in absurd (omega arith)
 
 module _ (y t : ℕ) (v : ℤ) (l : t < y) (hv : IsValue v) where
   value-kept : (p : Bool) (k : Kept) → DelayKept y k → DelayKept y (valueTold p t v k)
@@ -154,33 +122,6 @@ module _ (y t : ℕ) (v : ℤ) (l : t < y) (hv : IsValue v) where
   kept-told (two g a b) s k ok = ok
   kept-told (last a b) s k ok = record { prev = cond-value (eqb a s) (some v) (k .prev) hv (ok .prev); fresh = λ z. absurd (omega (arith, l)); since = ok .since; value = ok .value; prior = ok .prior }
   kept-told (delay a b) s k ok = since-kept (eqb b s) (priorTold (eqb a s) y t v (valueTold (eqb a s) t v k)) (prior-kept (eqb a s) (valueTold (eqb a s) t v k) (value-kept (eqb a s) k ok))
-
--- `since` never falls
-since-up : (p : Bool) (y t : ℕ) (k : Kept) → k .since ≤ sinceTold p y t k .since
-since-up p y t k = go (p && leb (k .since) t) refl
-  where
-    go : (b : Bool) → (p && leb (k .since) t) ≡ b → k .since ≤ cond b (withSince (t + 1) (withValue (cond (eqb y (t + 1)) (k .prior) none) k)) k .since
-    go true e = let h = leb-true (k .since) t (and-true p (leb (k .since) t) e .1) in omega arith
-    go false e = omega arith
-
-told-own : (e : Eqn) (s y t : ℕ) (v : ℤ) (k : Kept) (es : List Event) → (T (isDelay (eqnGroup e)) → Rising 0 (k .since) es) → T (isDelay (eqnGroup e)) → Rising 0 (keptTold e s y t v k .since) es
-told-own input s y t v k es own d = absurd d
-told-own nil s y t v k es own d = absurd d
-told-own unit s y t v k es own d = absurd d
-told-own (one f a) s y t v k es own d = absurd d
-told-own (two g a b) s y t v k es own d = absurd d
-told-own (last a b) s y t v k es own d = absurd d
-told-own (delay a b) s y t v k es own d =
-    let x = priorTold (eqb a s) y t v (valueTold (eqb a s) t v k) in
-    rising-top 0 (k .since) (sinceTold (eqb b s) y t x .since) es (since-up (eqb b s) y t x) (own d)
-
-own-told : (s t : ℕ) (v : ℤ) (c : Cell) → Own c → Own (told s t v c)
-unfolding told
-own-told s t v c own = go (ltb t (c .bound))
-  where
-    go : (b : Bool) → Own (withKept (cond b (keptTold (c .eqn) s (c .bound) t v (c .kept)) (c .kept)) c)
-    go true d = told-own (c .eqn) s (c .bound) t v (c .kept) (c .held) own d
-    go false d = own d
 
 with-kept : (n : ℕ) (c : Cell) (k : Kept) → SoundCell n c → IsKept (c .eqn) (c .bound) k → SoundCell n (withKept k c)
 with-kept n c k ok h = record { arguments = ok .arguments; value = ok .value; out = ok .out; bound = ok .bound; few = ok .few; held = ok .held; next = ok .next; kept = h }
@@ -272,27 +213,6 @@ absorb-kept (delay _ _) o a b z ok ha =
       unset = λ u. rw (eq-eqb (later o b) 0 u);
       fresh = λ q. absurd (omega arith);
     }
-
--- of a stream that is written, the new event counts in `since` with the others
-rising-past : (lo top z : ℕ) (es : List Event) → Rising lo top es → lo ≤ z → ((p : ℕ) → T (has (found es p)) → p < z) → Rising lo z es
-rising-past lo top z [] r l h = l
-rising-past lo top z (e ∷ es) r l h =
-    (r .0, r .1, rising-past (suc (e .stamp)) top z es (r .2) (h (e .stamp) (rw (eqb-self (e .stamp)) tt)) (λ p k. h p (later-has (eqb (e .stamp) p) p k)))
-  where
-    later-has : (b : Bool) (p : ℕ) → T (has (found es p)) → T (has (cond b (some (e .value)) (found es p)))
-    later-has true p k = tt
-    later-has false p k = k
-
-absorb-own : (e : Eqn) (o a b : Cell) → Rising 0 (o .bound) (o .held) → T (isDelay (eqnGroup e)) → Rising 0 (absorb e o a b .since) (o .held)
-absorb-own input o a b r d = absurd d
-absorb-own nil o a b r d = absurd d
-absorb-own unit o a b r d = absurd d
-absorb-own (one f _) o a b r d = absurd d
-absorb-own (two g _ _) o a b r d = absurd d
-absorb-own (last _ _) o a b r d = absurd d
-absorb-own (delay _ _) o a b r d =
-    rising-past 0 (o .bound) (later o b) (o .held) r (omega arith)
-    (λ p k. let m = past-max (view o) (o .bound) p (held-below 0 (o .bound) (o .held) r p k) k in omega arith)
 
 absent-holds : Holds absent
 absent-holds t = tt

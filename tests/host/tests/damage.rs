@@ -220,11 +220,11 @@ fn damaged_states() {
         }
         for _ in 0..4 {
             let mut bytes = session.state().to_vec();
-            let turned = random.chance(50);
-            for _ in 0..(!turned) as u64 + random.below(3) {
+            let of_a_delay = random.chance(50);
+            for _ in 0..(!of_a_delay) as u64 + random.below(3) {
                 damage(&mut random, &mut bytes, plan.len());
             }
-            if turned {
+            if of_a_delay {
                 ahead(&mut random, &mut bytes, plan.len());
             }
             let mut states = [Lent::of(&bytes), Lent::of(&bytes)];
