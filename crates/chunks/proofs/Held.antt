@@ -1,8 +1,8 @@
 -- A text that has a whole line from a position on, or all that is left of a trace, reads the trace's line there.
 use Prim.Native.Nat.{ℕ, _+_, _-_, _<_, _≤_}
 use mathlib.Core.Path.{_≡_, refl, sym, ap, _∙_}
-use mathlib.Core.Logic.{_⊎_, inl, inr}
-use mathlib.Core.List.{List, [], _++_, append-nil}
+use mathlib.Core.Logic.{inl, inr}
+use mathlib.Core.List.{List, [], _++_}
 use native.Mathlib.Omega.{arith}
 use native.Mathlib.Decide.{decLt}
 use native.Mathlib.Nat.{zero-add}
@@ -15,7 +15,7 @@ use Rattle.trace.specs.declared.Line.{Line}
 use Rattle.trace.specs.declared.Line.the-variants.{Read, Bad}
 use Rattle.trace.specs.Trace.{line}
 use Rattle.trace.proofs.Ends.{line-ends}
-use Rattle.chunks.specs.Window.{Same, Alike, read, bad, longest, Enough}
+use Rattle.chunks.specs.Window.{Same, Alike, read, bad, Enough}
 use Rattle.chunks.proofs.Alike.{line-alike}
 
 -- the trace is the text from the position on, and what follows it

@@ -6,7 +6,7 @@ use mathlib.Core.Logic.{_⊎_, inl, inr}
 use mathlib.Core.Bool.{Bool, true, false, true≢false}
 use mathlib.Core.List.{List, [], _∷_, _++_, append-nil, append-assoc}
 use native.Mathlib.Omega.{arith}
-use lib.ListN.{length, take, drop, getD, length-drop, take-append-drop}
+use lib.ListN.{length, take, drop, length-drop, take-append-drop}
 use lib.Seq.{drop-cons, drop-append-le, drop-drop, drop-length, take-take, length-take-le}
 use Rattle.le.proofs.RoundTrip.{drop-take}
 use Rattle.engine.specs.Reply.{reply}
@@ -18,7 +18,6 @@ use Rattle.chunks.proofs.Held.{window-read, window-bad}
 use Rattle.printer.specs.Print.{refusedText}
 use Rattle.replaying.specs.Replay.{callOf}
 use Rattle.replaying.specs.Whole.{lineNumber, Lines, none, more, Stops, end, bad}
-use Rattle.replay.specs.declared.Stop.{Stop}
 use Rattle.replay.specs.declared.Stop.the-variants.{Before, Bad}
 use Rattle.replay.specs.Played as played
 use Rattle.replay.specs.Played.{Settles, Offered, Trailed}
@@ -78,12 +77,6 @@ between-bad {n} {text} {at} {last} {s} {p} inside whole x e z =
 
 -- the text in hand was kept, and what was read stands behind it
 module _ (old buffer : List ℕ) (left filled : ℕ) (order : left ≤ filled) (inside : filled ≤ length buffer) (kept : take left buffer ≡ old) where
-  text : List ℕ
-  text = take filled buffer
-
-  brought : List ℕ
-  brought = drop left (take filled buffer)
-
   is : take filled buffer ≡ old ++ drop left (take filled buffer)
   is = sym (take-append-drop left (take filled buffer)) ∙ ap (λ (l : List ℕ). l ++ drop left (take filled buffer)) (take-take left filled buffer order ∙ kept)
 

@@ -1,6 +1,6 @@
 -- What is printed is fixed: every step is, and so is what each line reads.
 use Prim.Native.Nat.{ℕ, suc}
-use mathlib.Core.Path.{_≡_, refl, sym, ap, ap₂, _∙_, subst}
+use mathlib.Core.Path.{_≡_, refl, sym, ap, ap₂, subst}
 use mathlib.Core.List.{List, [], _∷_, _++_}
 use native.Mathlib.Omega.{arith}
 use lib.ListN.{length, drop}
@@ -9,12 +9,12 @@ use Rattle.lines.specs.Form.{skip}
 use Rattle.engine.specs.Reply.{reply}
 use Rattle.engine.specs.Load.{loadReply}
 use Rattle.trace.specs.declared.Record.{Record}
-use Rattle.trace.specs.declared.Line.the-variants.{Read, Bad}
+use Rattle.trace.specs.declared.Line.the-variants.{Read}
 use Rattle.trace.specs.Trace.{line}
 use Rattle.printer.specs.Print.{refusedText}
 use Rattle.replaying.specs.declared.Place.{Place}
-use Rattle.replaying.specs.declared.Place.the-variants.{Run, Collect, Rest}
-use Rattle.replaying.specs.Replay.{callOf, refusal, start, step, Prints, here, on}
+use Rattle.replaying.specs.declared.Place.the-variants.{Rest}
+use Rattle.replaying.specs.Replay.{callOf, refusal, step, Prints, here, on}
 use Rattle.replaying.specs.Session.{Replays, ends, goes}
 use Rattle.replaying.specs.Whole.{Lines, none, more, Stops, end, bad, Printed, refused, played}
 

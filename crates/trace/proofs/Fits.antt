@@ -1,5 +1,5 @@
 -- The numbers of a record that was read are numbers of the types that the calls take.
-use Prim.Native.Nat.{ℕ, _-_, _^_, _<_, _≤_}
+use Prim.Native.Nat.{ℕ, _-_, _^_, _<_}
 use mathlib.Core.Path.{_≡_, refl, subst}
 use mathlib.Core.Bool.{Bool, true, false, cond}
 use mathlib.Core.List.{List, [], _∷_}
@@ -19,7 +19,7 @@ use Rattle.lines.specs.Form.{ending, skip, whole, positive, negative, signedAft
 use Rattle.trace.specs.declared.Record.{Record}
 use Rattle.trace.specs.declared.Record.the-variants.{Reading, Progress}
 use Rattle.trace.specs.declared.Line.the-variants.{Read, Bad}
-use Rattle.trace.specs.Trace.{inputKey, stampKey, valueKey, boundKey, word, number, valueAfter, stampAfter, boundAfter, eitherKey, inputAfter, line}
+use Rattle.trace.specs.Trace.{inputKey, stampKey, valueKey, boundKey, valueAfter, stampAfter, boundAfter, eitherKey, inputAfter, line}
 use Rattle.trace.proofs.Bounds.{whole-small}
 use Rattle.trace.proofs.Ends.{bad, fault, word-case, number-case}
 

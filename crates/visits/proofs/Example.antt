@@ -7,9 +7,9 @@ use mathlib.Core.Logic.{inl}
 use mathlib.Core.Bool.{Bool, true, false, not}
 use mathlib.Core.List.{List, [], _∷_, _++_, append-nil, append-assoc}
 use native.Mathlib.Omega.{arith}
-use lib.Dec.{T, leb, ltb}
+use lib.Dec.{T, leb}
 use lib.IntN.{ℤ, pos}
-use lib.ListN.{length}
+use lib.ListN.{length, length-append}
 use borrow.Author.Tests.{le-ltb}
 use Rattle.le.specs.Bytes.{Bytes}
 use Rattle.meaning.specs.Plan.{isInput}
@@ -80,7 +80,7 @@ after-one b cs c = buffer-append b cs (c ∷ [])
 -- two lists of which each is a beginning of the other
 between : {a b : List Event} → Beginning a b → Beginning b a → a ≡ b
 between {a} {b} (r, e) (q, f) =
-    let z : length r ≡ 0 = omega (arith, ap length e, ap length f, lib.ListN.length-append a r, lib.ListN.length-append b q) in
+    let z : length r ≡ 0 = omega (arith, ap length e, ap length f, length-append a r, length-append b q) in
     sym (append-nil a) ∙ ap (λ (l : List Event). a ++ l) (sym (empty r z)) ∙ sym e
   where
     empty : (l : List Event) → length l ≡ 0 → l ≡ []
@@ -134,9 +134,6 @@ module _ (s : List ℕ) (size : length s ≡ stateLength) where
   taken : loadReply visits s .number ≡ 0
   unfolding loadReply
   taken = rw (room-32) visits-taken
-
-  filled : List ℕ
-  filled = loadReply visits s .buffer
 
   plan-is : plan visits s taken ≡ Visits.streams
   plan-is = ap (λ (l : ℕ). declared (capacity l) visits) (load-length visits s) ∙ ap (λ (n : ℕ). declared n visits) room-32 ∙ visits-declared
@@ -220,9 +217,6 @@ module _ (s : List ℕ) (size : length s ≡ stateLength) where
       H : Inside Visits.streams (x .calls) (seenBy (loadReply visits s .buffer) (x .calls)) (leftBy (loadReply visits s .buffer) (x .calls))
       H = holds (x .calls) (x .typed)
 
-      K : State
-      K = after (x .calls) (loaded Visits.streams)
-
       bound-is : y ≡ cellAt (after (x .calls) (loaded Visits.streams)) 0 .bound
       bound-is =
           sym (x .knowing) ∙ ap (known 0) (H .logged)
@@ -231,7 +225,7 @@ module _ (s : List ℕ) (size : length s ≡ stateLength) where
       number-0 : reply (reading 0 t v) b .number ≡ 0
       number-0 =
           ap (λ (l : List ℕ). reply (reading 0 t v) l .number) (x .buffer) ∙ ap (λ (r : Reply). r .number) (H .answers (reading 0 t v))
-          ∙ offer-done t v K (ap isInput (shape-of (x .calls) (x .typed) .eqns 0)) (omega (arith, bound-is)) (λ e. H .claim .demand3 .space (at-rest x q) 0 (behind (x .calls)) t v (reading-number 0 t v K ∙ e))
+          ∙ offer-done t v (after (x .calls) (loaded Visits.streams)) (ap isInput (shape-of (x .calls) (x .typed) .eqns 0)) (omega (arith, bound-is)) (λ e. H .claim .demand3 .space (at-rest x q) 0 (behind (x .calls)) t v (reading-number 0 t v (after (x .calls) (loaded Visits.streams)) ∙ e))
 
       seen-one : seenBy (leftBy f0 (x .calls)) (reading 0 t v ∷ []) ≡ seenIn (reading 0 t v) (reply (reading 0 t v) b) ∷ []
       seen-one = unfold seenBy in ap (λ (l : List ℕ). seenIn (reading 0 t v) (reply (reading 0 t v) l) ∷ []) (sym (x .buffer))

@@ -5,7 +5,7 @@ use mathlib.Core.Bool.{Bool, true, false, cond, _&&_}
 use mathlib.Core.List.{List, [], _∷_, _++_, append-assoc}
 use native.Mathlib.Omega.{arith}
 use lib.Dec.{eqb}
-use borrow.Author.Tests.{eqb-true}
+use borrow.Author.Tests.{eqb-true, eq-eqb}
 use Rattle.meaning.specs.Events.{Event, ev}
 use Rattle.machine.specs.Calls.{Call, reading, progress, moving, running, collecting}
 use Rattle.runs.specs.Seen.{Seen, readingOf, boundOf, isCollect, accepted, knownFrom, handed}
@@ -89,7 +89,7 @@ module _ (o : ℕ) where
   linesOf (e ∷ es) = eventText o (e .stamp) (e .value) ++ linesOf es
 
   self : eqb o o ≡ true
-  self = borrow.Author.Tests.eq-eqb o o refl
+  self = eq-eqb o o refl
 
   one : (c : Call) (x : Seen) (r : List ℕ) (h : List Event) → PlainIn c x → r ≡ linesOf h → lineIn c x ++ r ≡ linesOf (cond (eqb (x .number) 0 && isCollect o c) (ev (x .stamp) (x .value) ∷ h) h)
   one (reading s t v) x r h p e = rw p e

@@ -1,11 +1,11 @@
 -- The count of visits, of document 01's example: with a visit at 3 and one at 5 every solution counts 0 at 0, 1 at 3 and 2 at 5.
 use Prim.Native.Nat.{ℕ, zero, suc, _<_, _≤_}
-use mathlib.Core.Path.{_≡_, refl, sym, ap, ap₂, _∙_}
+use mathlib.Core.Path.{_≡_, refl, ap, ap₂, _∙_}
 use mathlib.Core.Bool.{true, false}
 use mathlib.Core.Option.{Option, none, some}
 use mathlib.Core.List.{List, [], _∷_}
 use native.Mathlib.Omega.{arith}
-use lib.IntN.{pos}
+use lib.IntN.{ℤ, pos}
 use borrow.Author.Tests.{ne-eqb}
 use Rattle.num.specs.Arithmetic.{added}
 use Rattle.meaning.specs.Plan.{input, unit, one, two, last, set, plus, merge}
@@ -33,7 +33,7 @@ module _ (rd S : Streams) (solves : Solves (declaredPlan streams) rd S horizon) 
       let e0 = solves .each 0 t l ∙ read t in
       let e1 = solves .each 1 t l in
       let e2 = solves .each 2 t l ∙ ap (one-at (set (pos 0)) t) e1 in
-      let e3 = solves .each 3 t l ∙ ap (λ (o : Option lib.IntN.ℤ). last-at o (latest (S 5) t)) e0 in
+      let e3 = solves .each 3 t l ∙ ap (λ (o : Option ℤ). last-at o (latest (S 5) t)) e0 in
       let e4 = solves .each 4 t l ∙ ap (one-at (plus (pos 1)) t) e3 in
       solves .each 5 t l ∙ ap₂ orElse e4 e2
 

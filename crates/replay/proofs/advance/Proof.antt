@@ -1,3 +1,4 @@
+-- `replay::advance` meets its contract.
 use lib.ListN.{length}
 use borrow.Author.Tests.{ltb-true}
 use mathlib.Core.Path.{sym}
@@ -7,71 +8,51 @@ use lib.Seq.{length-take-le}
 use Rattle.replay.specs.Hand.{hand}
 use Rattle.replay.proofs.Hand.{part-onward, bad-ended, last-ended}
 use borrow.Author.Needs.{needs}
-use native.Mathlib.Omega.{arith}
 use Rattle.replay.proofs.advance.Statement.{statement}
 use Rattle.replay.proofs.advance.Tie as tie
-use Rattle.replay.proofs.advance.Reads as reads
-use Rattle.replay.proofs.advance.Lts as lts
-use Rattle.replay.proofs.ready.Reads as ready-reads
-use Rattle.replay.proofs.replay_lines.Reads as replay-lines-reads
 
--- src/main.rt:112:9
 ready-requires : tie.Need-ready-requires
 ready-requires c κs = search needs
 
--- src/main.rt:114:50
 slice-reshare-prefix-replay-lines : tie.Need-slice-reshare-prefix-replay-lines
 slice-reshare-prefix-replay-lines c = search needs
 
--- src/main.rt:114:50
 slice-aggregate-replay-lines : tie.Need-slice-aggregate-replay-lines
 slice-aggregate-replay-lines c = sym (length-take-le (c .before .before .before .before .ready .result) (c .before .before .before .before .ready .last .1 .0) (c .before .before .before .before .ready .ensures .0 .1))
 
--- src/main.rt:114:27
 replay-lines-requires : tie.Need-replay-lines-requires
 replay-lines-requires c κs = search needs
 
--- src/main.rt:114:22
 enum-known-p : tie.Need-enum-known-p
 enum-known-p c = search needs
 
--- src/main.rt:115:9
 enum-told : tie.Need-enum-told
 enum-told c = search needs
 
--- src/main.rt:115:9
 same-length : tie.Need-same-length
 same-length c = search needs
 
--- src/main.rt:115:9
 same-length-2 : tie.Need-same-length-2
 same-length-2 c = search needs
 
--- src/main.rt:115:9
 returns : tie.Need-returns
 returns c = bad-ended (hand (now (c .before .before .before .before .before .before .before .before .before .before .before .before .before .args .buffer)) (c .before .before .before .before .before .before .before .before .before .before .before .before .before .args .from) (c .before .before .before .before .before .before .before .before .before .before .before .before .before .args .end)) (c .before .before .before .before .before .before .before .before .before .ready .last .1 .0) (c .before .before .before .before .before .before .before .before .before .before .before .before .before .args .end - c .before .before .before .before .before .before .before .before .before .before .before .before .before .args .from) (c .before .before .before .before .before .before .before .before .before .ready .result) (c .before .before .before .before .before .before .before .before .before .ready .ensures .0 .0) (c .before .before .before .before .before .before .before .before .before .ready .ensures .0 .1) (c .before .before .before .before .before .before .before .before .before .ready .ensures .1) (rw (c .enum-told .given .1) at (c .before .before .before .before .replay-lines .ensures))
 
--- src/main.rt:118:9
 same-length-3 : tie.Need-same-length-3
 same-length-3 c = search needs
 
--- src/main.rt:118:9
 same-length-4 : tie.Need-same-length-4
 same-length-4 c = search needs
 
--- src/main.rt:118:9
 returns-2 : tie.Need-returns-2
 returns-2 c = last-ended (hand (now (c .before .before .before .before .before .before .before .before .before .before .before .before .before .before .before .args .buffer)) (c .before .before .before .before .before .before .before .before .before .before .before .before .before .before .before .args .from) (c .before .before .before .before .before .before .before .before .before .before .before .before .before .before .before .args .end)) (c .before .before .before .before .before .before .before .before .before .before .before .ready .last .1 .0) (c .before .before .before .before .before .before .before .before .before .before .before .before .before .before .before .args .end - c .before .before .before .before .before .before .before .before .before .before .before .before .before .before .before .args .from) (c .before .before .before .before .before .before .before .before .before .before .before .ready .result) (c .before .before .before .before .before .before .before .before .before .before .before .ready .ensures .0 .0) (c .before .before .before .before .before .before .before .before .before .before .before .ready .ensures .0 .1) (c .before .before .before .before .before .before .before .before .before .before .before .ready .ensures .1) (c .if1 .taken) (ltb-true (c .before .before .before .before .before .before .before .before .before .before .before .ready .result) (length (c .before .before .before .before .before .before .before .before .before .before .before .ready .last .1 .0)) (c .if1 .taken)) (rw (c .before .before .p .given .1) at (c .before .before .before .before .before .before .replay-lines .ensures))
 
--- src/main.rt:108:1
 same-length-5 : tie.Need-same-length-5
 same-length-5 c = search needs
 
--- src/main.rt:108:1
 same-length-6 : tie.Need-same-length-6
 same-length-6 c = search needs
 
--- src/main.rt:108:1
 returns-3 : tie.Need-returns-3
 returns-3 c = part-onward (hand (now (c .before .before .before .before .before .before .before .before .before .before .before .before .before .before .before .args .buffer)) (c .before .before .before .before .before .before .before .before .before .before .before .before .before .before .before .args .from) (c .before .before .before .before .before .before .before .before .before .before .before .before .before .before .before .args .end)) (c .before .before .before .before .before .before .before .before .before .before .before .ready .last .1 .0) (c .before .before .before .before .before .before .before .before .before .before .before .before .before .before .before .args .end - c .before .before .before .before .before .before .before .before .before .before .before .before .before .before .before .args .from) (c .before .before .before .before .before .before .before .before .before .before .before .ready .result) (c .before .before .before .before .before .before .before .before .before .before .before .ready .ensures .0 .0) (c .before .before .before .before .before .before .before .before .before .before .before .ready .ensures .0 .1) (c .before .before .before .before .before .before .before .before .before .before .before .ready .ensures .1) (c .if1 .left) (rw (c .before .before .p .given .1) at (c .before .before .before .before .before .before .replay-lines .ensures))
 

@@ -1,3 +1,4 @@
+-- `replay::load` meets its contract.
 use mathlib.Core.Path.{sym}
 use denote.Ref.{now}
 use lib.ListN.{take}
@@ -9,62 +10,43 @@ use borrow.Author.Needs.{needs}
 use native.Mathlib.Omega.{arith}
 use Rattle.replay.proofs.load.Statement.{statement}
 use Rattle.replay.proofs.load.Tie as tie
-use Rattle.replay.proofs.load.Reads as reads
-use Rattle.replay.proofs.load.Lts as lts
-use Rattle.io.proofs.buffer.Reads as buffer-reads
-use Rattle.io.proofs.write_all.Reads as write-all-reads
-use Rattle.replay.proofs.read_start.Reads as read-start-reads
-use Rattle.replaying.proofs.load.Reads as load-reads
 
--- src/main.rt:187:24
 slice-aggregate-read-start : tie.Need-slice-aggregate-read-start
 slice-aggregate-read-start c = search needs
 
--- src/main.rt:187:37
 slice-aggregate-read-start-2 : tie.Need-slice-aggregate-read-start-2
 slice-aggregate-read-start-2 c = search needs
 
--- src/main.rt:187:9
 read-start-requires : tie.Need-read-start-requires
 read-start-requires c κs = search needs
 
--- src/main.rt:188:19
 buffer-requires : tie.Need-buffer-requires
 buffer-requires c κs = search needs
 
--- src/main.rt:189:41
 array-share-prefix-text : tie.Need-array-share-prefix-text
 array-share-prefix-text c = search needs
 
--- src/main.rt:189:41
 slice-aggregate-load : tie.Need-slice-aggregate-load
 slice-aggregate-load c = sym (length-take-le (c .before .before .before .before .read-start .result) (c .before .before .before .before .read-start .last .1 .0) (c .before .before .before .before .read-start .ensures))
 
--- src/main.rt:189:53
 slice-aggregate-load-2 : tie.Need-slice-aggregate-load-2
 slice-aggregate-load-2 c = search needs
 
--- src/main.rt:189:9
 load-requires : tie.Need-load-requires
 load-requires c κs = search needs
 
--- src/main.rt:191:34
 array-share-prefix-out : tie.Need-array-share-prefix-out
 array-share-prefix-out c = omega (arith, c .before .before .before .load .ensures .1 .0 .past, refusal-most (loadReply (take (c .before .before .before .before .before .before .before .before .before .read-start .result) (c .before .before .before .before .before .before .before .before .before .read-start .last .1 .0)) (now (c .before .before .before .before .before .before .before .before .before .before .before .before .before .args .state)) .number), put-length (c .before .before .before .load .ensures .1 .0))
 
--- src/main.rt:191:34
 slice-aggregate-write-all : tie.Need-slice-aggregate-write-all
 slice-aggregate-write-all c = sym (length-take-le (c .before .before .before .before .load .result .end) (c .before .before .before .before .load .last .1 .1 .0) (omega (arith, c .before .before .before .before .load .ensures .1 .0 .past, refusal-most (loadReply (take (c .before .before .before .before .before .before .before .before .before .before .read-start .result) (c .before .before .before .before .before .before .before .before .before .before .read-start .last .1 .0)) (now (c .before .before .before .before .before .before .before .before .before .before .before .before .before .before .args .state)) .number), put-length (c .before .before .before .before .load .ensures .1 .0))))
 
--- src/main.rt:191:5
 write-all-requires : tie.Need-write-all-requires
 write-all-requires c κs = search needs
 
--- src/main.rt:183:1
 same-length : tie.Need-same-length
 same-length c = search needs
 
--- src/main.rt:183:1
 returns : tie.Need-returns
 returns c = search needs
 

@@ -1,3 +1,4 @@
+-- `replay::ready` meets its contract.
 use Prim.Native.Nat.{_-_}
 use denote.Ref.{now}
 use lib.ListN.{length}
@@ -6,44 +7,31 @@ use borrow.Author.Needs.{needs}
 use native.Mathlib.Omega.{arith}
 use Rattle.replay.proofs.ready.Statement.{statement}
 use Rattle.replay.proofs.ready.Tie as tie
-use Rattle.replay.proofs.ready.Reads as reads
-use Rattle.replay.proofs.ready.Lts as lts
-use Rattle.io.proofs.read_full.Reads as read-full-reads
-use Rattle.le.proofs.shift.Reads as shift-reads
 
--- src/main.rt:101:16
 sub-left : tie.Need-sub-left
 sub-left c = search needs
 
--- src/main.rt:102:5
 shift-requires : tie.Need-shift-requires
 shift-requires c κs = search needs
 
--- src/main.rt:103:33
 sub-read-full : tie.Need-sub-read-full
 sub-read-full c = search needs
 
--- src/main.rt:103:33
 part-read-full-start : tie.Need-part-read-full-start
 part-read-full-start c = search needs
 
--- src/main.rt:103:33
 part-read-full-end : tie.Need-part-read-full-end
 part-read-full-end c = search needs
 
--- src/main.rt:103:9
 read-full-requires : tie.Need-read-full-requires
 read-full-requires c κs = search needs
 
--- src/main.rt:104:5
 add-result : tie.Need-add-result
 add-result c = search needs
 
--- src/main.rt:96:1
 same-length : tie.Need-same-length
 same-length c = search needs
 
--- src/main.rt:96:1
 returns : tie.Need-returns
 returns c = (search needs, kept (now (c .before .before .before .before .before .before .before .before .before .args .buffer)) (c .before .before .before .before .before .before .shift .last .0) (c .before .before .read-full .last .1 .0) (c .before .before .before .before .before .before .before .before .before .args .from) (c .before .before .before .before .before .before .before .before .before .args .end - c .before .before .before .before .before .before .before .before .before .args .from) (length (c .before .before .before .before .before .before .shift .last .0) - (c .before .before .before .before .before .before .before .before .before .args .end - c .before .before .before .before .before .before .before .before .before .args .from)) (omega arith) (c .before .before .before .before .before .before .shift .ensures))
 

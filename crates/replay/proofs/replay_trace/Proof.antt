@@ -1,3 +1,4 @@
+-- `replay::replay_trace` meets its contract.
 use mathlib.Core.Path.{_≡_, refl, sym, _∙_}
 use Prim.Native.Nat.{_≤_}
 use mathlib.Core.List.{[]}
@@ -10,10 +11,6 @@ use borrow.Author.Needs.{needs}
 use native.Mathlib.Omega.{arith}
 use Rattle.replay.proofs.replay_trace.Statement.{statement}
 use Rattle.replay.proofs.replay_trace.Tie as tie
-use Rattle.replay.proofs.replay_trace.Reads as reads
-use Rattle.replay.proofs.replay_trace.Lts as lts
-use Rattle.io.proofs.buffer.Reads as buffer-reads
-use Rattle.replay.proofs.advance.Reads as advance-reads
 
 abbrev Inv-loop : tie.InvT-loop
 Inv-loop fd state₀ n buffer₀ from₀ end₀ reads₀ state buffer from end reads = (from ≤ end) × (end ≤ length buffer) × (4096 ≡ length buffer) × (length state ≡ length state₀) × Onward n [] state₀ (hand buffer from end) state
@@ -21,55 +18,42 @@ Inv-loop fd state₀ n buffer₀ from₀ end₀ reads₀ state buffer from end r
 abbrev μ-loop : tie.MeasureT-loop
 μ-loop fd state₀ n buffer₀ from₀ end₀ reads₀ state buffer from end reads = reads
 
--- src/main.rt:131:22
 buffer-requires : tie.Need-buffer-requires Inv-loop μ-loop
 buffer-requires c κs = search needs
 
--- src/main.rt:135:5
 loop-holds : tie.Need-loop-holds Inv-loop μ-loop
 loop-holds c = (omega arith, omega arith, c .buffer .ensures, refl, onward-none (c .before .before .args .n) (now (c .before .before .args .state)) (hand (c .buffer .result) 0 0) refl)
 
--- src/main.rt:136:68
 slice-aggregate-advance : tie.Need-slice-aggregate-advance Inv-loop μ-loop
 slice-aggregate-advance c = c .before .before .before .loop .inv .2
 
--- src/main.rt:136:46
 advance-requires : tie.Need-advance-requires Inv-loop μ-loop
 advance-requires c κs = omega arith
 
--- src/main.rt:136:32
 enum-known-p : tie.Need-enum-known-p Inv-loop μ-loop
 enum-known-p c = search needs
 
--- src/main.rt:137:13
 enum-told : tie.Need-enum-told Inv-loop μ-loop
 enum-told c = search needs
 
--- src/main.rt:137:13
 same-length : tie.Need-same-length Inv-loop μ-loop
 same-length c = c .before .before .before .before .before .advance .kept .1 .0 ∙ c .before .before .before .before .before .before .before .before .before .loop .inv .3
 
--- src/main.rt:137:13
 returns : tie.Need-returns Inv-loop μ-loop
 returns c = ended-trailed (c .before .before .before .before .before .before .before .before .before .loop .inv .4) (rw (c .enum-told .given .1) at (c .before .before .before .before .before .advance .ensures))
 
--- src/main.rt:141:9
 sub-reads : tie.Need-sub-reads Inv-loop μ-loop
 sub-reads c = omega arith
 
--- src/main.rt:135:5
 loop-less : tie.Need-loop-less Inv-loop μ-loop
 loop-less c = omega arith
 
--- src/main.rt:135:5
 loop-again : tie.Need-loop-again Inv-loop μ-loop
 loop-again c = let a : Advances (c .before .before .before .before .before .before .before .before .before .before .before .before .before .args .n) (hand (c .before .before .before .before .before .before .before .before .before .before .loop .buffer) (c .before .before .before .before .before .before .before .before .before .before .loop .from) (c .before .before .before .before .before .before .before .before .before .before .loop .end)) (c .before .before .before .before .before .before .before .before .before .before .loop .state) (Part (c .before .p .given .0 .0) (c .before .p .given .0 .1 .0)) (c .before .before .before .before .before .before .advance .last .1 .1 .1 .0) (c .before .before .before .before .before .before .advance .last .1 .0) = (rw (c .before .p .given .1) at (c .before .before .before .before .before .before .advance .ensures)) in (a .0, a .1, c .before .before .before .before .before .before .before .before .before .before .loop .inv .2 ∙ sym (c .before .before .before .before .before .before .advance .kept .1 .1 .1 .0), c .before .before .before .before .before .before .advance .kept .1 .0 ∙ c .before .before .before .before .before .before .before .before .before .before .loop .inv .3, onward-then (c .before .before .before .before .before .before .before .before .before .before .loop .inv .4) (a .2))
 
--- src/main.rt:128:1
 same-length-2 : tie.Need-same-length-2 Inv-loop μ-loop
 same-length-2 c = c .before .loop .inv .3
 
--- src/main.rt:128:1
 returns-2 : tie.Need-returns-2 Inv-loop μ-loop
 returns-2 c = onward-trailed (c .before .loop .inv .4)
 
