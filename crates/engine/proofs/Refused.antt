@@ -17,7 +17,7 @@ use Rattle.engine.proofs.Loads.{load-refused}
 
 -- a number alone has results 0
 plain-leaves : (r : Reply) (k : ℕ) (s : List ℕ) → r ≡ plain k s → LeavesAll r s
-plain-leaves r k s e = record { moves = ap (λ (y : Reply). y .moves) e; stamp = ap (λ (y : Reply). y .stamp) e; value = ap (λ (y : Reply). y .value) e; buffer = ap (λ (y : Reply). y .buffer) e }
+plain-leaves r k s e = record { noMoves = ap (λ (y : Reply). y .moves) e; noStamp = ap (λ (y : Reply). y .stamp) e; noValue = ap (λ (y : Reply). y .value) e; sameBuffer = ap (λ (y : Reply). y .buffer) e }
 
 -- a load has no results
 load-results : (text s : List ℕ) → (loadReply text s .moves ≡ 0) × (loadReply text s .stamp ≡ 0) × (loadReply text s .value ≡ pos 0)
@@ -33,6 +33,6 @@ load-results text s = go (ltb 0 (capacity (length s)))
 -- "on any other number all further results are 0 and the state stays byte for byte"
 pub refusals : Refusals
 refusals = record {
-  load = λ text s z. let r = load-results text s in record { moves = r .0; stamp = r .1; value = r .2; buffer = load-refused text s z };
-  call = λ c s b z. plain-leaves (reply c s) (reply c s .number) s (refused-plain c s b z);
+  ofLoad = λ text s z. let r = load-results text s in record { noMoves = r .0; noStamp = r .1; noValue = r .2; sameBuffer = load-refused text s z };
+  ofCall = λ c s b z. plain-leaves (reply c s) (reply c s .number) s (refused-plain c s b z);
 }

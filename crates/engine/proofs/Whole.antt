@@ -32,7 +32,7 @@ use Rattle.calls.specs.Reply.{Reply, replyOf}
 use Rattle.calls.proofs.Replies.{call-15}
 use Rattle.engine.specs.Reply.{reply}
 use Rattle.engine.specs.Load.{loadReply}
-use Rattle.engine.specs.Demands.{Act, load, make, putBack, Course, Point, seenIn, courseOfCall, acted, goes, pointAfter, TypedAct, AllTypedActs, leftBy, RestAhead, Demands, DemandsAt}
+use Rattle.engine.specs.Demands.{Act, load, make, putBack, Course, Point, seenIn, courseOfCall, acted, pointFrom, pointAfter, TypedAct, AllTypedActs, leftBy, RestAhead, Demands, DemandsAt}
 use Rattle.engine.specs.Inside.{callsOf, Inside, InsideAt}
 use Rattle.engine.proofs.Replies.{reply-machine}
 use Rattle.engine.proofs.Loads.{load-done, load-refused}
@@ -160,8 +160,8 @@ kept-act (make c) past p t h k = by (p .course) k
     by (some x) k = (k .0 ++ c ∷ [], further (x .plan) (k .0) (x .seen) (p .bytes) c t (k .1))
 kept-act (putBack n) past p t h k = kept-at past n p h k
 
-kept-all : (acts : List Act) (past : List Point) (p : Point) → AllTypedActs acts → AllKept past → KeptAt p → KeptAt (goes acts past p)
-unfolding goes
+kept-all : (acts : List Act) (past : List Point) (p : Point) → AllTypedActs acts → AllKept past → KeptAt p → KeptAt (pointFrom acts past p)
+unfolding pointFrom
 kept-all [] past p t h k = k
 kept-all (a ∷ acts) past p t h k = kept-all acts (past ++ p ∷ []) (acted a past p) (t .1) (kept-more past p h k) (kept-act a past p (t .0) h k)
 
@@ -213,7 +213,7 @@ kept-demands x b cs k =
       demand3 =
           subst (λ (l : List Seen). Demand3 (x .plan) l (λ d. reply d b .number) (c .solution)) (sym (k .logged))
           (demand-numbers (x .plan) (log cs (loaded (x .plan))) (nextNumber (x .plan) cs) (λ d. reply d b .number) (c .solution) (next-number (x .plan) cs (x .seen) b k) (c .demand3));
-      ahead = rest (rest-reached (x .plan) keep (omega arith) cs (k .typed));
+      canRest = rest (rest-reached (x .plan) keep (omega arith) cs (k .typed));
       never15 = λ d q. call-15 d (final (x .plan) cs) (next-number (x .plan) cs (x .seen) b k d ∙ q);
     }
   where
@@ -264,12 +264,12 @@ load-then text s e cs t =
 
 -- ---- a copy put back
 
-goes-append : (acts more : List Act) (past : List Point) (p : Point) → (ps : List Point) × (goes (acts ++ more) past p ≡ goes more (past ++ ps) (goes acts past p)) × (length ps ≡ length acts)
-unfolding goes
-goes-append [] more past p = ([], ap (λ (l : List Point). goes more l p) (sym (append-nil past)), refl)
+goes-append : (acts more : List Act) (past : List Point) (p : Point) → (ps : List Point) × (pointFrom (acts ++ more) past p ≡ pointFrom more (past ++ ps) (pointFrom acts past p)) × (length ps ≡ length acts)
+unfolding pointFrom
+goes-append [] more past p = ([], ap (λ (l : List Point). pointFrom more l p) (sym (append-nil past)), refl)
 goes-append (a ∷ acts) more past p =
     let g = goes-append acts more (past ++ p ∷ []) (acted a past p) in
-    (p ∷ g .0, g .1 ∙ ap (λ (l : List Point). goes more l (goes acts (past ++ p ∷ []) (acted a past p))) (append-assoc past (p ∷ []) (g .0)), ap suc (g .2))
+    (p ∷ g .0, g .1 ∙ ap (λ (l : List Point). pointFrom more l (pointFrom acts (past ++ p ∷ []) (acted a past p))) (append-assoc past (p ∷ []) (g .0)), ap suc (g .2))
 
 point-in : (ps qs : List Point) (k : ℕ) (p q : Point) → k < length ps → getD (ps ++ qs) k p ≡ getD ps k q
 point-in [] qs k p q l = absurd (omega arith)
@@ -285,20 +285,20 @@ point-out [] p = refl
 point-out (r ∷ ps) p = point-out ps p
 
 -- whatever is done meanwhile
-goes-back : (more : List Act) (past : List Point) (p : Point) (k : ℕ) → k < length past → goes (more ++ putBack k ∷ []) past p ≡ getD past k p
-unfolding goes acted
+goes-back : (more : List Act) (past : List Point) (p : Point) (k : ℕ) → k < length past → pointFrom (more ++ putBack k ∷ []) past p ≡ getD past k p
+unfolding pointFrom acted
 goes-back [] past p k l = refl
 goes-back (a ∷ more) past p k l =
     goes-back more (past ++ p ∷ []) (acted a past p) k (rw (length-append past (p ∷ [])) (omega arith)) ∙ point-in past (p ∷ []) k (acted a past p) p l
 
--- A copy put back goes on as the original did: it has had the acts up to the copy, and none after it.
+-- A copy put back pointFrom on as the original did: it has had the acts up to the copy, and none after it.
 pub put-back : (acts more : List Act) (s : List ℕ) → pointAfter (acts ++ (more ++ putBack (length acts) ∷ [])) s ≡ pointAfter acts s
-unfolding goes acted
+unfolding pointFrom acted
 put-back acts more s =
     let g = goes-append acts (more ++ putBack (length acts) ∷ []) [] (record { bytes = s; course = none }) in
     g .1 ∙ from more (g .0) (g .2)
   where
-    from : (more : List Act) (ps : List Point) → length ps ≡ length acts → goes (more ++ putBack (length acts) ∷ []) ps (pointAfter acts s) ≡ pointAfter acts s
+    from : (more : List Act) (ps : List Point) → length ps ≡ length acts → pointFrom (more ++ putBack (length acts) ∷ []) ps (pointAfter acts s) ≡ pointAfter acts s
     from [] ps e = rw (sym e) (point-out ps (pointAfter acts s))
     from (a ∷ more) ps e =
         rw (sym e)

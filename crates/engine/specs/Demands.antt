@@ -28,14 +28,14 @@ use Rattle.engine.specs.Load.{loadReply}
 
 -- "on any other number all further results are 0 and the state stays byte for byte"
 pub record LeavesAll (r : Reply) (s : List ℕ) : Type 0 where
-  pub moves : r .moves ≡ 0
-  pub stamp : r .stamp ≡ 0
-  pub value : r .value ≡ pos 0
-  pub buffer : r .buffer ≡ s
+  pub noMoves : r .moves ≡ 0
+  pub noStamp : r .stamp ≡ 0
+  pub noValue : r .value ≡ pos 0
+  pub sameBuffer : r .buffer ≡ s
 
 pub record Refusals : Type 0 where
-  pub load : (text s : List ℕ) → (loadReply text s .number ≡ 0 → ⊥) → LeavesAll (loadReply text s) s
-  pub call : (c : Call) (s : List ℕ) → Bytes s → (reply c s .number ≡ 0 → ⊥) → LeavesAll (reply c s) s
+  pub ofLoad : (text s : List ℕ) → (loadReply text s .number ≡ 0 → ⊥) → LeavesAll (loadReply text s) s
+  pub ofCall : (c : Call) (s : List ℕ) → Bytes s → (reply c s .number ≡ 0 → ⊥) → LeavesAll (reply c s) s
 
 -- ## A history
 
@@ -74,13 +74,13 @@ acted (load text) past p = let r = loadReply text (p .bytes) in record { bytes =
 acted (make c) past p = let r = reply c (p .bytes) in record { bytes = r .buffer; course = courseOfCall c r (p .course) }
 acted (putBack k) past p = getD past k p
 
-unfoldable pub goes : List Act → List Point → Point → Point
-goes [] past p = p
-goes (a ∷ acts) past p = goes acts (past ++ p ∷ []) (acted a past p)
+unfoldable pub pointFrom : List Act → List Point → Point → Point
+pointFrom [] past p = p
+pointFrom (a ∷ acts) past p = pointFrom acts (past ++ p ∷ []) (acted a past p)
 
 -- the point after a history of a buffer that held any bytes before it
 abbrev pub pointAfter : List Act → List ℕ → Point
-pointAfter acts s = goes acts [] (record { bytes = s; course = none })
+pointAfter acts s = pointFrom acts [] (record { bytes = s; course = none })
 
 -- the arguments have the types that the calls take
 abbrev pub TypedAct : Act → Type 0
@@ -115,7 +115,7 @@ pub record Demands (x : Course) (b : List ℕ) : Type 1 where
   pub only : (S : Streams) → Solves (declaredPlan (x .plan)) (readingsSeen (x .seen)) S horizon → (s t : ℕ) → t < horizon → S s t ≡ solution s t
   -- demand 3 of that solution
   pub demand3 : Demand3 (x .plan) (x .seen) (λ c. reply c b .number) solution
-  pub ahead : RestAhead (x .plan) b
+  pub canRest : RestAhead (x .plan) b
   -- "No state left by load and the calls is refused 15."
   pub never15 : (c : Call) → reply c b .number ≡ 15 → ⊥
 

@@ -112,6 +112,6 @@ told-of n most text s done few rs typed w t x =
 pub replay-told : (text s : List ℕ) → loadReply text s .number ≡ 0 → (rs : List Record) → AllTyped (map callOf rs) → (w t : List ℕ) → Replays (capacity (length s)) (loadReply text s .buffer) rs w t → Told (declared (capacity (length s)) text) rs w
 replay-told text s done rs typed w t x =
     let l : capacity (length (filled text s done)) ≡ capacity (length s) = ap capacity (load-length text s) in
-    let few = unfold seenBy leftBy in load-then text s done [] tt .rules .few in
+    let few : length (plan text s done) ≤ capacity (length (filled text s done)) = unfold seenBy leftBy in load-then text s done [] tt .rules .few in
     subst (λ (n : ℕ). Told (declared n text) rs w) l
     (told-of (capacity (length s)) (omega (arith, capacity-few (length s))) text s done (omega (arith, few, l)) rs typed w t x)

@@ -11,7 +11,7 @@ use Rattle.meaning.specs.Events.{Stream, Streams, has}
 use Rattle.machine.specs.State.{Kept, State, cellAt}
 use Rattle.machine.specs.Reach.{pastLatest}
 use Rattle.machine.proofs.Window.{past-le, past-max, past-hit}
-use Rattle.runs.specs.Inside.{known, SetPoint, PastLatest, never, past, KeptAs}
+use Rattle.runs.specs.Inside.{knownIn, SetPoint, PastLatest, never, past, KeptAs}
 use Rattle.runs.proofs.Kept.{keptOf, pointOf, point-le}
 use Rattle.runs.proofs.Tracks.{Tracks}
 
@@ -47,5 +47,5 @@ kept-of (two g a b) K s y = refl
 kept-of (last a b) K s y = record { prev = refl; others = (refl, refl, refl) }
 kept-of (delay a b) K s y = record { prev = refl; since = point-latest (K b) (K s) y; value = refl; prior = refl }
 
-pub kept-as : (S : Streams) (M : State) → Tracks S M → (s : ℕ) → KeptAs (cellAt M s .eqn) (known S M) s (cellAt M s .bound) (cellAt M s .kept)
-kept-as S M inv s = rw (inv .kept s) (kept-of (cellAt M s .eqn) (known S M) s (cellAt M s .bound))
+pub kept-as : (S : Streams) (M : State) → Tracks S M → (s : ℕ) → KeptAs (cellAt M s .eqn) (knownIn S M) s (cellAt M s .bound) (cellAt M s .kept)
+kept-as S M inv s = rw (inv .kept s) (kept-of (cellAt M s .eqn) (knownIn S M) s (cellAt M s .bound))

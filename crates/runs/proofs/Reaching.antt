@@ -25,7 +25,7 @@ use Rattle.machine.proofs.Search.{least-ge, least-le, least-before, least-hit, 
 use Rattle.machine.proofs.Window.{past-mono}
 use Rattle.machine.proofs.Frame.{raise-bound}
 use Rattle.machine.proofs.Moves.{reachOf, goal, goal-ge, can-of, no-input}
-use Rattle.runs.specs.Inside.{known, Fixes, IsReach, Goes, silent, event, MovesAs}
+use Rattle.runs.specs.Inside.{knownIn, Fixes, IsReach, Goes, silent, event, MovesAs}
 use Rattle.runs.proofs.Kept.{keptOf, pointOf, point-le}
 use Rattle.runs.proofs.Tracks.{Tracks}
 use Rattle.runs.proofs.Decide.{Finds, nothing, something, floor, floor-read, arg-at, point-is}
@@ -146,7 +146,7 @@ module _ (S : Streams) (M : State) (inv : Tracks S M) (rd : Streams) (s : ℕ) w
         go k h (no d) = let x = h .0 in omega arith
 
   -- ---- delay: a set point that does not lie below a's bound
-  module _ (a b : ℕ) (la : floor S M inv a ≤ Y s) (lb : floor S M inv b ≤ Y s) (kept : C s .kept ≡ keptOf (delay a b) (known S M) s (Y s)) where
+  module _ (a b : ℕ) (la : floor S M inv a ≤ Y s) (lb : floor S M inv b ≤ Y s) (kept : C s .kept ≡ keptOf (delay a b) (knownIn S M) s (Y s)) where
     abbrev unknown : ℕ → Bool
     unknown t = ltb (Y a) (pointOf (S b) (S s) t)
 

@@ -15,7 +15,7 @@ use Rattle.machine.specs.Calls.{Call, reading, progress, moving, running, colle
 use Rattle.machine.proofs.Rising.{drop-nil}
 use Rattle.runs.specs.Demand3.{isOut}
 use Rattle.runs.specs.Seen.{Typed, AllTyped}
-use Rattle.runs.specs.Inside.{known}
+use Rattle.runs.specs.Inside.{knownIn}
 use Rattle.runs.proofs.Kept.{keptOf}
 use Rattle.runs.proofs.Tracks.{Ahead, Tracks}
 use Rattle.runs.proofs.World.{World, start, then, worlds, Good}
@@ -62,7 +62,7 @@ fresh-ahead (delay a b) M = omega arith
 pub loaded-tracks : (ds : List Declared) (S : Streams) → Tracks S (loaded ds)
 loaded-tracks ds S = record {
   held = λ s. let c = loaded-cell ds s .1 in rw c (sym (drop-nil (leastWaiting s (loaded ds))));
-  kept = λ s. let c = loaded-cell ds s in rw (c .1) (fresh-kept (c .0 .eqn) (known S (loaded ds)) s);
+  kept = λ s. let c = loaded-cell ds s in rw (c .1) (fresh-kept (c .0 .eqn) (knownIn S (loaded ds)) s);
   ahead = λ s. let c = loaded-cell ds s in rw (c .1) (fresh-ahead (c .0 .eqn) (loaded ds));
   top = λ s. let c = loaded-cell ds s .1 in rw c (omega arith);
   taken = λ s. let c = loaded-cell ds s .1 in rw c (omega arith);

@@ -21,7 +21,7 @@ use Rattle.machine.proofs.Cells.{ne-eqb}
 use Rattle.machine.proofs.Window.{Seen, or-none}
 use Rattle.machine.proofs.Rising.{Rising, events-rising, events-some, events-flat, found-append, found-events, found-low, found-high, found-drop, rising-drop, rising-dropped}
 use Rattle.machine.proofs.Release.{waiting-le-next}
-use Rattle.runs.specs.Inside.{cut, known}
+use Rattle.runs.specs.Inside.{cut, knownIn}
 use Rattle.runs.proofs.Kept.{keptOf}
 
 -- ---- what is known of a stream below k
@@ -46,7 +46,7 @@ Ahead (delay a b) M y = y ≤ suc (cellAt M b .bound)
 
 pub record Tracks (S : Streams) (M : State) : Type 0 where
   pub held : (s : ℕ) → cellAt M s .held ≡ dropBelow (leastWaiting s M) (events (S s) (cellAt M s .bound))
-  pub kept : (s : ℕ) → cellAt M s .kept ≡ keptOf (cellAt M s .eqn) (known S M) s (cellAt M s .bound)
+  pub kept : (s : ℕ) → cellAt M s .kept ≡ keptOf (cellAt M s .eqn) (knownIn S M) s (cellAt M s .bound)
   pub ahead : (s : ℕ) → Ahead (cellAt M s .eqn) M (cellAt M s .bound)
   pub top : (s : ℕ) → cellAt M s .bound ≤ horizon
   pub taken : (s : ℕ) → cellAt M s .next ≤ cellAt M s .bound

@@ -41,8 +41,8 @@ pub record HeldAs (f : Stream) (M : State) (s : ℕ) : Type 0 where
 abbrev pub cut : Stream → ℕ → Stream
 cut f k p = cond (ltb p k) (f p) none
 
-abbrev pub known : Streams → State → Streams
-known S M i = cut (S i) (cellAt M i .bound)
+abbrev pub knownIn : Streams → State → Streams
+knownIn S M i = cut (S i) (cellAt M i .bound)
 
 -- "A set point of a delay is a stamp at which b or the delay itself has an event."
 abbrev pub SetPoint : (b d : Stream) → ℕ → Type 0
