@@ -5,7 +5,7 @@ use mathlib.Core.Bool.{Bool, true, false, cond}
 use mathlib.Core.List.{List}
 use lib.Dec.{ltb}
 use lib.ListN.{length}
-use lib.IntN.{ℤ, pos}
+use lib.IntN.{pos}
 use Rattle.operators.specs.Limits.{capacity}
 use Rattle.plan.specs.Rules.{number}
 use Rattle.calls.specs.Reply.{Reply, plain}

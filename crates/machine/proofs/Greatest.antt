@@ -1,7 +1,7 @@
 -- The reach is the greatest bound that the arguments fix, on held events and what is kept, or the present bound if that is
 -- greater.
 use mathlib.Core.Path.{_≡_}
-use mathlib.Core.Logic.{_⊎_, inl, inr}
+use mathlib.Core.Logic.{inl, inr}
 use mathlib.Core.Bool.{Bool, false}
 use mathlib.Core.List.{[]}
 use Prim.Native.Nat.{ℕ, suc, pred, _+_, _-_, _≤_, _<_, min, max}

@@ -7,7 +7,7 @@ use native.Mathlib.Omega.{arith}
 use native.Mathlib.Decide.{decLt, ℕ-discrete}
 use lib.Dec.{eqb}
 use Rattle.machine.specs.Calls.{Call, running, collecting}
-use Rattle.runs.specs.Seen.{Seen, Typed, AllTyped}
+use Rattle.runs.specs.Seen.{Typed, AllTyped}
 use Rattle.calls.specs.Reply.{Reply}
 use Rattle.engine.specs.Reply.{reply}
 use Rattle.engine.specs.Demands.{seenIn, leftBy}

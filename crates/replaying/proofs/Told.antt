@@ -25,7 +25,6 @@ use Rattle.le.specs.Bytes.{Bytes}
 use Rattle.operators.specs.Limits.{capacity}
 use Rattle.operators.proofs.Sizes.{capacity-few}
 use Rattle.plan.specs.Rules.{declared}
-use Rattle.engine.specs.Reply.{reply}
 use Rattle.engine.specs.Load.{loadReply}
 use Rattle.engine.specs.Demands.{leftBy}
 use Rattle.engine.specs.Inside.{Inside}

@@ -1,6 +1,6 @@
 -- Only what was done counts: a refused call adds nothing to what was accepted, known or handed out.
-use mathlib.Core.Path.{_≡_, sym}
-use mathlib.Core.Bool.{not, true, false, _&&_}
+use mathlib.Core.Path.{_≡_}
+use mathlib.Core.Bool.{not}
 use mathlib.Core.List.{List, _∷_, _++_}
 use Prim.Native.Nat.{ℕ}
 use lib.Dec.{T, eqb}

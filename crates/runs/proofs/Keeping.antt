@@ -1,16 +1,14 @@
 -- What a last or a delay keeps, told by the solution: the machine's search for the latest set point finds the latest.
-use mathlib.Core.Path.{_≡_, refl, ap, _∙_, sym}
-use mathlib.Core.Logic.{_⊎_, inl, inr}
-use mathlib.Core.Option.{Option}
+use mathlib.Core.Path.{_≡_, refl, ap}
+use mathlib.Core.Logic.{inl, inr}
 use Prim.Native.Nat.{ℕ, zero, suc, pred, _≤_, _<_, max}
 use native.Mathlib.Omega.{arith}
 use native.Mathlib.Decide.{decLe}
-use lib.Dec.{T}
 use Rattle.meaning.specs.Plan.{Eqn, input, nil, unit, one, two, last, delay}
-use Rattle.meaning.specs.Events.{Stream, Streams, has}
-use Rattle.machine.specs.State.{Kept, State, cellAt}
+use Rattle.meaning.specs.Events.{Stream, Streams}
+use Rattle.machine.specs.State.{State, cellAt}
 use Rattle.machine.specs.Reach.{pastLatest}
-use Rattle.machine.proofs.Window.{past-le, past-max, past-hit}
+use Rattle.machine.proofs.Window.{past-max, past-hit}
 use Rattle.runs.specs.Inside.{knownIn, SetPoint, PastLatest, never, past, KeptAs}
 use Rattle.runs.proofs.Kept.{keptOf, pointOf, point-le}
 use Rattle.runs.proofs.Tracks.{Tracks}

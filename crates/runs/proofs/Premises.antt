@@ -85,16 +85,16 @@ value-ends = (refl, refl)
 
 -- ---- document 01's plan that counts visits keeps the rules
 
-abbrev visits : List Declared
-visits =
+abbrev pub counting : List Declared
+counting =
     record { eqn = input; out = false } ∷ record { eqn = unit; out = false } ∷ record { eqn = one (set (pos 0)) 1; out = false } ∷ record { eqn = last 5 0; out = false }
     ∷ record { eqn = one (plus (pos 1)) 3; out = false } ∷ record { eqn = two merge 4 2; out = true } ∷ []
 
-pub visits-keep : Keeps visits
+pub counting-keeps : Keeps counting
 unfolding acyclic
-visits-keep = record { arguments = arguments; acyclic = test-sound 6 (declaredPlan visits) refl }
+counting-keeps = record { arguments = arguments; acyclic = test-sound 6 (declaredPlan counting) refl }
   where
-    arguments : (s : ℕ) → AllBelow 6 (reads (eqnAt (declaredPlan visits) s))
+    arguments : (s : ℕ) → AllBelow 6 (reads (eqnAt (declaredPlan counting) s))
     arguments zero = tt
     arguments (suc zero) = tt
     arguments (suc (suc zero)) = (omega arith, tt)

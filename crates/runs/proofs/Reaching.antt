@@ -2,10 +2,9 @@
 -- greatest bound that the arguments fix. The machine searches for what stops a bound from the present bound on, among held
 -- events and what is kept; of the solution the same search begins at stamp 0. Both stop at the same place where the stream
 -- is silent between, and otherwise both go past its first event.
-use mathlib.Core.Path.{_≡_, refl, sym, ap, _∙_}
-use mathlib.Core.Logic.{_⊎_, inl, inr}
-use mathlib.Core.Bool.{Bool, true, false, not, cond, _&&_}
-use mathlib.Core.Option.{Option, none, some}
+use mathlib.Core.Path.{_≡_, refl, sym}
+use mathlib.Core.Bool.{Bool, false, not, _&&_}
+use mathlib.Core.Option.{none}
 use mathlib.Core.List.{List}
 use Prim.Native.Nat.{ℕ, suc, pred, _-_, _+_, _≤_, _<_, min, max}
 use native.Mathlib.Omega.{arith}
@@ -13,8 +12,8 @@ use native.Mathlib.Decide.{decLt}
 use lib.Dec.{T, leb, ltb, leb→le, ltb→lt, lt→ltb, le→leb, nltb→le, T-not}
 use lib.ListN.{length}
 use Rattle.meaning.specs.Plan.{Eqn, input, nil, unit, one, two, last, delay, isInput}
-use Rattle.meaning.specs.Arguments.{reads, argA, argB}
-use Rattle.meaning.specs.Events.{Event, Stream, Streams, has, horizon}
+use Rattle.meaning.specs.Arguments.{argA, argB}
+use Rattle.meaning.specs.Events.{Stream, Streams, has, horizon}
 use Rattle.meaning.specs.Table.{Solves}
 use Rattle.meaning.proofs.Tests.{Is, yes!, no!, look, true-is, false-is, T-and, T-and-l, T-and-r}
 use Rattle.machine.specs.State.{Declared, State, Cell, cellAt, declaredPlan, room}

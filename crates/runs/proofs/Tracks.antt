@@ -2,7 +2,6 @@
 -- Each stream holds its events from the least waiting reader on and below its bound; what is kept is what is known below
 -- the bound; a delay is at most one ahead of its second argument.
 use mathlib.Core.Path.{_≡_, refl, sym, _∙_, ap}
-use mathlib.Core.Bool.{cond}
 use mathlib.Core.Option.{none, some}
 use mathlib.Core.List.{List, [], _∷_, _++_, append-nil}
 use Prim.Native.Nat.{ℕ, suc, _≤_, _<_, min}

@@ -13,7 +13,7 @@ use Rattle.meaning.specs.Plan.{Eqn, input, nil, unit, one, two, last, delay}
 use Rattle.meaning.specs.Arguments.{reads}
 use Rattle.meaning.specs.Events.{Event, Stream, Streams, here, has, horizon}
 use Rattle.meaning.specs.Table.{latest}
-use Rattle.machine.specs.State.{Kept, Cell, State, cellAt, noKept, room}
+use Rattle.machine.specs.State.{Kept, State, cellAt, noKept, room}
 use Rattle.machine.specs.Calls.{moveOne}
 
 -- ## Held

@@ -1,23 +1,21 @@
 -- The count of visits, of document 01's example: with a visit at 3 and one at 5 every solution counts 0 at 0, 1 at 3 and 2 at 5.
 use Prim.Native.Nat.{ℕ, zero, suc, _<_, _≤_}
 use mathlib.Core.Path.{_≡_, refl, ap, ap₂, _∙_}
-use mathlib.Core.Bool.{true, false}
 use mathlib.Core.Option.{Option, none, some}
 use mathlib.Core.List.{List, [], _∷_}
 use native.Mathlib.Omega.{arith}
 use lib.IntN.{ℤ, pos}
 use borrow.Author.Tests.{ne-eqb}
 use Rattle.num.specs.Arithmetic.{added}
-use Rattle.meaning.specs.Plan.{input, unit, one, two, last, set, plus, merge}
+use Rattle.meaning.specs.Plan.{set, plus}
 use Rattle.meaning.specs.Events.{Event, ev, Streams, found, events, horizon, orElse}
 use Rattle.meaning.specs.Table.{valueOf, one-at, two-at, unit-at, latest, last-at, at, Solves}
 use Rattle.machine.specs.State.{Declared, declaredPlan}
 use Rattle.machine.proofs.Rising.{events-flat}
+use Rattle.runs.proofs.Premises.{counting}
 
 abbrev pub streams : List Declared
-streams =
-    record { eqn = input; out = false } ∷ record { eqn = unit; out = false } ∷ record { eqn = one (set (pos 0)) 1; out = false } ∷ record { eqn = last 5 0; out = false }
-    ∷ record { eqn = one (plus (pos 1)) 3; out = false } ∷ record { eqn = two merge 4 2; out = true } ∷ []
+streams = counting
 
 abbrev pub visits : List Event
 visits = ev 3 (pos 7) ∷ ev 5 (pos 7) ∷ []

@@ -1,7 +1,7 @@
 use Prim.Native.Nat.{_+_}
 use mathlib.Core.Path.{refl}
 use denote.Ref.{now}
-use Rattle.layout.specs.Record.{decRaw, withNum, flagF, keptF, valueF}
+use Rattle.layout.specs.Record.{withNum, flagF, keptF, valueF}
 use Rattle.layout.proofs.Laws.{num-ok}
 use Rattle.layout.proofs.Stores
 use Rattle.readers.specs.Step.{setPoint}
