@@ -3,6 +3,7 @@
 -- Events, Table), with what a caller sees and demand 3 itself (crates/runs: Seen, Demand3), and without machine or layout.
 use Prim.Native.Nat.{ℕ, _<_}
 use mathlib.Core.Path.{_≡_}
+use mathlib.Core.Logic.{_↔_}
 use mathlib.Core.Bool.{cond}
 use mathlib.Core.Option.{Option, none, some}
 use mathlib.Core.List.{List, [], _∷_, _++_}
@@ -18,6 +19,7 @@ use Rattle.runs.specs.Seen.{Seen, Typed, AllTyped}
 use Rattle.runs.specs.Demand3.{readingsSeen, AtRest, Demand3}
 use Rattle.runs.specs.Claim.{AllQuiet}
 use Rattle.operators.specs.Limits.{capacity}
+use Rattle.render.specs.Render.{render}
 use Rattle.plan.specs.Rules.{declared}
 use Rattle.plan.specs.Taken.{KeepsRules}
 use Rattle.calls.specs.Reply.{Reply}
@@ -36,6 +38,18 @@ pub record LeavesAll (r : Reply) (s : List ℕ) : Type 0 where
 pub record Refusals : Type 0 where
   pub ofLoad : (text s : List ℕ) → (loadReply text s .number ≡ 0 → ⊥) → LeavesAll (loadReply text s) s
   pub ofCall : (c : Call) (s : List ℕ) → Bytes s → (reply c s .number ≡ 0 → ⊥) → LeavesAll (reply c s) s
+
+-- ## Demand 2: "A plan that keeps the written rules is taken, and every other is refused."
+
+-- a text is taken, by a buffer of a length that states have, exactly if it is the text of a plan that keeps the rules
+pub record Taking : Type 0 where
+  pub exactly : (text s : List ℕ) → 0 < capacity (length s)
+      → (loadReply text s .number ≡ 0) ↔ ((ds : List Declared) × (render ds ≡ text) × KeepsRules (capacity (length s)) ds)
+  -- and such a plan has such a text
+  pub every : (ds : List Declared) (s : List ℕ) → KeepsRules (capacity (length s)) ds → loadReply (render ds) s .number ≡ 0
+
+-- That every stream is what the definition gives is below, of what is handed out; of what came into a stream, is held and kept
+-- it is in specs/Inside.antt, with the machine.
 
 -- ## A history
 
