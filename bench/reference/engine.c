@@ -172,6 +172,8 @@ static bool kept_good(const uint8_t *r) {
         if (r[5] > 1 || (r[5] == 0 && get8(r + 40) != 0)) return false;
         if (r[6] > 1 || (r[6] == 0 && get8(r + 48) != 0)) return false;
         if (since_of(r) > bound || (since_of(r) == 0 && r[5] != 0)) return false;
+        /* its own events are set points: since is above the newest */
+        if (held(r) > 0 && since_of(r) <= stamp_at(r, held(r) - 1)) return false;
         return bound > 0 || r[6] == 0;
     }
     return r[5] == 0 && r[6] == 0 && all_zero(r + 32, 24);
@@ -450,9 +452,9 @@ static void tell(uint8_t *r, unsigned s, uint64_t t, int64_t v) {
     if (op_of(r) == DELAY) {
         if (is_a && since_of(r) == t + 1) keep(r, 5, 40, some(v));
         if (is_a && y == t + 1) keep(r, 6, 48, some(v));
-        if (is_b && y == t + 1) {
-            keep(r, 5, 40, prior_of(r));
-            put8(r + 32, y);
+        if (is_b && t >= since_of(r)) {
+            keep(r, 5, 40, y == t + 1 ? prior_of(r) : NOTHING);
+            put8(r + 32, t + 1);
         }
     }
 }

@@ -1,4 +1,4 @@
--- The operators of the code as those of a plan.
+-- How: the operators of the code as those of a plan.
 use Rattle.meaning.specs.Plan as plan
 use Rattle.apply.specs.declared.Unary.{Unary}
 use Rattle.apply.specs.declared.Unary.the-variants.{Time, Set, Plus, Neg}

@@ -35,17 +35,14 @@ use Rattle.calls.specs.Reply.{Reply, plain, handing, replyOf, replyIn}
 
 -- ---- the machine's outcomes
 
--- an outcome that is refused leaves the state, with all results 0
+-- an outcome that is refused leaves the state, with all results 0 and a number from 1 to 14
 pub data Ended (M : State) (o : Outcome) : Type 0 where
-  was-refused : (k : ℕ) → (k ≡ 0 → ⊥) → o ≡ refused k M → Ended M o
+  was-refused : (k : ℕ) → (0 < k) × (k < 15) → o ≡ refused k M → Ended M o
   was-done : o .number ≡ 0 → Ended M o
 
-unless-ended : (b : Bool) (k : ℕ) (M : State) (o : Outcome) → (k ≡ 0 → ⊥) → Ended M o → Ended M (unless b k M o)
+unless-ended : (b : Bool) (k : ℕ) (M : State) (o : Outcome) → (0 < k) × (k < 15) → Ended M o → Ended M (unless b k M o)
 unless-ended true k M o z h = was-refused k z refl
 unless-ended false k M o z h = h
-
-not-zero : (k : ℕ) → suc k ≡ 0 → ⊥
-not-zero k e = omega arith
 
 -- what a number other than 0 says
 pub refused-is : (M : State) (o : Outcome) (k : ℕ) → Ended M o → k ≡ o .number → (k ≡ 0 → ⊥) → o ≡ refused k M
@@ -55,28 +52,28 @@ refused-is M o k (was-done e) q h = absurd (h (q ∙ e))
 reading-ended : (i t : ℕ) (v : ℤ) (M : State) → Ended M (offerReading i t v M)
 unfolding offerReading
 reading-ended i t v M =
-    unless-ended (noInput i M) 7 M _ (not-zero 6)
-    (unless-ended (ltb t (cellAt M i .bound)) 8 M _ (not-zero 7)
-    (unless-ended (leb room (length (cellAt M i .held))) 9 M _ (not-zero 8) (was-done refl)))
+    unless-ended (noInput i M) 7 M _ (omega arith, omega arith)
+    (unless-ended (ltb t (cellAt M i .bound)) 8 M _ (omega arith, omega arith)
+    (unless-ended (leb room (length (cellAt M i .held))) 9 M _ (omega arith, omega arith) (was-done refl)))
 
 progress-ended : (i y : ℕ) (M : State) → Ended M (offerProgress i y M)
 unfolding offerProgress
 progress-ended i y M =
-    unless-ended (noInput i M) 7 M _ (not-zero 6)
-    (unless-ended (ltb horizon y) 10 M _ (not-zero 9)
-    (unless-ended (ltb y (cellAt M i .bound)) 8 M _ (not-zero 7) (was-done refl)))
+    unless-ended (noInput i M) 7 M _ (omega arith, omega arith)
+    (unless-ended (ltb horizon y) 10 M _ (omega arith, omega arith)
+    (unless-ended (ltb y (cellAt M i .bound)) 8 M _ (omega arith, omega arith) (was-done refl)))
 
 collect-ended : (i : ℕ) (M : State) → Ended M (collect i M)
 unfolding collect
-collect-ended i M = unless-ended (not (cellAt M i .out)) 13 M _ (not-zero 12) (go (oldest (cellAt M i .next) (cellAt M i .held)))
+collect-ended i M = unless-ended (not (cellAt M i .out)) 13 M _ (omega arith, omega arith) (go (oldest (cellAt M i .next) (cellAt M i .held)))
   where
     go : (o : Option Event) → Ended M (handOut o i M)
-    go none = was-refused 14 (not-zero 13) refl
+    go none = was-refused 14 (omega arith, omega arith) refl
     go (some e) = was-done refl
 
 move-ended : (i : ℕ) (M : State) → Ended M (moveOne i M)
 unfolding moveOne
-move-ended i M = unless-ended (noEquation i M) 11 M _ (not-zero 10) (unless-ended (not (canMove i M)) 12 M _ (not-zero 11) (was-done refl))
+move-ended i M = unless-ended (noEquation i M) 11 M _ (omega arith, omega arith) (unless-ended (not (canMove i M)) 12 M _ (omega arith, omega arith) (was-done refl))
 
 pub call-ended : (c : Call) (M : State) → Ended M (call c M)
 unfolding call
@@ -85,6 +82,14 @@ call-ended (progress i y) M = progress-ended i y M
 call-ended (moving i) M = move-ended i M
 call-ended (running n) M = was-done (run-number n M)
 call-ended (collecting i) M = collect-ended i M
+
+-- a call on a state is never refused 15
+pub call-15 : (c : Call) (M : State) → call c M .number ≡ 15 → ⊥
+call-15 c M = go (call c M) (call-ended c M)
+  where
+    go : (o : Outcome) → Ended M o → o .number ≡ 15 → ⊥
+    go o (was-refused k z e) q = let r = ap (λ (x : Outcome). x .number) e in let u = z .1 in omega arith
+    go o (was-done e) q = omega arith
 
 -- what a 0 says
 unless-zero : (b : Bool) (k : ℕ) (M : State) (o : Outcome) → (k ≡ 0 → ⊥) → unless b k M o .number ≡ 0 → (b ≡ false) × (unless b k M o ≡ o)
@@ -124,9 +129,9 @@ reading-done i t v M e =
     let o₃ = done (arrivals i (ev t v ∷ [])) (raise i (suc t) (ev t v ∷ []) M) in
     let o₂ = unless (leb room (length (c .held))) 9 M o₃ in
     let o₁ = unless (ltb t (c .bound)) 8 M o₂ in
-    let h₁ = unless-zero (noInput i M) 7 M o₁ (not-zero 6) e in
-    let h₂ = unless-zero (ltb t (c .bound)) 8 M o₂ (not-zero 7) (ap (λ (o : Outcome). o .number) (sym (h₁ .1)) ∙ e) in
-    let h₃ = unless-zero (leb room (length (c .held))) 9 M o₃ (not-zero 8) (ap (λ (o : Outcome). o .number) (sym (h₁ .1 ∙ h₂ .1)) ∙ e) in
+    let h₁ = unless-zero (noInput i M) 7 M o₁ (λ q. omega arith) e in
+    let h₂ = unless-zero (ltb t (c .bound)) 8 M o₂ (λ q. omega arith) (ap (λ (o : Outcome). o .number) (sym (h₁ .1)) ∙ e) in
+    let h₃ = unless-zero (leb room (length (c .held))) 9 M o₃ (λ q. omega arith) (ap (λ (o : Outcome). o .number) (sym (h₁ .1 ∙ h₂ .1)) ∙ e) in
     let q = is-input (c .eqn) (h₁ .0) in
     record { there = input-there M i q; isInput = q; space = leb-false room (length (c .held)) (h₃ .0); outcome = h₁ .1 ∙ h₂ .1 ∙ h₃ .1 }
 
@@ -141,9 +146,9 @@ progress-done i y M e =
     let o₃ = done [] (set M i (withBound y c)) in
     let o₂ = unless (ltb y (c .bound)) 8 M o₃ in
     let o₁ = unless (ltb horizon y) 10 M o₂ in
-    let h₁ = unless-zero (noInput i M) 7 M o₁ (not-zero 6) e in
-    let h₂ = unless-zero (ltb horizon y) 10 M o₂ (not-zero 9) (ap (λ (o : Outcome). o .number) (sym (h₁ .1)) ∙ e) in
-    let h₃ = unless-zero (ltb y (c .bound)) 8 M o₃ (not-zero 7) (ap (λ (o : Outcome). o .number) (sym (h₁ .1 ∙ h₂ .1)) ∙ e) in
+    let h₁ = unless-zero (noInput i M) 7 M o₁ (λ q. omega arith) e in
+    let h₂ = unless-zero (ltb horizon y) 10 M o₂ (λ q. omega arith) (ap (λ (o : Outcome). o .number) (sym (h₁ .1)) ∙ e) in
+    let h₃ = unless-zero (ltb y (c .bound)) 8 M o₃ (λ q. omega arith) (ap (λ (o : Outcome). o .number) (sym (h₁ .1 ∙ h₂ .1)) ∙ e) in
     record { there = input-there M i (is-input (c .eqn) (h₁ .0)); outcome = h₁ .1 ∙ h₂ .1 ∙ h₃ .1 }
 
 -- a collect that is done: the oldest waiting event, in the slot that the code finds
@@ -181,7 +186,7 @@ pub collect-done : {cap : ℕ} (i : ℕ) (M : State) → Sound cap M → collect
 unfolding collect
 collect-done i M snd e =
     let c = cellAt M i in
-    let h = unless-zero (not (c .out)) 13 M (handOut (oldest (c .next) (c .held)) i M) (not-zero 12) e in
+    let h = unless-zero (not (c .out)) 13 M (handOut (oldest (c .next) (c .held)) i M) (λ q. omega arith) e in
     let l = out-there M i (not-false (c .out) (h .0)) in
     let f = snd .each i l in
     go (waiting-is (c .next) room (c .held) (f .few)) l f (h .1) (ap (λ (o : Outcome). o .number) (sym (h .1)) ∙ e)

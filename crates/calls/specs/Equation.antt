@@ -1,4 +1,4 @@
--- Whether a stream is there and is an equation, on raw records.
+-- How: whether a stream is there and is an equation, on raw records.
 use Prim.Native.Nat.{ℕ}
 use mathlib.Core.Bool.{Bool, false, not, cond}
 use lib.Dec.{ltb}

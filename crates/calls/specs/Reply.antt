@@ -1,4 +1,4 @@
--- What a call answers, and the buffer that it leaves.
+-- Believe: what a call answers, and the buffer that it leaves.
 use Prim.Native.Nat.{ℕ}
 use mathlib.Core.List.{List}
 use lib.IntN.{ℤ, pos}

@@ -1,41 +1,68 @@
--- A buffer that holds the next 65 bytes of a trace, or all that are left, has the trace's next line.
+-- A text that has a whole line from a position on, or all that is left of a trace, reads the trace's line there.
 use Prim.Native.Nat.{ℕ, _+_, _-_, _<_, _≤_}
-use mathlib.Core.Path.{_≡_, sym, ap, _∙_}
-use mathlib.Core.Logic.{_⊎_, inl, inr}
-use mathlib.Core.List.{List}
+use mathlib.Core.Path.{_≡_, refl, sym, ap, _∙_}
+use mathlib.Core.Logic.{inl, inr}
+use mathlib.Core.List.{List, [], _++_}
 use native.Mathlib.Omega.{arith}
 use native.Mathlib.Decide.{decLt}
+use native.Mathlib.Nat.{zero-add}
 use lib.Dec.{ltb}
-use lib.ListN.{length, getD, take, drop, List·getD-eq-default}
-use lib.Seq.{getD-take, getD-drop, length-take-le}
+use lib.ListN.{length, getD, drop, length-append, length-drop, List·getD-append, List·getD-eq-default}
+use lib.Seq.{getD-drop}
 use borrow.Author.Tests.{lt-ltb, le-ltb}
+use Rattle.trace.specs.declared.Record.{Record}
+use Rattle.trace.specs.declared.Line.{Line}
+use Rattle.trace.specs.declared.Line.the-variants.{Read, Bad}
 use Rattle.trace.specs.Trace.{line}
-use Rattle.chunks.specs.Window.{Same, Alike}
+use Rattle.trace.proofs.Ends.{line-ends}
+use Rattle.chunks.specs.Window.{Same, Alike, read, bad, Enough}
 use Rattle.chunks.proofs.Alike.{line-alike}
 
-module _ (trace buffer : List ℕ) (pos from end : ℕ) (order : from ≤ end) (inside : end ≤ length buffer)
-    (held : take (end - from) (drop from buffer) ≡ take (end - from) (drop pos trace)) (there : pos + (end - from) ≤ length trace)
-    (enough : (65 ≤ end - from) ⊎ (pos + (end - from) ≡ length trace)) where
-  long : length (take end buffer) ≡ end
-  long = length-take-le end buffer inside
+-- the trace is the text from the position on, and what follows it
+module _ (text : List ℕ) (at : ℕ) (more : List ℕ) (inside : at ≤ length text) (enough : Enough text at more) where
+  size : length (drop at text ++ more) ≡ (length text - at) + length more
+  size = length-append (drop at text) more ∙ ap (λ k. k + length more) (length-drop at text)
 
-  -- a byte that the buffer holds
-  byte : (i : ℕ) → i < end - from → getD (take end buffer) (from + i) 0 ≡ getD trace (pos + i) 0
-  byte i h =
-      getD-take end buffer (from + i) 0 (omega arith) ∙ sym (getD-drop from buffer i 0) ∙ sym (getD-take (end - from) (drop from buffer) i 0 h)
-      ∙ ap (λ l. getD l i 0) held ∙ getD-take (end - from) (drop pos trace) i 0 h ∙ getD-drop pos trace i 0
-
-  same : Same (take end buffer) from trace pos 42
-  same i h = go (decLt i (end - from)) enough
+  same : Same text at (drop at text ++ more) 0 42
+  same i h = go (decLt i (length text - at)) enough
     where
-      go : Dec (i < end - from) → (65 ≤ end - from) ⊎ (pos + (end - from) ≡ length trace)
-          → (ltb (from + i) (length (take end buffer)) ≡ ltb (pos + i) (length trace)) × (getD (take end buffer) (from + i) 0 ≡ getD trace (pos + i) 0)
-      go (yes l) e = (lt-ltb (from + i) (length (take end buffer)) (omega (arith, long)) ∙ sym (lt-ltb (pos + i) (length trace) (omega arith)), byte i l)
-      go (no l) (inl e) = absurd (omega (arith, l))
-      go (no l) (inr e) = (
-        le-ltb (from + i) (length (take end buffer)) (omega (arith, long, l)) ∙ sym (le-ltb (pos + i) (length trace) (omega (arith, l))),
-        List·getD-eq-default (take end buffer) 0 {n = from + i} (omega (arith, long, l)) ∙ sym (List·getD-eq-default trace 0 {n = pos + i} (omega (arith, l))),
+      go : Dec (i < length text - at) → Enough text at more
+          → (ltb (at + i) (length text) ≡ ltb (0 + i) (length (drop at text ++ more))) × (getD text (at + i) 0 ≡ getD (drop at text ++ more) (0 + i) 0)
+      go (yes l) e = (
+        lt-ltb (at + i) (length text) (omega arith) ∙ sym (lt-ltb (0 + i) (length (drop at text ++ more)) (omega (arith, size))),
+        rw (zero-add i) (sym (getD-drop at text i 0) ∙ sym (List·getD-append (drop at text) more 0 i (omega (arith, length-drop at text)))),
       )
+      go (no l) (inl e) = absurd (omega (arith, l))
+      go (no l) (inr e) =
+          let z = size ∙ ap (λ (m : List ℕ). (length text - at) + length m) e in (
+            le-ltb (at + i) (length text) (omega (arith, l)) ∙ sym (le-ltb (0 + i) (length (drop at text ++ more)) (omega (arith, z, l))),
+            List·getD-eq-default text 0 {n = at + i} (omega (arith, l)) ∙ sym (List·getD-eq-default (drop at text ++ more) 0 {n = 0 + i} (omega (arith, z, l))),
+          )
 
-  pub window-line : Alike from pos (line (take end buffer) from) (line trace pos)
-  window-line = line-alike (take end buffer) from trace pos 42 same (omega arith)
+  pub window-line : Alike at 0 (line text at) (line (drop at text ++ more) 0)
+  window-line = line-alike text at (drop at text ++ more) 0 42 same (omega arith)
+
+  alike-read : {x y : Line} → Alike at 0 x y → (r : Record) (next : ℕ) → x ≡ Read r next → (k : ℕ) × (next ≡ at + k) × (y ≡ Read r k)
+  alike-read (read q k) r next e =
+      let a : q ≡ r = cc in
+      let b : at + k ≡ next = cc in
+      (k, sym b, rw (zero-add k) (ap (λ (q : Record). Read q k) a))
+  alike-read bad r next e = let z : _≡_ {A = ℕ} 0 1 = cc in absurd (omega arith)
+
+  alike-bad : {x y : Line} → Alike at 0 x y → x ≡ Bad → y ≡ Bad
+  alike-bad (read q k) e = let z : _≡_ {A = ℕ} 0 1 = cc in absurd (omega arith)
+  alike-bad bad e = refl
+
+  -- the same record, as many bytes on
+  pub window-read : (r : Record) (next : ℕ) → line text at ≡ Read r next → (k : ℕ) × (next ≡ at + k) × (line (drop at text ++ more) 0 ≡ Read r k)
+  window-read r next e = alike-read window-line r next e
+
+  pub window-bad : line text at ≡ Bad → line (drop at text ++ more) 0 ≡ Bad
+  window-bad e = alike-bad window-line e
+
+-- a line that was read ends within the text, past its start
+pub window-next : (text : List ℕ) (at : ℕ) → at ≤ length text → (r : Record) (next : ℕ) → line text at ≡ Read r next → (at < next) × (next ≤ length text)
+window-next text at inside r next e =
+    let x = window-read text at [] inside (inr refl) r next e in
+    let p = x .1 in
+    (omega (arith, line-ends (drop at text ++ []) 0 r (x .0) (x .2) .some), line-ends text at r next e .inside)

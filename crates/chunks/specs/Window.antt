@@ -1,7 +1,8 @@
--- A window of a trace: a buffer that holds, from a position on, the bytes of the trace from another.
-use Prim.Native.Nat.{ℕ, _+_, _<_}
+-- How: a window of a trace: a text that holds, from a position on, the bytes of the trace from another.
+use Prim.Native.Nat.{ℕ, _+_, _-_, _<_, _≤_}
 use mathlib.Core.Path.{_≡_}
-use mathlib.Core.List.{List}
+use mathlib.Core.Logic.{_⊎_}
+use mathlib.Core.List.{List, []}
 use lib.Dec.{ltb}
 use lib.ListN.{length, getD}
 use Rattle.trace.specs.declared.Record.{Record}
@@ -16,3 +17,11 @@ Same s a t b n = (i : ℕ) → i < n → (ltb (a + i) (length s) ≡ ltb (b + i)
 pub data Alike (a b : ℕ) : Line → Line → Type 0 where
   read : (r : Record) (k : ℕ) → Alike a b (Read r (a + k)) (Read r (b + k))
   bad : Alike a b Bad Bad
+
+-- "at most 64 bytes, then byte 10"
+abbrev pub longest : ℕ
+longest = 65
+
+-- a text has a whole line from a position on, or nothing follows it
+abbrev pub Enough : List ℕ → ℕ → List ℕ → Type 0
+Enough text at more = (longest ≤ length text - at) ⊎ (more ≡ [])

@@ -7,8 +7,9 @@ use native.Mathlib.Omega.{arith}
 use lib.Dec.{lit<}
 use lib.ListN.{length, getD, length-append, List·getD-append}
 use lib.Seq.{getD-append-add}
-use Rattle.meaning.specs.Plan.{Eqn, input, nil, unit, one, two, last, delay, Plan, eqnAt, undelayed, prompts, argA, argB, AllBelow}
-use Rattle.meaning.specs.Cycle.{acyclic}
+use Rattle.meaning.specs.Plan.{Eqn, input, nil, unit, one, two, last, delay, Plan, eqnAt}
+use Rattle.meaning.specs.Arguments.{undelayed, prompts, argA, argB, AllBelow}
+use Rattle.meaning.specs.CycleTest.{acyclic}
 use Rattle.operators.specs.Limits.{mostStreams}
 use Rattle.operators.specs.Operators.{groupOf, argumentsOf, numberOf}
 use Rattle.operators.proofs.Laws.{arguments-of}

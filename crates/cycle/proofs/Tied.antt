@@ -9,9 +9,10 @@ use lib.ListN.{length, getD, set, length-set}
 use lib.Seq.{getD-set-same, getD-set-other}
 use lib.Dec.{eqb}
 use borrow.Author.Tests.{eq-eqb, eqb-true, eqb-false}
-use Rattle.meaning.specs.Plan.{Plan, eqnAt, undelayed, AllBelow}
-use Rattle.meaning.specs.Cycle.{Marks, then-marked, visits, visit, downFrom, isSome, acyclic}
-use Rattle.meaning.specs.Cycle as Cycle
+use Rattle.meaning.specs.Plan.{Plan, eqnAt}
+use Rattle.meaning.specs.Arguments.{undelayed, AllBelow}
+use Rattle.meaning.specs.CycleTest.{Marks, then-marked, visits, visit, downFrom, isSome, acyclic}
+use Rattle.meaning.specs.CycleTest as CycleTest
 use Rattle.operators.specs.Limits.{mostStreams}
 use Rattle.cycle.specs.Graph.{Walk, marked, both, followed, rest, cleared}
 use Rattle.cycle.proofs.Walks.{seen, stop, bare, onward}
@@ -55,7 +56,7 @@ never k e = let z : _≡_ {A = ℕ} 0 1 = ap isNone e in omega arith
 
 module _ (plan : Plan) (few : length plan ≤ mostStreams) where
   -- a stream marked in both
-  mark : (s : ℕ) (g : List ℕ) (m : Marks) → s < length plan → Tied plan g m → Tied plan (set g (3 * s) 1) (Cycle.marked s m)
+  mark : (s : ℕ) (g : List ℕ) (m : Marks) → s < length plan → Tied plan g m → Tied plan (set g (3 * s) 1) (CycleTest.marked s m)
   mark s g m h t = record {
     size = rw (length-set g (3 * s) 1) (t .size);
     how = λ i l. how-at i l (eqb i s) refl;
@@ -126,7 +127,7 @@ module _ (plan : Plan) (few : length plan ≤ mostStreams) where
     unfolding visits
     follow-all [] p b g m f t =
         let e : getD g (3 * s) 0 ≡ 2 = t .how s h ∙ rw (f, p) in
-        subst (Same plan (some (Cycle.marked s m))) (bare (suc d) s g (omega arith) (λ q. omega arith) (λ q. omega arith) e) (refl, mark s g m h t)
+        subst (Same plan (some (CycleTest.marked s m))) (bare (suc d) s g (omega arith) (λ q. omega arith) (λ q. omega arith) e) (refl, mark s g m h t)
     follow-all (a ∷ []) p b g m f t =
         subst (λ (o : Option Marks). Same plan (then-marked s o) (followed (suc d) s g))
         (twice d a (visit plan d a m) (found-marked d a m) ∙ sym (one-alone (visit plan d a m)))

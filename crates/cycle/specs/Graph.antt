@@ -1,10 +1,11 @@
--- The graph of a plan in bytes, and the test that follows it.
+-- How: the graph of a plan in bytes, and the test that follows it.
 use Prim.Native.Nat.{ℕ, zero, suc, _+_, _*_}
 use mathlib.Core.Bool.{Bool, true, false, cond, _&&_}
 use mathlib.Core.List.{List, [], _∷_, _++_}
 use lib.Dec.{eqb, ltb}
 use lib.ListN.{getD, set}
-use Rattle.meaning.specs.Plan.{Plan, prompts, argA, argB}
+use Rattle.meaning.specs.Plan.{Plan}
+use Rattle.meaning.specs.Arguments.{prompts, argA, argB}
 use Rattle.operators.specs.Limits.{mostStreams}
 use Rattle.operators.specs.Operators.{groupOf, argumentsOf, numberOf}
 

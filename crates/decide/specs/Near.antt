@@ -1,4 +1,4 @@
--- The functions of a move on the three cells as the code has them, and what it answers.
+-- How: the functions of a move on the three cells as the code has them, and what it answers.
 use Prim.Native.Nat.{ℕ, suc}
 use mathlib.Core.Bool.{Bool}
 use mathlib.Core.List.{List}

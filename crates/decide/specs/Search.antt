@@ -1,4 +1,4 @@
--- The search of a move over candidate stamps, which the held events give.
+-- How: the search of a move over candidate stamps, which the held events give.
 use Prim.Native.Nat.{ℕ, suc, pred, _+_}
 use mathlib.Core.Bool.{Bool, true, false, cond, _&&_}
 use mathlib.Core.List.{List, [], _∷_, _++_, map}

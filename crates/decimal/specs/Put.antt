@@ -1,4 +1,4 @@
--- What it means that bytes were put into a buffer.
+-- How: what it means that bytes were put into a buffer.
 use Prim.Native.Nat.{ℕ, _+_}
 use mathlib.Core.Path.{_≡_}
 use mathlib.Core.List.{List}

@@ -11,7 +11,8 @@ use lib.ListN.{length, take}
 use mir.Syntax.{w64}
 use mir.Val.{ofZ, toZ}
 use mir.Facts.{toZ-ofZ}
-use Rattle.meaning.specs.Plan.{Eqn, input, nil, unit, one, two, last, delay, reads, argA, argB, AllBelow}
+use Rattle.meaning.specs.Plan.{Eqn, input, nil, unit, one, two, last, delay}
+use Rattle.meaning.specs.Arguments.{reads, argA, argB, AllBelow}
 use Rattle.meaning.specs.Events.{Event, ev, horizon}
 use Rattle.machine.specs.State.{Kept, Cell, room}
 use Rattle.operators.specs.Operators.{groupOf, numberOf, valueOf, eqnOf}
@@ -95,17 +96,17 @@ kept-small (delay a b) y k h ok =
 
 -- ---- slots
 
+pub rising-le : (lo top : ℕ) (es : List Event) → Rising lo top es → lo ≤ top
+rising-le lo top [] r = r
+rising-le lo top (e ∷ es) r = let u = rising-le (suc (e .stamp)) top es (r .2) in let v = r .0 in omega arith
+
 slots-small : (lo top n : ℕ) (es : List Event) → top ≤ horizon → Rising lo top es → All SlotOk (padTo n noSlot (map slotOf es))
 unfolding padTo
 slots-small lo top zero es h r = tt
 slots-small lo top (suc n) [] h r = ((lit< tt, lit< tt), slots-small lo top n [] h r)
 slots-small lo top (suc n) (e ∷ es) h r =
-    let b = top-of (suc (e .stamp)) es (r .2) in
+    let b = rising-le (suc (e .stamp)) top es (r .2) in
     ((omega arith, bits-below (e .value) (r .1)), slots-small (suc (e .stamp)) top n es h (r .2))
-  where
-    top-of : (l : ℕ) (xs : List Event) → Rising l top xs → l ≤ top
-    top-of l [] q = q
-    top-of l (x ∷ xs) q = let u = top-of (suc (x .stamp)) xs (q .2) in let v = q .0 in omega arith
 
 pub pad-length : {A : Type 0} (n : ℕ) (d : A) (l : List A) → length (padTo n d l) ≡ n
 unfolding padTo

@@ -1,4 +1,4 @@
--- A raw record read as a cell of the machine: total, also where the numbers are no cell's.
+-- How: a raw record read as a cell of the machine: total, also where the numbers are no cell's.
 use Prim.Native.Nat.{ℕ, min}
 use mathlib.Core.Bool.{not, cond}
 use mathlib.Core.Option.{Option, none, some}

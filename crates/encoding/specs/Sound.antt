@@ -1,4 +1,4 @@
--- The states that the layout can hold: what holds of every cell, of a run or not.
+-- Believe: the states that the layout can hold: what holds of every cell, of a run or not.
 use Prim.Native.Nat.{ℕ, suc, _^_, _≤_, _<_}
 use mathlib.Core.Path.{_≡_}
 use mathlib.Core.Bool.{Bool, true, false}
@@ -8,11 +8,12 @@ use lib.Dec.{T}
 use lib.ListN.{length}
 use lib.IntN.{ℤ}
 use lib.Signed.{mag}
-use Rattle.meaning.specs.Plan.{Eqn, input, nil, unit, one, two, last, delay, isInput, reads, AllBelow}
+use Rattle.meaning.specs.Plan.{Eqn, input, nil, unit, one, two, last, delay, isInput}
+use Rattle.meaning.specs.Arguments.{reads, AllBelow}
 use Rattle.meaning.specs.Events.{Event, horizon}
-use Rattle.meaning.specs.Cycle.{acyclic}
+use Rattle.meaning.specs.Cycle.{Acyclic}
 use Rattle.machine.specs.State.{Kept, Cell, State, room, noKept, cellAt, planOf}
-use Rattle.operators.specs.Operators.{valueOf}
+use Rattle.operators.specs.Operators.{eqnGroup, isDelay, valueOf}
 
 -- a signed 64-bit whole number
 abbrev pub IsValue : ℤ → Type 0
@@ -68,9 +69,14 @@ pub record SoundCell (n : ℕ) (c : Cell) : Type 0 where
   pub next : IsNext (c .out) (c .next) (c .bound)
   pub kept : IsKept (c .eqn) (c .bound) (c .kept)
 
+-- a delay's own events are set points, and `since` is one past the latest
+abbrev pub Own : Cell → Type 0
+Own c = T (isDelay (eqnGroup (c .eqn))) → Rising 0 (c .kept .since) (c .held)
+
 -- a state of a size with room for so many streams
 pub record Sound (cap : ℕ) (M : State) : Type 0 where
   pub some : 0 < length M
   pub few : length M ≤ cap
   pub each : (i : ℕ) → i < length M → SoundCell (length M) (cellAt M i)
-  pub acyclic : acyclic cap (planOf M) ≡ true
+  pub own : (i : ℕ) → i < length M → Own (cellAt M i)
+  pub acyclic : Acyclic (planOf M)

@@ -1,4 +1,4 @@
--- A cell of the machine as a raw record, and a state as bytes.
+-- Believe: a cell of the machine as a raw record, and a state as bytes.
 use Prim.Native.Nat.{ℕ, zero, suc, _*_, _-_}
 use mathlib.Core.Bool.{Bool, true, false, cond}
 use mathlib.Core.Option.{Option, none, some}
@@ -7,7 +7,8 @@ use lib.ListN.{length, replicate}
 use lib.IntN.{ℤ}
 use mir.Syntax.{w64}
 use mir.Val.{ofZ}
-use Rattle.meaning.specs.Plan.{Eqn, argA, argB}
+use Rattle.meaning.specs.Plan.{Eqn}
+use Rattle.meaning.specs.Arguments.{argA, argB}
 use Rattle.meaning.specs.Events.{Event}
 use Rattle.machine.specs.State.{Kept, Cell, State, room}
 use Rattle.operators.specs.Operators.{isLast, isDelay, eqnGroup, numberOf, valueOf}

@@ -1,3 +1,5 @@
 pub mod Replies
 pub mod Loads
+pub mod Refused
+pub mod Taking
 pub mod Whole

@@ -1,14 +1,22 @@
 -- The answers of load, case by case.
-use Prim.Native.Nat.{ℕ, _<_}
-use mathlib.Core.Path.{_≡_, sym, _∙_}
+use Prim.Native.Nat.{ℕ, zero, suc, _<_}
+use mathlib.Core.Path.{_≡_, refl, sym, ap, _∙_}
+use mathlib.Core.Bool.{Bool, true, false, cond}
 use mathlib.Core.List.{List}
+use lib.Dec.{ltb}
 use lib.ListN.{length}
 use borrow.Author.Tests.{eq-eqb, ne-eqb, lt-ltb, le-ltb}
 use native.Mathlib.Omega.{arith}
+use native.Mathlib.Decide.{ℕ-discrete}
+use Rattle.machine.specs.State.{loaded}
 use Rattle.operators.specs.Limits.{capacity}
-use Rattle.plan.specs.Rules.{number}
+use Rattle.encoding.specs.View.{bytesOf}
+use Rattle.roundtrip.proofs.Whole.{bytes-length}
+use Rattle.plan.specs.Rules.{number, declared}
+use Rattle.plan.proofs.Taken.{taken-rendered}
 use Rattle.load.specs.Filled.{filled}
 use Rattle.load.proofs.Taken.{taken-filled}
+use Rattle.load.proofs.Fresh.{loaded-sound}
 use Rattle.engine.specs.Reply.{notState}
 use Rattle.engine.specs.Load.{loadOf, loadReply}
 
@@ -33,3 +41,46 @@ module _ (text s : List ℕ) (most : ℕ) (m : most ≡ capacity (length s)) whe
     -- a taken one fills it
     pub load-fills : (n : ℕ) → n ≡ number most text → n ≡ 0 → filled most text s ≡ loadReply text s .buffer
     load-fills n e z = rw (load-is, eq-eqb (number most text) 0 (sym e ∙ z), m) (taken-filled text s (rw (sym m) (sym e ∙ z)))
+
+-- ---- a load
+
+pub load-done : (text s : List ℕ) → loadReply text s .number ≡ 0 → (number (capacity (length s)) text ≡ 0) × (loadReply text s .buffer ≡ bytesOf (length s) (loaded (declared (capacity (length s)) text)))
+unfolding loadReply
+load-done text s = by (ltb 0 (capacity (length s)))
+  where
+    most : ℕ
+    most = capacity (length s)
+
+    full : (n : ℕ) → n ≡ 0 → (n ≡ 0) × (loadOf n text s .buffer ≡ bytesOf (length s) (loaded (declared most text)))
+    full zero e = (refl, refl)
+    full (suc n) e = absurd (omega arith)
+
+    by : (x : Bool) → cond x (loadOf (number most text) text s) (notState s) .number ≡ 0 → (number most text ≡ 0) × (cond x (loadOf (number most text) text s) (notState s) .buffer ≡ bytesOf (length s) (loaded (declared most text)))
+    by true e = full (number most text) e
+    by false e = absurd (omega arith)
+
+-- a refused load leaves the buffer
+pub load-refused : (text s : List ℕ) → (loadReply text s .number ≡ 0 → ⊥) → loadReply text s .buffer ≡ s
+unfolding loadReply
+load-refused text s = by (ltb 0 (capacity (length s)))
+  where
+    most : ℕ
+    most = capacity (length s)
+
+    full : (n : ℕ) → (n ≡ 0 → ⊥) → loadOf n text s .buffer ≡ s
+    full n e = rw (ne-eqb n 0 e)
+
+    by : (x : Bool) → (cond x (loadOf (number most text) text s) (notState s) .number ≡ 0 → ⊥) → cond x (loadOf (number most text) text s) (notState s) .buffer ≡ s
+    by true e = full (number most text) e
+    by false e = refl
+
+-- a load leaves the buffer as long as it was
+pub load-length : (text s : List ℕ) → length (loadReply text s .buffer) ≡ length s
+load-length text s = go (ℕ-discrete (loadReply text s .number) 0)
+  where
+    go : Dec (loadReply text s .number ≡ 0) → length (loadReply text s .buffer) ≡ length s
+    go (yes e) =
+        let d = load-done text s e in
+        let ds = declared (capacity (length s)) text in
+        ap length (d .1) ∙ bytes-length (length s) (loaded ds) (loaded-sound ds (taken-rendered (capacity (length s)) text (d .0) .1))
+    go (no n) = ap length (load-refused text s n)

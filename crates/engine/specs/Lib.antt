@@ -1,3 +1,4 @@
 pub mod Reply
 pub mod Load
-pub mod History
+pub mod Demands
+pub mod Inside

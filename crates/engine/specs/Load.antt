@@ -1,4 +1,4 @@
--- What a load answers, and the buffer that it leaves.
+-- Believe: what a load answers, and the buffer that it leaves.
 use Prim.Native.Nat.{ℕ}
 use mathlib.Core.Bool.{cond}
 use mathlib.Core.List.{List}

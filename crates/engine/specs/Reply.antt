@@ -1,4 +1,4 @@
--- What every call but load answers and leaves: 15, or the machine's outcome on the state that the bytes give.
+-- Believe: what every call but load answers and leaves: 15, or the machine's outcome on the state that the bytes give.
 use Prim.Native.Nat.{ℕ}
 use mathlib.Core.Bool.{cond}
 use mathlib.Core.List.{List}

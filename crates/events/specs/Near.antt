@@ -1,4 +1,4 @@
--- The three cells of a move as the code has them: the equation's own in a struct, its arguments' in their bytes.
+-- How: the three cells of a move as the code has them: the equation's own in a struct, its arguments' in their bytes.
 use Prim.Native.Nat.{ℕ}
 use mathlib.Core.List.{List}
 use mathlib.Core.Option.{Option, none, some}

@@ -1,6 +1,5 @@
--- What a last or a delay keeps, in the numbers of its record.
+-- How: what a last or a delay keeps, in the numbers of its record.
 use Prim.Native.Nat.{ℕ}
-use mathlib.Core.Bool.{false}
 use mathlib.Core.List.{List}
 use Rattle.meaning.specs.Plan.{Eqn, input, nil, unit, one, two, last, delay}
 use Rattle.meaning.specs.Events.{Event}

@@ -1,4 +1,4 @@
--- Loops over rows: one turn each, in the form "what is left decides".
+-- Loops over rows, one turn each: what is left decides the whole.
 use Prim.Native.Nat.{ℕ, suc, _+_, _*_, _-_, _<_, _≤_}
 use mathlib.Core.Path.{_≡_, refl, sym, ap, ap₂, _∙_}
 use mathlib.Core.List.{List, _++_, append-assoc}

@@ -1,4 +1,4 @@
--- The raw state: numbers and event slots as they lie in bytes. Total: every buffer is one, whatever it holds.
+-- Believe: the raw state: numbers and event slots as they lie in bytes. Total: every buffer is one, whatever it holds.
 use Prim.Native.Nat.{ℕ, _*_}
 use mathlib.Core.List.{List, [], _∷_, _++_, map}
 use lib.ListN.{take, drop, getD, set, replicate}

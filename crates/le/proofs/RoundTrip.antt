@@ -129,7 +129,7 @@ each-rows F d G f c (suc n) s =
     (each-rows F d G f c n (drop c s) ∙ ap (λ (l : List ℕ). encRows F d n (map f (decRows G c n (take (n * c) (drop c s)))) ++ l) (drop-drop (n * c) c s))
     ∙ sym (append-assoc (F (f (G (take c s)))) (encRows F d n (map f (decRows G c n (take (n * c) (drop c s))))) (drop (c + n * c) s)))
 
--- ---- a loop over a list, in the form "what is left decides"
+-- ---- a loop over a list, one turn: what is left decides the whole
 
 pub fold-turn : {A : Type 0} (f : A → ℕ → ℕ) (l : List A) (d : A) (acc i : ℕ) → i < length l → fold f (f (getD l i d) acc) (drop (i + 1) l) ≡ fold f acc (drop i l)
 unfolding fold

@@ -1,4 +1,4 @@
--- Little-endian numbers in lists of bytes.
+-- Believe: little-endian numbers in lists of bytes.
 use Prim.Native.Nat.{ℕ, zero, suc, _+_, _*_, _/_, _%_, _<_}
 use mathlib.Core.Bool.{Bool, true, false, cond}
 use lib.Dec.{eqb}

@@ -1,4 +1,4 @@
--- How numbers and rows of equal size lie in bytes.
+-- Believe: how numbers and rows of equal size lie in bytes.
 use Prim.Native.Nat.{ℕ, zero, suc, _+_}
 use mathlib.Core.List.{List, [], _∷_, _++_}
 use lib.ListN.{take, drop}

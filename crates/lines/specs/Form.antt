@@ -1,4 +1,5 @@
--- The form of a line: what stands at a position of a text, a word, a number, a key with its number; and where it ends, or a fault.
+-- Believe: the form of a line: what stands at a position of a text, a word, a number, a key with its number; and where it
+-- ends, or a fault.
 use Prim.Native.Nat.{ℕ, zero, suc, _+_, _*_, _-_, _^_}
 use mathlib.Core.Bool.{Bool, cond, _&&_}
 use mathlib.Core.List.{List, [], _∷_}

@@ -1,15 +1,15 @@
 -- The state that load fills is sound.
 use Prim.Native.Nat.{ℕ, zero, suc, _<_}
-use mathlib.Core.Path.{_≡_, refl, ap, _∙_, subst}
+use mathlib.Core.Path.{_≡_, refl, sym, ap, subst}
 use mathlib.Core.Bool.{Bool, true, false, _&&_}
 use mathlib.Core.List.{List, [], _∷_, map}
 use native.Mathlib.Omega.{arith}
 use lib.Dec.{T}
 use lib.ListN.{length}
 use Rattle.meaning.specs.Plan.{Eqn, input, nil, unit, one, two, last, delay, isInput, Plan}
-use Rattle.meaning.specs.Cycle.{acyclic}
+use Rattle.meaning.specs.Cycle.{Acyclic}
 use Rattle.machine.specs.State.{Declared, noKept, fresh, loaded, cellAt, planOf, declaredPlan}
-use Rattle.encoding.specs.Sound.{IsNext, IsKept, SoundCell, Sound}
+use Rattle.encoding.specs.Sound.{IsNext, IsKept, SoundCell, Own, Sound}
 use Rattle.plan.specs.Taken.{StreamKeeps, Each, KeepsRules}
 use Rattle.load.proofs.Taken.{many}
 
@@ -47,6 +47,11 @@ cell-at n [] e i h = absurd (omega arith)
 cell-at n (d ∷ ds) e zero h = cell-fresh n d (e .0)
 cell-at n (d ∷ ds) e (suc i) h = cell-at n ds (e .1) i (omega arith)
 
+nothing-held : (ds : List Declared) (i : ℕ) → i < length ds → Own (cellAt (map fresh ds) i)
+nothing-held [] i h = absurd (omega arith)
+nothing-held (d ∷ ds) zero h = λ t. omega arith
+nothing-held (d ∷ ds) (suc i) h = nothing-held ds i (omega arith)
+
 pub plan-loaded : (ds : List Declared) → planOf (loaded ds) ≡ declaredPlan ds
 unfolding loaded
 plan-loaded [] = refl
@@ -54,12 +59,16 @@ plan-loaded (d ∷ ds) = ap (λ (l : Plan). d .eqn ∷ l) (plan-loaded ds)
 
 -- a plan that keeps the rules loads as a sound state
 pub loaded-sound : {cap : ℕ} (ds : List Declared) → KeepsRules cap ds → Sound cap (loaded ds)
-loaded-sound {cap} ds k = record {
+loaded-sound ds k = record {
   some = rw (many ds) (k .some);
   few = rw (many ds) (k .few);
   each = λ i h. rw (many ds) (at i (subst (λ (n : ℕ). i < n) (many ds) h));
-  acyclic = ap (acyclic cap) (plan-loaded ds) ∙ k .clear;
+  own = λ i h. own-at i (subst (λ (n : ℕ). i < n) (many ds) h);
+  acyclic = subst Acyclic (sym (plan-loaded ds)) (k .clear);
 }
   where
     at : (i : ℕ) → i < length ds → SoundCell (length ds) (cellAt (loaded ds) i)
     at i h = unfold loaded in cell-at (length ds) ds (k .each) i h
+
+    own-at : (i : ℕ) → i < length ds → Own (cellAt (loaded ds) i)
+    own-at i h = unfold loaded in nothing-held ds i h

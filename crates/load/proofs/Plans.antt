@@ -1,13 +1,13 @@
 -- The plan part of number 15: the plans of valid states are just those that a taken text gives.
 use Prim.Native.Nat.{ℕ, suc, _<_}
-use mathlib.Core.Path.{_≡_, refl, ap, _∙_}
+use mathlib.Core.Path.{_≡_, refl, sym, ap, subst}
 use mathlib.Core.Bool.{Bool, true, false, _&&_}
 use mathlib.Core.List.{List, [], _∷_, map}
 use native.Mathlib.Omega.{arith}
 use lib.Dec.{T}
 use lib.ListN.{length, length-map}
 use Rattle.meaning.specs.Plan.{isInput, Plan}
-use Rattle.meaning.specs.Cycle.{acyclic}
+use Rattle.meaning.specs.Cycle.{Acyclic}
 use Rattle.machine.specs.State.{Cell, State, Declared, loaded, cellAt, planOf, declaredPlan}
 use Rattle.operators.specs.Limits.{capacity}
 use Rattle.operators.proofs.Sizes.{capacity-few}
@@ -48,13 +48,13 @@ same-plan (c ∷ M) = ap (λ (l : Plan). c .eqn ∷ l) (same-plan M)
 
 -- the plan of a sound state keeps the written rules
 pub sound-rules : {cap : ℕ} (M : State) → Sound cap M → KeepsRules cap (declaredIn M)
-sound-rules {cap} M ok =
+sound-rules M ok =
     let m : length (declaredIn M) ≡ length M = length-map M declares in
     record {
       some = rw m (ok .some);
       few = rw m (ok .few);
       each = rw m (each-keeps (length M) M (ok .each));
-      clear = ap (acyclic cap) (same-plan M) ∙ ok .acyclic;
+      clear = subst Acyclic (sym (same-plan M)) (ok .acyclic);
     }
 
 -- so a valid state's plan is the plan of a taken text

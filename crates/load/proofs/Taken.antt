@@ -15,7 +15,8 @@ use Rattle.le.specs.Layout.{encRows, decFields, decRows}
 use Rattle.le.proofs.RoundTrip.{All}
 use Rattle.layout.specs.Record.{Raw, Raws, noSlot, noRaw, change, encRaw, decRaw, decSlot, encode, decode}
 use Rattle.layout.proofs.Laws.{RawOk, raw-ok, raw-dec, decode-encode}
-use Rattle.meaning.specs.Plan.{Eqn, input, nil, unit, one, two, last, delay, argA, argB}
+use Rattle.meaning.specs.Plan.{Eqn, input, nil, unit, one, two, last, delay}
+use Rattle.meaning.specs.Arguments.{argA, argB}
 use Rattle.machine.specs.State.{State, Declared, noKept, fresh, loaded}
 use Rattle.operators.specs.Operators.{numberOf, valueOf}
 use Rattle.operators.specs.Limits.{capacity}
@@ -157,7 +158,7 @@ pub many : (ds : List Declared) → length (loaded ds) ≡ length ds
 unfolding loaded
 many ds = length-map ds fresh
 
--- "On 0 the state holds the plan, all bounds 0, nothing held": the bytes of the fresh state of the streams declared
+-- Load "fills a fresh state, all bounds 0": the bytes of the fresh state of the streams declared
 pub taken-filled : (text s : List ℕ) → number (capacity (length s)) text ≡ 0 → filled (capacity (length s)) text s ≡ bytesOf (length s) (loaded (declared (capacity (length s)) text))
 unfolding filled bytesOf rawsOf
 taken-filled text s e =

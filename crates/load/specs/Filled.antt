@@ -1,4 +1,4 @@
--- How the second pass goes: the fields of each stream into its record of a cleared state.
+-- How: the second pass: the fields of each stream into its record of a cleared state.
 use Prim.Native.Nat.{ℕ, zero, suc, _+_, _%_}
 use mathlib.Core.List.{List}
 use lib.ListN.{length, replicate}

@@ -6,7 +6,8 @@ use native.Mathlib.Omega.{arith}
 use native.Mathlib.Decide.{decLt}
 use lib.Dec.{T}
 use lib.ListN.{length, set, length-set, length-map}
-use Rattle.meaning.specs.Plan.{isInput, reads, argA, argB}
+use Rattle.meaning.specs.Plan.{isInput}
+use Rattle.meaning.specs.Arguments.{reads, argA, argB}
 use Rattle.meaning.specs.Events.{Event}
 use Rattle.machine.specs.State.{Cell, State, cellAt, withKept}
 use Rattle.machine.specs.Step.{advance, absorb, absorbed, write, told, tell, raise}

@@ -1,7 +1,9 @@
--- The reach is the greatest bound that document 01's sentence allows, or the present bound if that is greater.
+-- The reach is the greatest bound that the arguments fix, on held events and what is kept, or the present bound if that is
+-- greater.
 use mathlib.Core.Path.{_≡_}
-use mathlib.Core.Logic.{_⊎_, inl, inr}
+use mathlib.Core.Logic.{inl, inr}
 use mathlib.Core.Bool.{Bool, false}
+use mathlib.Core.List.{[]}
 use Prim.Native.Nat.{ℕ, suc, pred, _+_, _-_, _≤_, _<_, min, max}
 use native.Mathlib.Omega.{arith}
 use native.Mathlib.Decide.{decLt, decLe}
@@ -11,25 +13,9 @@ use Rattle.meaning.specs.Events.{has, horizon}
 use Rattle.meaning.proofs.Tests.{T-and, T-and-l, T-and-r}
 use Rattle.machine.specs.State.{Cell}
 use Rattle.machine.specs.Reach.{view, pastLatest, least, point, stops, reach}
+use Rattle.machine.specs.Greatest.{HeldPoint, HeldFixes, OwnKept}
 use Rattle.machine.proofs.Search.{least-ge, least-le, least-before, least-hit, least-min}
 use Rattle.machine.proofs.Window.{past-le, past-max, past-hit}
-
--- a set point of a delay that is known: the latest kept one, or a held event of b
-abbrev pub SetPoint : (o b : Cell) → ℕ → Type 0
-SetPoint o b p = (o .kept .since ≡ suc p) ⊎ T (has (view b p))
-
--- "A move of an equation with bound y looks at its reach, the greatest bound that its arguments fix: nil, unit: the
--- horizon. One argument: that one's bound. Two, but for last and delay: the smaller bound. last: b's bound, but no further
--- than the first event of b, at stamp y or later, that lies above a's bound. delay: the greatest k up to b's bound plus 1
--- and up to the horizon such that every set point p with p + 1 < k lies below a's bound."
-abbrev pub Allows : Eqn → (o a b : Cell) → ℕ → Type 0
-Allows input o a b k = k ≤ o .bound
-Allows nil o a b k = k ≤ horizon
-Allows unit o a b k = k ≤ horizon
-Allows (one f _) o a b k = k ≤ a .bound
-Allows (two g _ _) o a b k = (k ≤ a .bound) × (k ≤ b .bound)
-Allows (last _ _) o a b k = (k ≤ b .bound) × ((t : ℕ) → T (has (view b t)) → o .bound ≤ t → a .bound < t → k ≤ t)
-Allows (delay _ _) o a b k = (k ≤ suc (b .bound)) × (k ≤ horizon) × ((p : ℕ) → SetPoint o b p → p + 1 < k → p < a .bound)
 
 -- a reach that is found at the end of the search, or where it is stopped
 module _ (f : ℕ → Bool) (y l : ℕ) where
@@ -43,38 +29,49 @@ module _ (f : ℕ → Bool) (y l : ℕ) where
   search-within : y < least f y (l - y) → least f y (l - y) ≤ l
   search-within h = let k = least-le f y (l - y) in omega arith
 
+-- so it is where nothing is held
+pub own-kept-none : (e : Eqn) (o : Cell) → o .held ≡ [] → OwnKept e o
+own-kept-none input o q = tt
+own-kept-none nil o q = tt
+own-kept-none unit o q = tt
+own-kept-none (one f x) o q = tt
+own-kept-none (two g x z) o q = tt
+own-kept-none (last x z) o q = tt
+own-kept-none (delay x z) o q = λ p h. absurd (rw q at h)
+
 -- one past a set point below t is counted
-point-counts : (o b : Cell) (p t : ℕ) → SetPoint o b p → p < t → p < point o b t
+point-counts : (o b : Cell) → ((p : ℕ) → T (has (view o p)) → p < o .kept .since) → (p t : ℕ) → HeldPoint o b p → p < t → p < point o b t
 unfolding point
-point-counts o b p t (inl e) l = omega arith
-point-counts o b p t (inr h) l = let k = past-max (view b) t p l h in omega arith
+point-counts o b own p t (inl e) l = omega arith
+point-counts o b own p t (inr (inl h)) l = let k = past-max (view b) t p l h in omega arith
+point-counts o b own p t (inr (inr h)) l = let k = own p h in omega arith
 
 -- and what is counted is one past a set point
-point-set : (o b : Cell) (t : ℕ) → 0 < point o b t → SetPoint o b (pred (point o b t))
+point-set : (o b : Cell) (t : ℕ) → 0 < point o b t → HeldPoint o b (pred (point o b t))
 unfolding point
 point-set o b t h = go (decLe (pastLatest (view b) t) (o .kept .since))
   where
-    go : Dec (pastLatest (view b) t ≤ o .kept .since) → SetPoint o b (pred (max (o .kept .since) (pastLatest (view b) t)))
+    go : Dec (pastLatest (view b) t ≤ o .kept .since) → HeldPoint o b (pred (max (o .kept .since) (pastLatest (view b) t)))
     go (yes d) = inl (omega arith)
-    go (no d) = let e : max (o .kept .since) (pastLatest (view b) t) ≡ pastLatest (view b) t = omega arith in rw e (inr (past-hit (view b) t (omega arith)))
+    go (no d) = let e : max (o .kept .since) (pastLatest (view b) t) ≡ pastLatest (view b) t = omega arith in rw e (inr (inl (past-hit (view b) t (omega arith))))
 
 point-le : (o b : Cell) (t : ℕ) → o .kept .since ≤ t → point o b t ≤ t
 unfolding point
 point-le o b t l = let k = past-le (view b) t in omega arith
 
 -- above the present bound the reach is allowed
-pub reach-allowed : (e : Eqn) (o a b : Cell) → o .bound < reach e o a b → Allows e o a b (reach e o a b)
+pub reach-fixed : (e : Eqn) (o a b : Cell) → OwnKept e o → o .bound < reach e o a b → HeldFixes e o a b (reach e o a b)
 unfolding reach
-reach-allowed input o a b h = search-within (λ t. false) (o .bound) (o .bound) h
-reach-allowed nil o a b h = search-within (λ t. false) (o .bound) horizon h
-reach-allowed unit o a b h = search-within (λ t. false) (o .bound) horizon h
-reach-allowed (one f x) o a b h = search-within (λ t. false) (o .bound) (a .bound) h
-reach-allowed (two g x z) o a b h = let k = search-within (λ t. false) (o .bound) (min (a .bound) (b .bound)) h in (omega arith, omega arith)
-reach-allowed (last x z) o a b h = (
+reach-fixed input o a b own h = search-within (λ t. false) (o .bound) (o .bound) h
+reach-fixed nil o a b own h = search-within (λ t. false) (o .bound) horizon h
+reach-fixed unit o a b own h = search-within (λ t. false) (o .bound) horizon h
+reach-fixed (one f x) o a b own h = search-within (λ t. false) (o .bound) (a .bound) h
+reach-fixed (two g x z) o a b own h = let k = search-within (λ t. false) (o .bound) (min (a .bound) (b .bound)) h in (omega arith, omega arith)
+reach-fixed (last x z) o a b own h = (
   search-within (stops (last x z) o a b) (o .bound) (b .bound) h,
   λ t i l m. least-min (stops (last x z) o a b) (o .bound) (b .bound - o .bound) t l (T-and (has (view b t)) (ltb (a .bound) t) i (lt→ltb (a .bound) t m)),
 )
-reach-allowed (delay x z) o a b h =
+reach-fixed (delay x z) o a b own h =
     let f : ℕ → Bool = stops (delay x z) o a b in
     let n = min (suc (b .bound)) horizon in
     let r = least f (o .bound) (n - o .bound) in
@@ -82,13 +79,13 @@ reach-allowed (delay x z) o a b h =
       omega arith,
       omega arith,
       λ p s l.
-          let c = point-counts o b p (pred r) s (omega arith) in
+          let c = point-counts o b own p (pred r) s (omega arith) in
           let d = nltb→le (a .bound) (point o b (pred r)) (least-before f (o .bound) (n - o .bound) (pred r) (omega arith) (omega arith)) in
           omega arith,
     )
 
 -- and nothing greater is
-pub reach-greatest : (e : Eqn) (o a b : Cell) → o .kept .since ≤ o .bound → (k : ℕ) → Allows e o a b k → k ≤ reach e o a b
+pub reach-greatest : (e : Eqn) (o a b : Cell) → o .kept .since ≤ o .bound → (k : ℕ) → HeldFixes e o a b k → k ≤ reach e o a b
 unfolding reach
 reach-greatest input o a b s k h = search-le (λ t. false) (o .bound) (o .bound) k h (λ t l i. absurd i)
 reach-greatest nil o a b s k h = search-le (λ t. false) (o .bound) horizon k h (λ t l i. absurd i)

@@ -9,7 +9,8 @@ use native.Mathlib.Decide.{decLt}
 use lib.Dec.{T, eqb, eqb→eq, eqb-refl}
 use lib.ListN.{length, set, length-set}
 use lib.Seq.{set-out, getD-set-same, getD-set-other}
-use Rattle.meaning.specs.Plan.{Eqn, input, nil, unit, one, two, last, delay, reads, Each}
+use Rattle.meaning.specs.Plan.{Eqn, input, nil, unit, one, two, last, delay}
+use Rattle.meaning.specs.Arguments.{reads, Each}
 use Rattle.meaning.specs.Events.{Event, horizon}
 use Rattle.meaning.proofs.Tests.{Is, yes!, no!, look, true-is, T-or, T-or-l, T-or-r}
 use Rattle.machine.specs.State.{Cell, State, absent, cellAt, withHeld}

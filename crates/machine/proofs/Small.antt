@@ -7,7 +7,8 @@ use Prim.Native.Nat.{ℕ, zero, suc, _+_, _≤_, _<_}
 use native.Mathlib.Omega.{arith}
 use lib.Dec.{T, leb, ltb, ltb→lt, nleb→lt}
 use lib.ListN.{length, set, length-append, length-set}
-use Rattle.meaning.specs.Plan.{reads, isInput, argA, argB}
+use Rattle.meaning.specs.Plan.{isInput}
+use Rattle.meaning.specs.Arguments.{reads, argA, argB}
 use Rattle.meaning.specs.Events.{Event, ev, horizon}
 use Rattle.meaning.proofs.Tests.{Is, yes!, no!, look, not-twice}
 use Rattle.machine.specs.State.{Cell, State, cellAt, room, withKept, withBound, withNext}

@@ -1,4 +1,4 @@
--- When an equation can move: its reach, and the first event below it. Functions of three cells: o, the equation's own,
+-- Believe: when an equation can move: its reach, and the first event below it. Functions of three cells: o, the equation's own,
 -- and a and b, those of its arguments (an argument that the operator does not use is not looked at).
 use Prim.Native.Nat.{ℕ, zero, suc, pred, _-_, min, max}
 use mathlib.Core.Bool.{Bool, true, false, cond, _&&_}
@@ -35,7 +35,8 @@ limit (two g _ _) o a b = min (a .bound) (b .bound)
 limit (last _ _) o a b = b .bound
 limit (delay _ _) o a b = min (suc (b .bound)) horizon
 
--- one past a delay's latest set point below t, if the delay itself has no event from its bound on
+-- one past a delay's latest set point below t, if the delay itself has no event from its bound on. Its own held events
+-- are counted in `since`: `point-own` in crates/encoding/proofs/Points.antt.
 unfoldable pub point : (o b : Cell) → ℕ → ℕ
 unfolding pastLatest
 point o b t = max (o .kept .since) (pastLatest (view b) t)

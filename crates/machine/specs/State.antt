@@ -1,4 +1,4 @@
--- The state: for each stream its equation, its bound, the events it holds, and what is kept. No bytes.
+-- Believe: the state: for each stream its equation, its bound, the events it holds, and what is kept. No bytes.
 use Prim.Native.Nat.{ℕ}
 use mathlib.Core.Bool.{Bool, false}
 use mathlib.Core.Option.{Option, none}

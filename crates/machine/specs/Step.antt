@@ -1,4 +1,4 @@
--- One step: a stream's bound goes up, with at most one new event. Only that stream, its readers and its arguments change.
+-- Believe: one step: a stream's bound goes up, with at most one new event. Only that stream, its readers and its arguments change.
 use Prim.Native.Nat.{ℕ, suc, pred, _+_, min, max}
 use mathlib.Core.Bool.{Bool, false, not, cond, _&&_, _||_}
 use mathlib.Core.Option.{none, some}
@@ -6,7 +6,8 @@ use mathlib.Core.List.{List, [], _∷_, _++_, map}
 use lib.Dec.{leb, ltb, eqb}
 use lib.ListN.{length, set}
 use lib.IntN.{ℤ}
-use Rattle.meaning.specs.Plan.{Eqn, input, nil, unit, one, two, last, delay, isInput, reads, argA, argB}
+use Rattle.meaning.specs.Plan.{Eqn, input, nil, unit, one, two, last, delay, isInput}
+use Rattle.meaning.specs.Arguments.{reads, argA, argB}
 use Rattle.meaning.specs.Events.{Event, ev, horizon, orElse}
 use Rattle.meaning.specs.Table.{latest}
 use Rattle.machine.specs.State.{Kept, Cell, State, cellAt, room, withBound, withHeld, withKept, withPrev, withSince, withValue, withPrior}
@@ -58,15 +59,16 @@ anyOf s (a ∷ l) = anyFrom s a l
 abbrev pub readsIt : ℕ → Eqn → Bool
 readsIt s e = anyOf s (reads e)
 
--- a delay with bound y: a's event at its latest set point; a's event just below its bound; b's event there, a new set point
+-- a delay with bound y: a's event at its latest set point; a's event just below its bound; b's event, a set point
 abbrev pub valueTold : Bool → (t : ℕ) → ℤ → Kept → Kept
 valueTold isA t v k = withValue (cond (isA && eqb (k .since) (t + 1)) (some v) (k .value)) k
 
 abbrev pub priorTold : Bool → (y t : ℕ) → ℤ → Kept → Kept
 priorTold isA y t v k = withPrior (cond (isA && eqb y (t + 1)) (some v) (k .prior)) k
 
+-- the latest one, unless a later one is known: a's event there is known if it is the one just below the bound
 abbrev pub sinceTold : Bool → (y t : ℕ) → Kept → Kept
-sinceTold isB y t k = withSince (cond (isB && eqb y (t + 1)) y (k .since)) (withValue (cond (isB && eqb y (t + 1)) (k .prior) (k .value)) k)
+sinceTold isB y t k = cond (isB && leb (k .since) t) (withSince (t + 1) (withValue (cond (eqb y (t + 1)) (k .prior) none) k)) k
 
 -- what an equation with bound y keeps when the event (t, v) of stream s comes in below its bound
 abbrev pub keptTold : Eqn → (s y t : ℕ) → ℤ → Kept → Kept

@@ -1,4 +1,3 @@
-pub mod Computed
 pub mod Tests
 pub mod Options
 pub mod Each
@@ -11,5 +10,8 @@ pub mod Exists
 pub mod Within
 pub mod Ways
 pub mod Solution
+pub mod Firing
+pub mod Silence
 pub mod CycleTest
+pub mod Computed
 pub mod CasesHold

@@ -7,8 +7,9 @@ use native.Mathlib.Omega.{arith}
 use native.Mathlib.Decide.{decLt}
 use lib.Dec.{T, ltb, ltb→lt}
 use lib.ListN.{length, List·getD-eq-default}
-use Rattle.meaning.specs.Plan.{Eqn, input, nil, unit, one, two, last, delay, Plan, eqnAt, reads, undelayed, Each}
-use Rattle.meaning.specs.Cycle.{downFrom}
+use Rattle.meaning.specs.Plan.{Eqn, input, nil, unit, one, two, last, delay, Plan, eqnAt}
+use Rattle.meaning.specs.Arguments.{reads, undelayed, Each}
+use Rattle.meaning.specs.CycleTest.{downFrom}
 use Rattle.meaning.proofs.Each.{all, each-map, each-at, all-each}
 use Rattle.meaning.proofs.Induction.{below-suc}
 

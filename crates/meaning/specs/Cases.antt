@@ -1,4 +1,4 @@
--- The worked cases: plans with readings, and the events that a stream of each must have.
+-- Cases: plans with readings, and the events that a stream of each must have.
 use Prim.Native.Nat.{ℕ}
 use mathlib.Core.Bool.{Bool, true, false}
 use mathlib.Core.List.{List, [], _∷_}
@@ -12,15 +12,16 @@ pub record Case : Type 0 where
   -- the readings of streams 0, 1, ..
   pub readings : List (List Event)
   pub stream : ℕ
-  -- the events expected of the stream below the stamp `until`
-  pub until : ℕ
+  -- the events expected of the stream
   pub expected : List Event
+  -- the stamp up to which they are computed; in a case that ends, nothing happens from there on
+  pub until : ℕ
 
 abbrev pub given : List (List Event) → Streams
 given rs s = found (getD rs s [])
 
 abbrev pub case : Plan → List (List Event) → ℕ → ℕ → List Event → Case
-case p r s u e = record { plan = p; readings = r; stream = s; until = u; expected = e }
+case p r s u e = record { plan = p; readings = r; stream = s; expected = e; until = u }
 
 -- the count of visits of document 01
 abbrev pub count : Plan
@@ -50,6 +51,7 @@ least = negsuc 9223372036854775807
 abbrev pub greatest : ℤ
 greatest = pos 9223372036854775807
 
+-- the cases that end: the events expected are all that the stream has, to the horizon
 unfoldable pub cases : List Case
 cases =
     -- M1: the count. M2: a visit at stamp 0 alone: only value 0 at 0.
@@ -73,8 +75,6 @@ cases =
     -- M11: 3,037,000,499 squared is 9,223,372,030,926,249,001. M12: 3,037,000,500 squared: none.
     ∷ binary (calc mul) (ev 0 (pos 3037000499) ∷ []) (ev 0 (pos 3037000499) ∷ []) (ev 0 (pos 9223372030926249001) ∷ [])
     ∷ binary (calc mul) (ev 0 (pos 3037000500) ∷ []) (ev 0 (pos 3037000500) ∷ []) []
-    -- a delay that sets itself again at its own firing
-    ∷ case ticking [] 3 40 (ev 7 (pos 0) ∷ ev 14 (pos 0) ∷ ev 21 (pos 0) ∷ ev 28 (pos 0) ∷ ev 35 (pos 0) ∷ [])
     -- a delay that b sets anew fires at the later due stamp alone; a value below 0 fires nothing
     ∷ delayed (ev 0 (pos 10) ∷ ev 5 (pos 7) ∷ []) (ev 0 (pos 1) ∷ ev 5 (pos 1) ∷ []) (ev 12 (pos 0) ∷ [])
     ∷ delayed (ev 0 (negsuc 2) ∷ []) (ev 0 (pos 1) ∷ []) []
@@ -100,6 +100,13 @@ cases =
     -- nil has no event, unit one of value 0 at stamp 0
     ∷ case (nil ∷ []) [] 0 4 []
     ∷ case (unit ∷ []) [] 0 4 (ev 0 (pos 0) ∷ [])
+    ∷ []
+
+-- a case that goes on: the events expected are those below `until`, and more follow for ever
+unfoldable pub beginnings : List Case
+beginnings =
+    -- a delay that sets itself again at its own firing
+    case ticking [] 3 40 (ev 7 (pos 0) ∷ ev 14 (pos 0) ∷ ev 21 (pos 0) ∷ ev 28 (pos 0) ∷ ev 35 (pos 0) ∷ [])
     ∷ []
 
 -- Plans, and whether the cycle test takes them

@@ -1,4 +1,4 @@
--- The operator table, row by row: what each stream has at stamp t.
+-- Believe: the operator table, row by row: what each stream has at stamp t.
 use Prim.Native.Nat.{ℕ, zero, suc, _-_, _<_}
 use mathlib.Core.Path.{_≡_}
 use mathlib.Core.Bool.{Bool, true, false, not, cond, _&&_, _||_}

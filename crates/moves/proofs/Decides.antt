@@ -8,7 +8,7 @@ use Rattle.meaning.specs.Plan.{Eqn, input, nil, unit, one, two, last, delay, is
 use Rattle.meaning.specs.Events.{horizon}
 use Rattle.machine.specs.State.{Kept, Cell, noKept}
 use Rattle.machine.specs.Reach.{Next, silent, limit, decide}
-use Rattle.meaning.specs.Plan.{argA, argB}
+use Rattle.meaning.specs.Arguments.{argA, argB}
 use Rattle.layout.specs.Record.{Raws, num, rowAt, countF, boundF}
 use Rattle.streams.specs.Look.{ownCell}
 use Rattle.streams.proofs.Laws.{look-bound}

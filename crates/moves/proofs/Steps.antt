@@ -8,12 +8,13 @@ use lib.Dec.{leb, ltb, lit<}
 use lib.ListN.{length, set}
 use lib.Seq.{set-getD}
 use borrow.Author.Tests.{ltb-true}
-use Rattle.meaning.specs.Plan.{Eqn, reads}
+use Rattle.meaning.specs.Plan.{Eqn}
+use Rattle.meaning.specs.Arguments.{reads}
 use Rattle.meaning.specs.Events.{horizon}
 use Rattle.machine.specs.State.{room, Kept}
 use Rattle.machine.specs.Reach.{Next, event, silent}
 use Rattle.machine.specs.Step.{absorb}
-use Rattle.meaning.specs.Plan.{argA, argB}
+use Rattle.meaning.specs.Arguments.{argA, argB}
 use Rattle.le.specs.Bytes.{Bytes}
 use Rattle.layout.specs.Record.{Slot, Raw, Raws, noRaw, num, withNum, dropped, encode, decode, rowAt, change, changeAll, countF, boundF}
 use Rattle.layout.proofs.Laws.{RawOk, RawsOk, raws-ok, row-ok, change-ok, changeAll-ok, num-ok, num-small, whole-then, encode-decode}

@@ -1,15 +1,16 @@
--- A move and a run on raw records: total functions of n records.
+-- How: a move and a run on raw records: total functions of n records.
 use Prim.Native.Nat.{ℕ, _+_}
 use mathlib.Core.Bool.{Bool, not, cond, _&&_}
 use mathlib.Core.List.{List, [], _∷_}
 use lib.Dec.{ltb, leb, eqb}
 use mir.Syntax.{w64}
 use mir.Val.{ofZ}
-use Rattle.meaning.specs.Plan.{Eqn, isInput, reads}
+use Rattle.meaning.specs.Plan.{Eqn, isInput}
+use Rattle.meaning.specs.Arguments.{reads}
 use Rattle.machine.specs.State.{Cell, Kept, room, noKept}
 use Rattle.machine.specs.Reach.{Next, event, silent, limit, decide}
 use Rattle.machine.specs.Step.{absorb}
-use Rattle.meaning.specs.Plan.{argA, argB}
+use Rattle.meaning.specs.Arguments.{argA, argB}
 use Rattle.layout.specs.Record.{Raws, num, withNum, rowAt, change, changeAll, countF, boundF}
 use Rattle.encoding.specs.Back.{heldOf}
 use Rattle.streams.specs.Look.{lookOf, ownCell}

@@ -1,4 +1,4 @@
--- Arithmetic on values: each operation over all whole numbers, and one test that says whether the result is a value.
+-- Believe: arithmetic on values: each operation over all whole numbers, and one test that says whether the result is a value.
 use Prim.Native.Nat.{_^_, _-_}
 use mathlib.Core.Bool.{Bool, true, false, cond}
 use lib.Dec.{eqb}

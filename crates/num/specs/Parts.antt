@@ -1,4 +1,4 @@
--- A number in sign and magnitude: how the code works.
+-- How: a number in sign and magnitude: how the code works.
 use Prim.Native.Nat.{ℕ}
 use mathlib.Core.Bool.{Bool, true, false}
 use lib.IntN.{ℤ, pos, negℤ}

@@ -1,4 +1,4 @@
--- The refusals of the offers and of collect, and their steps, on raw records.
+-- How: the refusals of the offers and of collect, and their steps, on raw records.
 use Prim.Native.Nat.{ℕ, _+_, min}
 use mathlib.Core.Bool.{cond}
 use lib.Dec.{ltb, leb, eqb}

@@ -6,7 +6,7 @@ use mathlib.Core.List.{[], _∷_}
 use lib.Dec.{eqb, ltb}
 use types.Run.{OneOf, miss}
 use denote.Enum.Declared.{tagOf}
-use Rattle.meaning.specs.Plan.{prompts}
+use Rattle.meaning.specs.Arguments.{prompts}
 use Rattle.operators.specs.Operators.{groupOf, isLast, isDelay, takesFirst, takesSecond, argumentsOf, usesA, usesB, usesK}
 use Rattle.operators.specs.Rules.{argOk, valueOk, outOk, fieldsOk}
 use Rattle.operators.specs.declared.Group.{Group}

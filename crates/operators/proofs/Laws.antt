@@ -8,7 +8,8 @@ use borrow.Author.Tests.{leb-true, leb-false, lt-leb, ne-eqb}
 use lib.Dec.{leb, eqb, lit≤}
 use lib.ListN.{getD, List·getD-eq-default}
 use lib.IntN.{ℤ, pos}
-use Rattle.meaning.specs.Plan.{Unary, time, neg, set, plus, Calc, add, sub, mul, div, rem, lt, le, eq, Binary, calc, keep, merge, Eqn, input, nil, unit, one, two, last, delay, isInput, arguments, argA, argB}
+use Rattle.meaning.specs.Plan.{Unary, time, neg, set, plus, Calc, add, sub, mul, div, rem, lt, le, eq, Binary, calc, keep, merge, Eqn, input, nil, unit, one, two, last, delay, isInput}
+use Rattle.meaning.specs.Arguments.{arguments, argA, argB}
 use Rattle.operators.specs.Operators.{Operator, noOperator, operators, operatorCount, calcs, calcPlace, unaryNumber, binaryNumber, groupOf, eqnOf, numberOf, valueOf, isPresent, isIn, isLast, isDelay, takesFirst, takesSecond, isOperator, usesA, usesB, usesK, argumentsOf, eqnGroup}
 use Rattle.operators.specs.declared.Group.{Group}
 use Rattle.operators.specs.declared.Group.the-variants.{Absent, One, Two}

@@ -9,7 +9,8 @@ use lib.IntN.{ℤ, pos}
 use borrow.Author.Tests.{eqb-true, ltb-true, lt-ltb, eq-eqb}
 use mir.Syntax.{w64}
 use mir.Val.{toZ}
-use Rattle.meaning.specs.Plan.{time, neg, set, plus, Eqn, input, nil, unit, one, two, last, delay, Argument, isInput, reads, undelayed, argA, argB, AllBelow}
+use Rattle.meaning.specs.Plan.{time, neg, set, plus, Eqn, input, nil, unit, one, two, last, delay, isInput}
+use Rattle.meaning.specs.Arguments.{Argument, reads, undelayed, argA, argB, AllBelow}
 use Rattle.meaning.proofs.Within.{undelayed-read}
 use Rattle.operators.specs.Operators.{groupOf, isIn, takesFirst, takesSecond, argumentsOf, usesA, usesB, usesK, eqnGroup, eqnOf, numberOf, valueOf}
 use Rattle.operators.specs.Rules.{argOk, valueOk, outOk, fieldsOk}

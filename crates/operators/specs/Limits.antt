@@ -1,4 +1,4 @@
--- The limits of a plan and the sizes of a state, each named once.
+-- Believe: the limits of a plan and the sizes of a state, each named once.
 use Prim.Native.Nat.{ℕ}
 use mathlib.Core.Bool.{Bool, cond, _&&_}
 use lib.Dec.{eqb, leb}

@@ -1,10 +1,12 @@
--- The operator table: each operator's name, its stored number, its group, and the equation that it makes of the fields of a stream.
+-- Believe: the operator table: each operator's name, its stored number, its group, and the equation that it makes of the
+-- fields of a stream.
 use Prim.Native.Nat.{ℕ, _+_}
 use mathlib.Core.Bool.{Bool, true, false}
 use mathlib.Core.List.{List, [], _∷_, _++_, map}
 use lib.ListN.{getD}
 use lib.IntN.{ℤ, pos}
-use Rattle.meaning.specs.Plan.{Unary, time, neg, set, plus, Calc, add, sub, mul, div, rem, lt, le, eq, Binary, calc, keep, merge, Eqn, input, nil, unit, one, two, last, delay, Argument, prompt, late}
+use Rattle.meaning.specs.Plan.{Unary, time, neg, set, plus, Calc, add, sub, mul, div, rem, lt, le, eq, Binary, calc, keep, merge, Eqn, input, nil, unit, one, two, last, delay}
+use Rattle.meaning.specs.Arguments.{Argument, prompt, late}
 use Rattle.operators.specs.declared.Group.{Group}
 use Rattle.operators.specs.declared.Group.the-variants.{Absent, Input, Plain, One, Two, Last, Delay}
 

@@ -1,4 +1,4 @@
--- The rules for the fields of one stream, of a plan text and of a record alike.
+-- Believe: the rules for the fields of one stream, of a plan text and of a record alike.
 use Prim.Native.Nat.{ℕ}
 use mathlib.Core.Bool.{Bool, true, cond, _&&_}
 use lib.Dec.{eqb, ltb}

@@ -6,7 +6,7 @@ use mathlib.Core.List.{List}
 use lib.Dec.{eqb}
 use lib.ListN.{length}
 use borrow.Author.Tests.{not-true, not-false}
-use Rattle.meaning.specs.Cycle.{acyclic}
+use Rattle.meaning.specs.CycleTest.{acyclic}
 use Rattle.operators.specs.Limits.{mostStreams}
 use Rattle.cycle.specs.Graph.{Walk, walked, cleared}
 use Rattle.text.specs.declared.Fields.{Fields}

@@ -5,3 +5,4 @@ pub mod Decide
 pub mod Rendered
 pub mod Taken
 pub mod Second
+pub mod Worked

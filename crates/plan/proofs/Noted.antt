@@ -9,8 +9,8 @@ use lib.ListN.{length, drop, length-append, length-map, length-drop}
 use lib.Seq.{sets-eq, take-at, drop-append-add, drop-drop}
 use mir.Syntax.{w64}
 use mir.Val.{toZ}
-use Rattle.meaning.specs.Plan.{undelayed, argA, argB, AllBelow}
-use Rattle.meaning.specs.Cycle.{acyclic}
+use Rattle.meaning.specs.Arguments.{undelayed, argA, argB, AllBelow}
+use Rattle.meaning.specs.CycleTest.{acyclic}
 use Rattle.operators.specs.Limits.{mostStreams}
 use Rattle.operators.specs.Operators.{operatorCount, numberOf}
 use Rattle.operators.proofs.Laws.{number-back}

@@ -1,5 +1,5 @@
 -- A plan that keeps the rules renders within the limit, its text is taken, and reading the text gives the plan back.
-use Prim.Native.Nat.{ℕ, suc, _+_, _*_, _-_, _^_, _<_, _≤_}
+use Prim.Native.Nat.{ℕ, zero, suc, _+_, _*_, _-_, _^_, _<_, _≤_}
 use mathlib.Core.Path.{_≡_, refl, sym, ap, _∙_}
 use mathlib.Core.Bool.{Bool, true, false, _&&_, true≢false}
 use mathlib.Core.List.{List, [], _∷_, _++_, append-assoc, append-nil, map}
@@ -7,13 +7,16 @@ use native.Mathlib.Omega.{arith}
 use lib.Dec.{T, eqb, lit<, lit≤}
 use lib.IntN.{ℤ, pos, negsuc}
 use lib.Signed.{mag}
-use lib.ListN.{length, drop, length-append, length-drop}
+use lib.ListN.{length, drop, length-map, length-append, length-drop}
 use borrow.Author.Tests.{le-ltb, eq-eqb}
 use mir.Syntax.{w64}
 use mir.Val.{toZ}
 use mir.Facts.{toZ-pos, toZ-neg}
-use Rattle.meaning.specs.Plan.{Eqn, input, nil, unit, one, two, last, delay, isInput, reads, argA, argB, AllBelow}
-use Rattle.meaning.specs.Cycle.{acyclic}
+use Rattle.meaning.specs.Plan.{Eqn, input, nil, unit, one, two, last, delay, eqnAt, isInput}
+use Rattle.meaning.specs.Arguments.{reads, argA, argB, AllBelow}
+use Rattle.meaning.specs.CycleTest.{acyclic}
+use Rattle.meaning.proofs.Within.{reads-within}
+use Rattle.meaning.proofs.CycleTest.{test-complete}
 use Rattle.machine.specs.State.{Declared, declaredPlan}
 use Rattle.operators.specs.Operators.{nameOf, eqnOf, numberOf, valueOf}
 use Rattle.operators.specs.Limits.{mostStreams, textLimit}
@@ -179,6 +182,23 @@ render-short cap c ds k =
     rw (length-append planLine (l ++ allText ds), length-append l (allText ds))
     (omega (arith, line-length streamsKey (decimal n), digits-few 19 n 3 (lit< tt) (omega (arith, k .few)), all-length n ds (k .each) (omega (arith, k .few)), k .few))
 
+-- ## Rule 6
+
+pub arguments-at : (n : ℕ) (ds : List Declared) (s : ℕ) → Each n ds → AllBelow n (reads (eqnAt (declaredPlan ds) s))
+arguments-at n [] s h = tt
+arguments-at n (d ∷ ds) zero h = h .0 .arguments
+arguments-at n (d ∷ ds) (suc s) h = arguments-at n ds s (h .1)
+
+plan-length : (ds : List Declared) → length (declaredPlan ds) ≡ length ds
+plan-length ds = length-map ds (λ d. d .eqn)
+
+-- the test, as deep as the state has room for streams, passes a plan that keeps the rules
+test-passes : (cap : ℕ) (ds : List Declared) → KeepsRules cap ds → acyclic cap (declaredPlan ds) ≡ true
+test-passes cap ds k =
+    test-complete cap (declaredPlan ds) (k .clear)
+    (reads-within (declaredPlan ds) (λ s l. rw (plan-length ds) (arguments-at (length ds) ds s (k .each))))
+    (rw (plan-length ds) (k .few))
+
 -- ## The whole text
 
 pub same-plan : (fs : List Fields) → planFrom fs ≡ declaredPlan (map declaredFrom fs)
@@ -208,6 +228,6 @@ render-taken cap c ds k =
     let w = streams-written s n few ds (k .each) (h .0) [] (h .3) (h .2 ∙ sym (append-nil (allText ds))) in
     let z : length s - w .end ≡ 0 = sym (length-drop (w .end) s) ∙ ap length (w .behind) in
     let end : w .end ≡ length s = omega (arith, w .within) in (
-      numbered cap s n (h .0) (w .fields) (w .end) (render-short cap c ds k) (h .1) (w .found) end (w .kept) (ap (acyclic cap) (same-plan (w .fields) ∙ ap declaredPlan (w .declare)) ∙ k .clear),
+      numbered cap s n (h .0) (w .fields) (w .end) (render-short cap c ds k) (h .1) (w .found) end (w .kept) (ap (acyclic cap) (same-plan (w .fields) ∙ ap declaredPlan (w .declare)) ∙ test-passes cap ds k),
       read-back cap s n (h .0) (w .fields) (w .end) (h .1) (w .found) ∙ w .declare,
     )

@@ -12,8 +12,10 @@ use borrow.Author.Tests.{eqb-true}
 use mir.Syntax.{w64}
 use mir.Val.{toZ}
 use mir.Facts.{sfits-toZ}
-use Rattle.meaning.specs.Plan.{argA, argB}
-use Rattle.meaning.specs.Cycle.{acyclic}
+use Rattle.meaning.specs.Arguments.{argA, argB}
+use Rattle.meaning.specs.Cycle.{Acyclic}
+use Rattle.meaning.specs.CycleTest.{acyclic}
+use Rattle.meaning.proofs.CycleTest.{test-sound}
 use Rattle.machine.specs.State.{Declared}
 use Rattle.operators.specs.Operators.{valueOf}
 use Rattle.operators.specs.Limits.{mostStreams, textLimit}
@@ -181,7 +183,7 @@ taken-rendered cap s e =
         some = omega (arith, h .0, m);
         few = omega (arith, h .1, m);
         each = subst (λ (i : ℕ). Each i ds) (sym m) (each-keeps n (p .fields) (r .0) (t .1) (p .kept));
-        clear = ap (acyclic cap) (sym (same-plan (p .fields))) ∙ p .clear;
+        clear = subst Acyclic (same-plan (p .fields)) (test-sound cap (planFrom (p .fields)) (p .clear));
       },
     )
 

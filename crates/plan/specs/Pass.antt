@@ -1,4 +1,4 @@
--- How the code goes: one pass reads the lines, tests rule 5 and notes the arguments for rule 6.
+-- How: one pass reads the lines, tests rule 5 and notes the arguments for rule 6.
 use Prim.Native.Nat.{ℕ, _+_, _*_}
 use mathlib.Core.Path.{_≡_}
 use mathlib.Core.Bool.{Bool, true, false, cond, _&&_}

@@ -1,4 +1,4 @@
--- Rules 5 and 6, and the number of a whole plan text.
+-- Believe: rules 5 and 6, and the number of a whole plan text.
 use Prim.Native.Nat.{ℕ, zero, suc}
 use mathlib.Core.Bool.{Bool, true, cond, _&&_}
 use mathlib.Core.List.{List, [], _∷_, map}
@@ -7,7 +7,7 @@ use lib.ListN.{length}
 use mir.Syntax.{w64}
 use mir.Val.{toZ}
 use Rattle.meaning.specs.Plan.{Eqn, Plan}
-use Rattle.meaning.specs.Cycle.{acyclic}
+use Rattle.meaning.specs.CycleTest.{acyclic}
 use Rattle.machine.specs.State.{Declared}
 use Rattle.operators.specs.Operators.{eqnOf}
 use Rattle.operators.specs.Rules.{fieldsOk}

@@ -1,12 +1,13 @@
--- The written rules: what a plan keeps so that its text is taken.
+-- Believe: the written rules: what a plan keeps so that its text is taken.
 use Prim.Native.Nat.{ℕ, _^_, _<_, _≤_}
 use mathlib.Core.Path.{_≡_}
-use mathlib.Core.Bool.{true, false, _&&_}
+use mathlib.Core.Bool.{false, _&&_}
 use mathlib.Core.List.{List, [], _∷_}
 use lib.ListN.{length}
 use lib.Signed.{mag}
-use Rattle.meaning.specs.Plan.{isInput, reads, AllBelow}
-use Rattle.meaning.specs.Cycle.{acyclic}
+use Rattle.meaning.specs.Plan.{isInput}
+use Rattle.meaning.specs.Arguments.{reads, AllBelow}
+use Rattle.meaning.specs.Cycle.{Acyclic}
 use Rattle.machine.specs.State.{Declared, declaredPlan}
 use Rattle.operators.specs.Operators.{valueOf}
 
@@ -30,4 +31,4 @@ pub record KeepsRules (cap : ℕ) (ds : List Declared) : Type 0 where
   pub few : length ds ≤ cap
   pub each : Each (length ds) ds
   -- "Every cycle of arguments must contain the first argument of a last or a delay"
-  pub clear : acyclic cap (declaredPlan ds) ≡ true
+  pub clear : Acyclic (declaredPlan ds)

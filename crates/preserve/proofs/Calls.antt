@@ -10,7 +10,8 @@ use lib.Dec.{T, ltb, leb, nltb→le, nleb→lt}
 use lib.IntN.{ℤ}
 use lib.ListN.{length, set}
 use borrow.Author.Tests.{ltb-true}
-use Rattle.meaning.specs.Plan.{Eqn, input, nil, unit, one, two, last, delay, isInput, argA, argB}
+use Rattle.meaning.specs.Plan.{Eqn, input, nil, unit, one, two, last, delay, isInput}
+use Rattle.meaning.specs.Arguments.{argA, argB}
 use Rattle.meaning.specs.Events.{Event, ev, horizon}
 use Rattle.meaning.proofs.Tests.{Is, yes!, no!, look}
 use Rattle.machine.specs.State.{Cell, State, cellAt, room, withNext}

@@ -1,3 +1,5 @@
 pub mod Values
+pub mod Rising
+pub mod Own
 pub mod Steps
 pub mod Calls

@@ -1,28 +1,31 @@
 -- Each part of a step keeps a sound state sound: a cell written, the readers told, events let go, a mark of collection.
 use Prim.Native.Nat.{ℕ, zero, suc, pred, _+_, _<_, _≤_}
-use mathlib.Core.Path.{_≡_, refl, sym, ap, _∙_}
+use mathlib.Core.Path.{_≡_, refl, sym, ap, _∙_, subst}
 use mathlib.Core.Bool.{Bool, true, false, cond, _&&_}
 use mathlib.Core.Option.{Option, none, some}
 use mathlib.Core.List.{List, [], _∷_, _++_, map, append-nil}
 use native.Mathlib.Omega.{arith}
 use native.Mathlib.Decide.{decLt}
-use lib.Dec.{ltb, eqb}
+use lib.Dec.{leb, ltb, eqb}
 use lib.IntN.{ℤ}
 use lib.ListN.{length, getD, length-set, length-map, length-append, set}
-use lib.Seq.{ext-getD}
+use lib.Seq.{ext-getD, set-set}
 use borrow.Author.Tests.{ltb-true, eqb-true, eq-eqb}
-use Rattle.meaning.specs.Plan.{Eqn, input, nil, unit, one, two, last, delay, reads, argA, argB}
+use Rattle.meaning.specs.Plan.{Eqn, input, nil, unit, one, two, last, delay}
+use Rattle.meaning.specs.Arguments.{reads, argA, argB}
 use Rattle.meaning.specs.Events.{Event, ev, horizon}
 use Rattle.meaning.specs.Table.{latest}
-use Rattle.meaning.specs.Cycle.{acyclic}
-use Rattle.machine.specs.State.{Kept, Cell, State, absent, cellAt, room, planOf, withBound, withHeld, withNext, withKept}
+use Rattle.meaning.specs.Cycle.{Acyclic}
+use Rattle.machine.specs.State.{Kept, Cell, State, absent, cellAt, room, planOf, withBound, withHeld, withNext, withKept, withSince, withValue}
 use Rattle.machine.specs.Reach.{view, valueAt}
 use Rattle.machine.specs.Step.{advance, later, absorb, absorbed, write, valueTold, priorTold, sinceTold, keptTold, told, tell, leastWaiting, dropBelow, release, releases, raise}
 use Rattle.machine.proofs.Cells.{set-cases, told-at}
 use Rattle.machine.proofs.Window.{past-le}
 use Rattle.machine.proofs.Rising.{drop-shorter}
 use Rattle.machine.proofs.Release.{among, release-at, release-size, releases-at, releases-size}
-use Rattle.encoding.specs.Sound.{IsValue, Rising, IsNext, DelayKept, IsKept, SoundCell, Sound}
+use Rattle.encoding.specs.Sound.{IsValue, Rising, IsNext, DelayKept, IsKept, SoundCell, Own, Sound}
+use Rattle.preserve.proofs.Rising.{rising-top, rising-snoc, rising-drop}
+use Rattle.preserve.proofs.Own.{dropped-own, and-true, own-told, absorb-own}
 use Rattle.preserve.proofs.Values.{or-value, cond-value, latest-value, Holds, holds}
 
 -- ---- a state with the same equations, every cell sound
@@ -37,43 +40,22 @@ plan-same M N l h =
     at (c ∷ K) zero = refl
     at (c ∷ K) (suc i) = at K i
 
-pub sound-again : {cap : ℕ} (M N : State) → Sound cap M → length N ≡ length M → ((i : ℕ) → cellAt N i .eqn ≡ cellAt M i .eqn) → ((i : ℕ) → i < length M → SoundCell (length M) (cellAt N i)) → Sound cap N
-sound-again {cap} M N ok l q h = record {
+pub sound-again : {cap : ℕ} (M N : State) → Sound cap M → length N ≡ length M → ((i : ℕ) → cellAt N i .eqn ≡ cellAt M i .eqn) → ((i : ℕ) → i < length M → SoundCell (length M) (cellAt N i)) → ((i : ℕ) → i < length M → Own (cellAt N i)) → Sound cap N
+sound-again M N ok l q h w = record {
   some = rw l (ok .some);
   few = rw l (ok .few);
   each = λ i k. rw l (h i (rw l at k));
-  acyclic = ap (acyclic cap) (plan-same M N l q) ∙ ok .acyclic;
+  own = λ i k. w i (rw l at k);
+  acyclic = subst Acyclic (sym (plan-same M N l q)) (ok .acyclic);
 }
 
 -- one cell written
-pub set-sound : {cap : ℕ} (M : State) (s : ℕ) (c : Cell) → Sound cap M → s < length M → c .eqn ≡ cellAt M s .eqn → SoundCell (length M) c → Sound cap (set M s c)
-set-sound M s c ok l q h =
+pub set-sound : {cap : ℕ} (M : State) (s : ℕ) (c : Cell) → Sound cap M → s < length M → c .eqn ≡ cellAt M s .eqn → SoundCell (length M) c → Own c → Sound cap (set M s c)
+set-sound M s c ok l q h w =
     sound-again M (set M s c) ok (length-set M s c)
     (set-cases (λ i d. d .eqn ≡ cellAt M i .eqn) M s c l (λ i n. refl) q)
     (set-cases (λ i d. i < length M → SoundCell (length M) d) M s c l (λ i n k. ok .each i k) (λ k. h))
-
--- ---- rising events
-
-rising-top : (lo top y : ℕ) (es : List Event) → top ≤ y → Rising lo top es → Rising lo y es
-rising-top lo top y [] h r = omega arith
-rising-top lo top y (e ∷ es) h r = (r .0, r .1, rising-top (suc (e .stamp)) top y es h (r .2))
-
-rising-low : (lo lo′ top : ℕ) (es : List Event) → lo′ ≤ lo → Rising lo top es → Rising lo′ top es
-rising-low lo lo′ top [] h r = omega arith
-rising-low lo lo′ top (e ∷ es) h r = let q = r .0 in (omega arith, r .1, r .2)
-
-rising-snoc : (lo top t : ℕ) (v : ℤ) (es : List Event) → top ≤ t → IsValue v → Rising lo top es → Rising lo (suc t) (es ++ ev t v ∷ [])
-rising-snoc lo top t v [] h k r = (omega arith, k, omega arith)
-rising-snoc lo top t v (e ∷ es) h k r = (r .0, r .1, rising-snoc (suc (e .stamp)) top t v es h k (r .2))
-
-rising-drop : (w lo top : ℕ) (es : List Event) → Rising lo top es → Rising lo top (dropBelow w es)
-unfolding dropBelow
-rising-drop w lo top [] r = r
-rising-drop w lo top (e ∷ es) r = go (ltb (e .stamp) w) (rising-drop w (suc (e .stamp)) top es (r .2))
-  where
-    go : (b : Bool) → Rising (suc (e .stamp)) top (dropBelow w es) → Rising lo top (cond b (dropBelow w es) (e ∷ es))
-    go true h = let q = r .0 in rising-low (suc (e .stamp)) lo top (dropBelow w es) (omega arith) h
-    go false h = r
+    (set-cases (λ i d. i < length M → Own d) M s c l (λ i n k. ok .own i k) (λ k. w))
 
 -- ---- let go
 
@@ -88,21 +70,19 @@ pub release-sound : {cap : ℕ} (s : ℕ) (M : State) → Sound cap M → Sound 
 release-sound s M ok =
     sound-again M (release s M) ok (release-size s M) (λ i. ap (λ c. c .eqn) (release-at s M i))
     (λ i k. rw (release-at s M i) (dropped-sound (length M) (leastWaiting i M) (cellAt M i) (eqb i s) (ok .each i k)))
+    (λ i k. rw (release-at s M i) (dropped-own (leastWaiting i M) (cellAt M i) (eqb i s) (ok .own i k)))
 
 pub releases-sound : {cap : ℕ} (ss : List ℕ) (M : State) → Sound cap M → Sound cap (releases ss M)
 releases-sound ss M ok =
     sound-again M (releases ss M) ok (releases-size ss M) (λ i. ap (λ c. c .eqn) (releases-at ss M i))
     (λ i k. rw (releases-at ss M i) (dropped-sound (length M) (leastWaiting i M) (cellAt M i) (among i ss) (ok .each i k)))
+    (λ i k. rw (releases-at ss M i) (dropped-own (leastWaiting i M) (cellAt M i) (among i ss) (ok .own i k)))
 
 -- ---- told
 
 cond-none : (p : Bool) (v : ℤ) (o : Option ℤ) → (p ≡ true → ⊥) → o ≡ none → cond p (some v) o ≡ none
 cond-none true v o h e = absurd (h refl)
 cond-none false v o h e = e
-
-and-true : (p q : Bool) → (p && q) ≡ true → (p ≡ true) × (q ≡ true)
-and-true true q e = (refl, e)
-and-true false q e = let z : _≡_ {A = ℕ} 0 1 = ap (λ (b : Bool). cond b 1 0) e in absurd (omega arith)
 
 module _ (y t : ℕ) (v : ℤ) (l : t < y) (hv : IsValue v) where
   value-kept : (p : Bool) (k : Kept) → DelayKept y k → DelayKept y (valueTold p t v k)
@@ -128,11 +108,11 @@ module _ (y t : ℕ) (v : ℤ) (l : t < y) (hv : IsValue v) where
       }
 
   since-kept : (p : Bool) (k : Kept) → DelayKept y k → DelayKept y (sinceTold p y t k)
-  since-kept p k ok = go (p && eqb y (t + 1))
+  since-kept p k ok = go (p && leb (k .since) t)
     where
-      go : (b : Bool) → DelayKept y (record { prev = k .prev; since = cond b y (k .since); value = cond b (k .prior) (k .value); prior = k .prior })
-      go true = record { prev = ok .prev; since = omega arith; value = ok .prior; prior = ok .prior; unset = λ z. absurd (omega (arith, l)); fresh = ok .fresh }
-      go false = record { prev = ok .prev; since = ok .since; value = ok .value; prior = ok .prior; unset = ok .unset; fresh = ok .fresh }
+      go : (b : Bool) → DelayKept y (cond b (withSince (t + 1) (withValue (cond (eqb y (t + 1)) (k .prior) none) k)) k)
+      go true = record { prev = ok .prev; since = omega (arith, l); value = cond-value (eqb y (t + 1)) (k .prior) none (ok .prior) tt; prior = ok .prior; unset = λ z. absurd (omega arith); fresh = ok .fresh }
+      go false = ok
 
   kept-told : (e : Eqn) (s : ℕ) (k : Kept) → IsKept e y k → IsKept e y (keptTold e s y t v k)
   kept-told input s k ok = ok
@@ -165,6 +145,7 @@ tell-sound s (e ∷ es) M h ok =
     sound-again M (map (told s (e .stamp) (e .value)) M) ok (length-map M (told s (e .stamp) (e .value)))
     (λ i. ap (λ c. c .eqn) (told-at s (e .stamp) (e .value) M i) ∙ (unfold told in refl))
     (λ i k. rw (told-at s (e .stamp) (e .value) M i) (told-sound (length M) s (e .stamp) (e .value) (cellAt M i) (h .0) (ok .each i k)))
+    (λ i k. rw (told-at s (e .stamp) (e .value) M i) (own-told s (e .stamp) (e .value) (cellAt M i) (ok .own i k)))
 
 -- ---- written
 
@@ -248,14 +229,15 @@ unfolding write absorbed
 write-sound s y new M ok l h top cm =
     let c = advance y new (cellAt M s) in
     let N = set M s c in
-    let okN = set-sound M s c ok l refl (advance-sound (length M) y (cellAt M s) new (ok .each s l) h top cm) in
-    let lN : s < length N = rw (length-set M s c) l in
+    let fine = advance-sound (length M) y (cellAt M s) new (ok .each s l) h top cm in
     let q : cellAt N s ≡ c = lib.Seq.getD-set-same M s c absent l in
-    let o = cellAt N s in
-    let z : 0 < o .bound = rw q (omega arith) in
-    set-sound N s (withKept (absorb (o .eqn) o (cellAt N (argA (o .eqn))) (cellAt N (argB (o .eqn)))) o) okN lN refl
-    (with-kept (length N) o (absorb (o .eqn) o (cellAt N (argA (o .eqn))) (cellAt N (argB (o .eqn)))) (okN .each s lN)
-    (absorb-kept (o .eqn) o (cellAt N (argA (o .eqn))) (cellAt N (argB (o .eqn))) z (okN .each s lN .kept) (cell-holds N okN (argA (o .eqn)))))
+    let e = c .eqn in
+    let k = absorb e c (cellAt N (argA e)) (cellAt N (argB e)) in
+    let all = set-cases (λ i. Holds) M s c l (λ i n. cell-holds M ok i) (holds (length M) c fine) in
+    let sound = set-sound M s (withKept k c) ok l refl
+    (with-kept (length M) c k fine (absorb-kept e c (cellAt N (argA e)) (cellAt N (argB e)) (omega arith) (fine .kept) (all (argA e))))
+    (absorb-own e c (cellAt N (argA e)) (cellAt N (argB e)) (fine .held)) in
+    rw (q, set-set M s c (withKept k c)) sound
 
 -- the whole step
 pub raise-sound : {cap : ℕ} (s y : ℕ) (new : List Event) (M : State) → Sound cap M → s < length M → cellAt M s .bound < y → y ≤ horizon → Comes y (cellAt M s) new → Sound cap (raise s y new M)
@@ -271,6 +253,7 @@ bound-sound s y M ok l e h top =
     let k = ok .each s l in
     set-sound M s (withBound y c) ok l refl
     (record { arguments = k .arguments; value = k .value; out = k .out; bound = top; few = k .few; held = rising-top 0 (c .bound) y (c .held) h (k .held); next = next-up (c .out) (c .next) (c .bound) y h (k .next); kept = rw e (rw e at (k .kept)) })
+    (λ d. absurd (rw e at d))
 
 -- a mark of collection
 pub next-sound : {cap : ℕ} (s n : ℕ) (M : State) → Sound cap M → s < length M → cellAt M s .out ≡ true → n ≤ cellAt M s .bound → Sound cap (set M s (withNext n (cellAt M s)))
@@ -279,3 +262,4 @@ next-sound s n M ok l e h =
     let k = ok .each s l in
     set-sound M s (withNext n c) ok l refl
     (record { arguments = k .arguments; value = k .value; out = k .out; bound = k .bound; few = k .few; held = k .held; next = rw e h; kept = k .kept })
+    (ok .own s l)

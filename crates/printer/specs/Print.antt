@@ -1,4 +1,4 @@
--- The lines that the replay program prints.
+-- Believe: the lines that the replay program prints.
 use Prim.Native.Nat.{ℕ}
 use mathlib.Core.List.{List, [], _∷_, _++_}
 use lib.IntN.{ℤ}

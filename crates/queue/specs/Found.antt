@@ -1,4 +1,4 @@
--- What a search finds, and one event more in a search for the latest.
+-- How: what a search finds, and one event more in a search for the latest.
 use Prim.Native.Nat.{ℕ, suc, max}
 use mathlib.Core.Bool.{cond}
 use mathlib.Core.Option.{Option, none, some}

@@ -1,4 +1,4 @@
--- The queue of a record: its held events in the slots, from the oldest on, and how many they are.
+-- How: the queue of a record: its held events in the slots, from the oldest on, and how many they are.
 use Prim.Native.Nat.{ℕ, zero, suc, _+_, _-_, min}
 use mathlib.Core.List.{List, [], _∷_}
 use mathlib.Core.Bool.{cond}

@@ -4,10 +4,10 @@ use mathlib.Core.Path.{_≡_, refl}
 use mathlib.Core.List.{map}
 use mathlib.Core.Bool.{Bool, true, false, cond, _||_}
 use native.Mathlib.Omega.{arith}
-use lib.Dec.{lit<, ltb, eqb}
+use lib.Dec.{lit<, leb, ltb, eqb}
 use lib.ListN.{getD}
-use borrow.Author.Tests.{lt-ltb, le-ltb, eq-eqb, ne-eqb}
-use Rattle.meaning.specs.Plan.{Argument}
+use borrow.Author.Tests.{lt-ltb, le-ltb, lt-leb, le-leb, eq-eqb, ne-eqb}
+use Rattle.meaning.specs.Arguments.{Argument}
 use Rattle.machine.specs.Step.{anyOf}
 use Rattle.operators.specs.Operators.{groupOf, isLast, isDelay, takesFirst, takesSecond, argumentsOf}
 use Rattle.operators.specs.declared.Group.{Group}
@@ -15,7 +15,7 @@ use Rattle.operators.specs.declared.Group.the-variants.{Absent, Input, Plain, O
 use Rattle.layout.specs.Record.{Raw, headWidths, num, withNum, opF, aF, bF, outF, flagF, priorFlagF, boundF, nextF, keptF, valueF, priorF}
 use Rattle.layout.proofs.Laws.{RawOk, num-ok, num-small}
 use Rattle.layout.proofs.Stores.{cond-ok, stored-ok}
-use Rattle.readers.specs.Step.{readsRow, toldLast, toldAt, toldValue, toldPrior, toldSince, toldDelay, toldRow, lowered, waitingRow}
+use Rattle.readers.specs.Step.{readsRow, toldLast, toldAt, toldValue, toldPrior, setPoint, toldSince, toldDelay, toldRow, lowered, waitingRow}
 
 -- ---- the cases of each definition
 
@@ -93,15 +93,18 @@ module _ (s : ℕ) (r : Raw) where
     unfolding toldSince
     since-no h = simp (ne-eqb _ _ h)
 
-    pub since-else : num bF r ≡ s → (num boundF r ≡ t + 1 → ⊥) → toldSince s t r ≡ r
+    pub since-early : num bF r ≡ s → t < num keptF r → toldSince s t r ≡ r
     unfolding toldSince
-    since-else e h = simp (eq-eqb _ _ e, ne-eqb _ _ h)
+    since-early e h = simp (eq-eqb _ _ e, lt-leb _ _ h)
+
+    pub since-low : num bF r ≡ s → num keptF r ≤ t → (num boundF r ≡ t + 1 → ⊥) → toldSince s t r ≡ setPoint t 0 0 r
+    unfolding toldSince
+    since-low e h k = simp (eq-eqb _ _ e, le-leb _ _ h, ne-eqb _ _ k)
 
     -- h and v were read before the stores
-    pub since-yes : (h v : ℕ) → num bF r ≡ s → num boundF r ≡ t + 1 → h ≡ num priorFlagF r → v ≡ num priorF r
-        → toldSince s t r ≡ withNum keptF (t + 1) (withNum valueF v (withNum flagF h r))
+    pub since-edge : (h v : ℕ) → num bF r ≡ s → num keptF r ≤ t → num boundF r ≡ t + 1 → h ≡ num priorFlagF r → v ≡ num priorF r → toldSince s t r ≡ setPoint t h v r
     unfolding toldSince
-    since-yes h v e k eh ev = rw (eh, ev) (simp (eq-eqb _ _ e, eq-eqb _ _ k))
+    since-edge h v e l k eh ev = rw (eh, ev) (simp (eq-eqb _ _ e, le-leb _ _ l, eq-eqb _ _ k))
 
   module _ (acc : ℕ) where
     pub lower-no : readsRow s r ≡ false → lowered s r acc ≡ acc
@@ -164,15 +167,20 @@ module _ (v : ℕ) (hv : v < 2 ^ 64) where
   pub prior-ok : (s t : ℕ) (r : Raw) → RawOk r → RawOk (toldPrior s t v r)
   prior-ok s t r ok = kept-ok boundF priorFlagF priorF s t (lit< tt) hv r ok
 
+  point-ok : (t h w : ℕ) → t < 2 ^ 32 → h < 256 → w < 2 ^ 64 → (r : Raw) → RawOk r → RawOk (setPoint t h w r)
+  point-ok t h w ht hh hw r ok = num-ok (withNum valueF w (withNum flagF h r)) keptF (t + 1) (stored-ok valueF flagF w h r hh hw ok) (omega arith)
+
   since-ok : (s t : ℕ) → t < 2 ^ 32 → (r : Raw) → RawOk r → RawOk (toldSince s t r)
   unfolding toldSince
   since-ok s t ht r ok =
-      let h = num-small r priorFlagF ok (lit< tt) in
-      let p = num-small r priorF ok (lit< tt) in
-      let x = withNum valueF (num priorF r) (withNum flagF (num priorFlagF r) r) in
-      let y = withNum keptF (t + 1) x in
-      cond-ok (eqb (num bF r) s) (cond (eqb (num boundF r) (t + 1)) y r) r
-      (cond-ok (eqb (num boundF r) (t + 1)) y r (num-ok x keptF (t + 1) (stored-ok valueF flagF (num priorF r) (num priorFlagF r) r h p ok) (omega arith)) ok) ok
+      let x = setPoint t (num priorFlagF r) (num priorF r) r in
+      let y = setPoint t 0 0 r in
+      let z = cond (eqb (num boundF r) (t + 1)) x y in
+      cond-ok (eqb (num bF r) s) (cond (leb (num keptF r) t) z r) r
+      (cond-ok (leb (num keptF r) t) z r
+      (cond-ok (eqb (num boundF r) (t + 1)) x y
+      (point-ok t (num priorFlagF r) (num priorF r) ht (num-small r priorFlagF ok (lit< tt)) (num-small r priorF ok (lit< tt)) r ok)
+      (point-ok t 0 0 ht (lit< tt) (lit< tt) r ok)) ok) ok
 
   pub told-ok : (s t : ℕ) → t < 2 ^ 32 → (r : Raw) → RawOk r → RawOk (toldRow s t v r)
   unfolding toldRow toldDelay

@@ -1,8 +1,8 @@
--- The steps of the calls on raw records: total functions of numbers and slots.
+-- How: the steps of the calls on raw records: total functions of numbers and slots.
 use Prim.Native.Nat.{ℕ, _+_, min}
 use mathlib.Core.List.{List, [], _∷_, map}
 use mathlib.Core.Bool.{Bool, cond}
-use lib.Dec.{ltb, eqb}
+use lib.Dec.{leb, ltb, eqb}
 use Rattle.meaning.specs.Events.{horizon}
 use Rattle.machine.specs.Step.{anyOf}
 use Rattle.operators.specs.Operators.{groupOf, isLast, isDelay, argumentsOf}
@@ -30,11 +30,16 @@ toldValue s t v r = toldAt keptF flagF valueF s t v r
 abbrev pub toldPrior : (s t v : ℕ) → Raw → Raw
 toldPrior s t v r = toldAt boundF priorFlagF priorF s t v r
 
+-- a set point at t, and whether its first argument has an event there, and its value
+abbrev pub setPoint : (t has v : ℕ) → Raw → Raw
+setPoint t has v r = withNum keptF (t + 1) (withNum valueF v (withNum flagF has r))
+
+-- its second argument's event, unless a later set point is known: its first argument's there is known just below the bound
 unfoldable pub toldSince : ℕ → ℕ → Raw → Raw
 toldSince s t r =
     cond (eqb (num bF r) s)
-    (cond (eqb (num boundF r) (t + 1))
-    (withNum keptF (t + 1) (withNum valueF (num priorF r) (withNum flagF (num priorFlagF r) r)))
+    (cond (leb (num keptF r) t)
+    (cond (eqb (num boundF r) (t + 1)) (setPoint t (num priorFlagF r) (num priorF r) r) (setPoint t 0 0 r))
     r)
     r
 

@@ -4,7 +4,7 @@ ghost use Prim.Native.Nat.{_*_, _+_, _≤_, _<_, max};
 ghost use lib.ListN.{length};
 ghost use Rattle.layout.specs.Record as layout;
 ghost use Rattle.layout.specs.Record.{encRaw, decRaw, encode, decode, changeAll};
-ghost use Rattle.readers.specs.Step.{readsRow, toldLast, toldAt, toldSince, toldDelay, toldRow, leastRow, waitingRow, releasedRow, offered};
+ghost use Rattle.readers.specs.Step.{readsRow, toldLast, toldAt, setPoint, toldSince, toldDelay, toldRow, leastRow, waitingRow, releasedRow, offered};
 use limits::Bound;
 use operators::Group;
 
@@ -59,7 +59,18 @@ fn tell_kept(r: &mut [u8], due: usize, f: usize, w: usize, s: u64, t: u32, v: u6
     layout::put_word(r, w, v);
 }
 
-// A delay has a new set point, just below its bound: its first argument's event there is its prior.
+// A delay's latest set point is at t: whether its first argument has an event there, and its value.
+fn put_point(r: &mut [u8], t: u32, has: u64, v: u64)
+    requires { ⌜ (length (now r) ≡ 256) × (has < 256) ⌝ }
+    ensures { λ _. ⌜ now (r .exit) ≡ encRaw (setPoint t has v (decRaw (now (r .entry)))) ⌝ }
+{
+    layout::put_byte(r, layout::FLAG, has);
+    layout::put_word(r, layout::VALUE, v);
+    layout::put_word(r, layout::KEPT, t as u64 + 1);
+}
+
+// A delay has a set point at t, the latest unless a later one is known. Just below its bound its first argument's event is
+// its prior, elsewhere it is not known.
 fn tell_since(r: &mut [u8], s: u64, t: u32)
     requires { ⌜ length (now r) ≡ 256 ⌝ }
     ensures { λ _. ⌜ now (r .exit) ≡ encRaw (toldSince s t (decRaw (now (r .entry)))) ⌝ }
@@ -68,15 +79,18 @@ fn tell_since(r: &mut [u8], s: u64, t: u32)
     if b != s {
         return;
     }
+    let since = layout::word_at(r, layout::KEPT);
+    if (t as u64) < since {
+        return;
+    }
     let bound = layout::word_at(r, layout::BOUND);
     if bound != t as u64 + 1 {
+        put_point(r, t, 0, 0);
         return;
     }
     let has = layout::byte_at(r, layout::PRIOR_FLAG);
     let v = layout::word_at(r, layout::PRIOR);
-    layout::put_byte(r, layout::FLAG, has);
-    layout::put_word(r, layout::VALUE, v);
-    layout::put_word(r, layout::KEPT, t as u64 + 1);
+    put_point(r, t, has, v);
 }
 
 // A delay's value is told at its latest set point, its prior just below its bound.

@@ -12,7 +12,8 @@ use lib.Seq.{getD-set-same, set-set}
 use borrow.Author.Tests.{ltb-true, ltb-false}
 use mir.Syntax.{w64}
 use mir.Val.{ofZ}
-use Rattle.meaning.specs.Plan.{Eqn, input, isInput, reads, argA, argB}
+use Rattle.meaning.specs.Plan.{Eqn, input, isInput}
+use Rattle.meaning.specs.Arguments.{reads, argA, argB}
 use Rattle.meaning.specs.Events.{Event, ev, horizon}
 use Rattle.machine.specs.State.{Kept, Cell, State, absent, cellAt, room, withBound, withKept}
 use Rattle.machine.specs.Step.{advance, absorb, absorbed, write, told, tell, release, releases, raise}

@@ -12,18 +12,20 @@ use lib.Seq.{getD-set-same}
 use borrow.Author.Tests.{lt-ltb, leb-false}
 use mir.Syntax.{w64}
 use mir.Val.{ofZ}
-use Rattle.meaning.specs.Plan.{Eqn, input, nil, unit, one, two, last, delay, isInput, reads, argA, argB, AllBelow}
+use Rattle.meaning.specs.Plan.{Eqn, input, nil, unit, one, two, last, delay, isInput}
+use Rattle.meaning.specs.Arguments.{reads, argA, argB, AllBelow}
 use Rattle.meaning.specs.Events.{Event, ev, horizon}
 use Rattle.machine.specs.State.{Kept, Cell, State, absent, cellAt, room, withKept}
 use Rattle.machine.specs.Reach.{Next, event, silent, decide}
 use Rattle.machine.specs.Step.{advance, absorb, absorbed, write, tell, release, releases, raise, newBound, added, ahead, canMove, comesIn, move}
+use Rattle.machine.proofs.Cells.{set-cases}
 use Rattle.machine.proofs.Frame.{absorbed-frame, tell-frame}
 use Rattle.layout.specs.Record.{Raws, num, withNum, rowAt, change, changeAll, countF, boundF}
 use Rattle.encoding.specs.Back.{heldOf, toCell}
 use Rattle.encoding.specs.View.{ofCell, rawsOf}
 use Rattle.encoding.specs.Sound.{IsKept, SoundCell, Sound}
 use Rattle.encoding.proofs.Widths.{cell-back}
-use Rattle.preserve.proofs.Steps.{Comes, silence, comes-values, set-sound, advance-sound, write-sound, tell-sound, release-sound}
+use Rattle.preserve.proofs.Steps.{Comes, silence, comes-values, advance-sound, write-sound, tell-sound, release-sound}
 use Rattle.preserve.proofs.Calls.{ahead-fine}
 use Rattle.machine.proofs.Moves.{can-up}
 use Rattle.streams.specs.Look.{lookOf}
@@ -77,7 +79,15 @@ count-in c = refl
 arg-is : (n a : ℕ) → a < n → argIn n a ≡ a
 arg-is n a h = rw (lt-ltb a n h)
 
-module _ {cap : ℕ} (size : ℕ) (M : State) (ok : Sound cap M) where
+-- the state while a stream is written has sound cells, but its new event is not yet counted in `since`
+record Cells (M : State) : Type 0 where
+  pub some : 0 < length M
+  pub each : (i : ℕ) → i < length M → SoundCell (length M) (cellAt M i)
+
+cells : {cap : ℕ} (M : State) → Sound cap M → Cells M
+cells M ok = record { some = ok .some; each = ok .each }
+
+module _ (size : ℕ) (M : State) (ok : Cells M) where
   row : (j : ℕ) → j < length M → rowAt (rawsOf size M) j ≡ ofCell (cellAt M j)
   unfolding rawsOf
   row j h = row-of M j h
@@ -105,7 +115,7 @@ module _ {cap : ℕ} (size : ℕ) (M : State) (ok : Sound cap M) where
     second-cell = other-is (argB (cellAt M i .eqn)) below-b
 
     -- what a move finds
-    pub ahead-of : aheadRaw (length M) i (rawsOf size M) ≡ ahead i M
+    ahead-of : aheadRaw (length M) i (rawsOf size M) ≡ ahead i M
     unfolding aheadRaw ahead
     ahead-of =
         (λ z. decide (own z .eqn) (own z) (otherIn (length M) (argA (own z .eqn)) (rawsOf size M)) (otherIn (length M) (argB (own z .eqn)) (rawsOf size M)))
@@ -119,14 +129,14 @@ module _ {cap : ℕ} (size : ℕ) (M : State) (ok : Sound cap M) where
     count = ap (num countF) (row i l) ∙ count-in (cellAt M i)
 
     -- whether it can move
-    pub can-of : canRaw (length M) i (rawsOf size M) ≡ canMove i M
+    can-by-cells : canRaw (length M) i (rawsOf size M) ≡ canMove i M
     unfolding canRaw canMove
-    can-of =
+    can-by-cells =
         let b = ap₂ boundRaw ahead-of count ∙ bound-after (ahead i M) (cellAt M i .held) in
         ap₂ (λ (p : Bool) (q : Bool). not p && not q) (ap (λ (c : Cell). isInput (c .eqn)) own) (ap₂ eqb b (ap (λ (c : Cell). c .bound) own))
 
     -- own kept data brought up to date, from the equation and the kept data as they were looked at
-    pub absorbed-of : (e : Eqn) (k : Kept) (y : ℕ) → e ≡ cellAt M i .eqn → k ≡ cellAt M i .kept → y ≡ cellAt M i .bound
+    absorbed-of : (e : Eqn) (k : Kept) (y : ℕ) → e ≡ cellAt M i .eqn → k ≡ cellAt M i .kept → y ≡ cellAt M i .bound
         → absorbedRaw (length M) i e k y (rawsOf size M) ≡ rawsOf size (absorbed i M)
     unfolding absorbedRaw absorbed lookOf toCell
     absorbed-of e k y qe qk qy =
@@ -141,6 +151,9 @@ module _ {cap : ℕ} (size : ℕ) (M : State) (ok : Sound cap M) where
         (λ z. change i (keptRow (qe z) (keptRaw (length M) i (qe z) (qk z) (qy z) st)) st)
         ∙ ap (λ (j : Kept). change i (keptRow (c .eqn) j) st) near
         ∙ change-of size M i (keptRow (c .eqn) x) (withKept x c) l (kept-cell x c)
+
+pub can-of : {cap : ℕ} (size : ℕ) (M : State) → Sound cap M → (i : ℕ) → i < length M → canRaw (length M) i (rawsOf size M) ≡ canMove i M
+can-of size M ok i l = can-by-cells size M (cells M ok) i l
 
 -- ---- release of the stream and its arguments
 
@@ -183,8 +196,14 @@ module _ {cap : ℕ} (size : ℕ) (M : State) (ok : Sound cap M) (i : ℕ) (l : 
     N : State
     N = set M i (advance y new (cellAt M i))
 
-    sound-N : Sound cap (set M i (advance y new (cellAt M i)))
-    sound-N = set-sound M i (advance y new (cellAt M i)) ok l refl (advance-sound (length M) y (cellAt M i) new (ok .each i l) up top cm)
+    cells-N : Cells (set M i (advance y new (cellAt M i)))
+    cells-N = record {
+      some = rw (length-set M i (advance y new (cellAt M i))) (ok .some);
+      each = λ j h. rw (length-set M i (advance y new (cellAt M i))) (at j (rw (length-set M i (advance y new (cellAt M i))) at h));
+    }
+      where
+        at : (j : ℕ) → j < length M → SoundCell (length M) (cellAt (set M i (advance y new (cellAt M i))) j)
+        at = set-cases (λ j c. j < length M → SoundCell (length M) c) M i (advance y new (cellAt M i)) l (λ j n. ok .each j) (λ h. advance-sound (length M) y (cellAt M i) new (ok .each i l) up top cm)
 
     length-N : length (set M i (advance y new (cellAt M i))) ≡ length M
     length-N = length-set M i (advance y new (cellAt M i))
@@ -197,7 +216,7 @@ module _ {cap : ℕ} (size : ℕ) (M : State) (ok : Sound cap M) (i : ℕ) (l : 
     unfolding write
     written =
         ap (λ (m : ℕ). absorbedRaw m i (cellAt M i .eqn) (cellAt M i .kept) y (rawsOf size (set M i (advance y new (cellAt M i))))) (sym length-N)
-        ∙ absorbed-of size (set M i (advance y new (cellAt M i))) sound-N i (rw length-N l) (cellAt M i .eqn) (cellAt M i .kept) y
+        ∙ absorbed-of size (set M i (advance y new (cellAt M i))) cells-N i (rw length-N l) (cellAt M i .eqn) (cellAt M i .kept) y
         (ap (λ (c : Cell). c .eqn) (sym cell-N)) (ap (λ (c : Cell). c .kept) (sym cell-N)) (ap (λ (c : Cell). c .bound) (sym cell-N))
 
     after : Sound cap (tell i new (write i y new M))
@@ -257,7 +276,7 @@ module _ {cap : ℕ} (size : ℕ) (M : State) (ok : Sound cap M) (i : ℕ) (l : 
   pub moved-of : T (canMove i M) → movedRaw (length M) i (rawsOf size M) ≡ rawsOf size (move i M)
   unfolding movedRaw move comesIn
   moved-of can =
-      (λ z. stepRaw (length M) i (own size M ok i l z .eqn) (own size M ok i l z .kept) (ahead-of size M ok i l z) (count size M ok i l z) (rawsOf size M))
+      (λ z. stepRaw (length M) i (own size M (cells M ok) i l z .eqn) (own size M (cells M ok) i l z .kept) (ahead-of size M (cells M ok) i l z) (count size M (cells M ok) i l z) (rawsOf size M))
       ∙ go (ahead i M) (can-up i M can) (ahead-fine M ok i l)
     where
       h : List Event

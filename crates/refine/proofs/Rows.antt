@@ -1,14 +1,14 @@
 -- What each raw step makes of a cell's record is the record of what the machine makes of the cell.
 use Prim.Native.Nat.{ℕ, _+_, min}
-use mathlib.Core.Path.{_≡_, refl, sym, ap, _∙_}
+use mathlib.Core.Path.{_≡_, refl, ap, _∙_}
 use mathlib.Core.List.{List, map}
 use mathlib.Core.Bool.{Bool, true, false, cond}
-use lib.Dec.{ltb, eqb}
+use lib.Dec.{leb, ltb, eqb}
 use lib.IntN.{ℤ}
 use mir.Syntax.{w64}
 use mir.Val.{ofZ}
-use borrow.Author.Tests.{eqb-true}
-use Rattle.meaning.specs.Plan.{Argument, Eqn, input, nil, unit, one, two, last, delay}
+use Rattle.meaning.specs.Plan.{Eqn, input, nil, unit, one, two, last, delay}
+use Rattle.meaning.specs.Arguments.{Argument}
 use Rattle.meaning.specs.Events.{Event}
 use Rattle.machine.specs.State.{Kept, Cell}
 use Rattle.machine.specs.Step.{anyOf, readsIt, valueTold, priorTold, sinceTold, keptTold, told}
@@ -42,7 +42,8 @@ waiting-of least c = go (c .out)
 
 -- ---- telling
 
--- l: the bound is above the stamp; p, q: s is a, b; u: the bound is one past the stamp; w: the latest set point lies there
+-- l: the bound is above the stamp; p, q: s is a, b; u: the bound is one past the stamp; w: the latest set point lies
+-- there; z: the stamp lies above it
 module _ (s t : ℕ) (v : ℤ) (a b : ℕ) (o : Bool) (y : ℕ) (h : List Event) (m : ℕ) (k : Kept) where
   abbrev last-with : Kept → Raw
   last-with x = rawOf (last a b) o y h m (keptNums (last a b) x)
@@ -70,11 +71,12 @@ module _ (s t a b : ℕ) (o : Bool) (y : ℕ) (h : List Event) (m : ℕ) where
   prior-told v k true true e f = rw (e, f)
   prior-told v k true false e f = rw (e, f)
 
-  since-told : (k : Kept) (q u : Bool) → eqb b s ≡ q → eqb y (t + 1) ≡ u → toldSince s t (delay-with k) ≡ delay-with (sinceTold (eqb b s) y t k)
+  since-told : (k : Kept) (q z u : Bool) → eqb b s ≡ q → leb (k .since) t ≡ z → eqb y (t + 1) ≡ u → toldSince s t (delay-with k) ≡ delay-with (sinceTold (eqb b s) y t k)
   unfolding toldSince numberOf
-  since-told k false u e f = rw e
-  since-told k true true e f = rw (e, f) (ap (λ (z : ℕ). delay-with (record { prev = k .prev; since = z; value = k .prior; prior = k .prior })) (sym (eqb-true y (t + 1) f)))
-  since-told k true false e f = rw (e, f)
+  since-told k false z u e f g = rw e
+  since-told k true false u e f g = rw (e, f)
+  since-told k true true true e f g = rw (e, f, g)
+  since-told k true true false e f g = rw (e, f, g)
 
   delay-three : (v : ℤ) (k : Kept) → toldDelay s t (ofZ w64 v) (delay-with k) ≡ delay-with (keptTold (delay a b) s y t v k)
   unfolding toldDelay
@@ -83,7 +85,7 @@ module _ (s t a b : ℕ) (o : Bool) (y : ℕ) (h : List Event) (m : ℕ) where
       let k₂ = priorTold (eqb a s) y t v k₁ in
       ap (λ (r : Raw). toldSince s t (toldPrior s t (ofZ w64 v) r)) (value-told v k (eqb a s) (eqb (k .since) (t + 1)) refl refl)
       ∙ ap (toldSince s t) (prior-told v k₁ (eqb a s) (eqb y (t + 1)) refl refl)
-      ∙ since-told k₂ (eqb b s) (eqb y (t + 1)) refl refl
+      ∙ since-told k₂ (eqb b s) (leb (k .since) t) (eqb y (t + 1)) refl refl refl
 
   delay-told : (v : ℤ) (k : Kept) (l : Bool) → ltb t y ≡ l → toldRow s t (ofZ w64 v) (delay-with k) ≡ delay-with (cond (ltb t y) (keptTold (delay a b) s y t v k) k)
   unfolding toldRow groupOf numberOf

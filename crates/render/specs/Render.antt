@@ -1,10 +1,10 @@
--- The text of a plan: the lines that load reads.
+-- Believe: the text of a plan: the lines that load reads.
 use Prim.Native.Nat.{ℕ}
 use mathlib.Core.Bool.{Bool, true, false}
 use mathlib.Core.List.{List, [], _∷_, _++_}
 use lib.ListN.{length}
 use lib.IntN.{ℤ}
-use Rattle.meaning.specs.Plan.{argA, argB}
+use Rattle.meaning.specs.Arguments.{argA, argB}
 use Rattle.machine.specs.State.{Declared}
 use Rattle.operators.specs.Operators.{nameOf, numberOf, valueOf}
 use Rattle.decimal.specs.Decimal.{decimal, valueText}
@@ -33,6 +33,6 @@ unfoldable pub allText : List Declared → List ℕ
 allText [] = []
 allText (d ∷ ds) = declaredText d ++ allText ds
 
--- "`plan=1`, `streams=N`, then for streams 0 to N−1 the five lines"
+-- "`plan=1`, `streams=N` (1 to 32), then for streams 0 to N−1 the five lines"
 unfoldable pub render : List Declared → List ℕ
 render ds = planLine ++ (line streamsKey (decimal (length ds)) ++ allText ds)

@@ -1,2 +1,4 @@
 pub mod Kept
 pub mod Order
+pub mod Hand
+pub mod Whole

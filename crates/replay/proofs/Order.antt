@@ -39,10 +39,3 @@ pub goes-rest : {n : ℕ} {p : Place} {s : List ℕ} (q : Place) {t : List ℕ} 
 goes-rest (Run busy) e x = absurd (false≢true e)
 goes-rest (Collect stream busy) e x = absurd (false≢true e)
 goes-rest Rest e x = x
-
--- one line more, and the end
-pub offered-more : {n : ℕ} {s t u : List ℕ} → (rs : List Record) × Offered n s rs t → (r : Record) → Settles n (reply (callOf r) t .buffer) u → (rs : List Record) × Offered n s rs u
-offered-more (rs, x) r y = (rs ++ r ∷ [], more r x y)
-
-pub offered-end : {n : ℕ} {s t u : List ℕ} → (rs : List Record) × Offered n s rs t → u ≡ t → (rs : List Record) × Offered n s rs u
-offered-end {n} {s} (rs, x) e = (rs, subst (Offered n s rs) (sym e) x)

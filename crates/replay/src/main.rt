@@ -1,53 +1,35 @@
 // Replays a trace on a plan: reads plan.txt and trace.txt of the working folder, or of the folder that the first argument
 // names, and prints every event of every output.
-ghost use Prim.Native.Nat.{_-_, _<_, _≤_};
+ghost use Prim.Native.Nat.{ℕ, _-_, _<_, _≤_};
 ghost use mathlib.Core.Path.{_≡_};
-ghost use mathlib.Core.Bool.{false};
+ghost use mathlib.Core.Bool.{true, false};
 ghost use mathlib.Core.List.{List};
 ghost use lib.ListN.{length, take, drop};
-ghost use Rattle.engine.specs.Reply.{reply};
-ghost use Rattle.trace.specs.declared.Record.{Record};
-ghost use Rattle.replaying.specs.Replay.{callOf};
+ghost use Rattle.operators.specs.Limits.{capacity};
+ghost use Rattle.engine.specs.Load.{loadReply};
+ghost use Rattle.trace.specs.Trace.{line};
 ghost use Rattle.replaying.specs.Rank.{isRest, rank};
-ghost use Rattle.replay.specs.Within.{within};
-ghost use Rattle.replay.specs.Played.{Goes, Settles, Follows, Offered, Played};
+ghost use Rattle.replaying.specs.Whole.{Printed};
+ghost use Rattle.replay.specs.Played.{Goes, Settles, Follows, Trailed, Played};
+ghost use Rattle.replay.specs.Hand.{hand, Through, Advances};
 use libc::STDOUT_FILENO;
 use operators::Plan;
 use replaying::Place;
 use trace::Line;
-use trace::Record;
-
-// The number of a line that can't be read.
-const BAD_LINE: u32 = 16;
 
 // The longest line of a trace, with its ending byte.
 const LINE: usize = 65;
 
-// The bytes of a buffer that were read from the trace and not yet replayed.
-struct Window {
-    from: usize,
-    end: usize,
+// Where a replay of the text in hand stops: before a position, from which on there is no whole line, or at a bad line.
+enum Stop {
+    Before(usize),
+    Bad,
 }
 
-// What follows a line: the next one, at a position of the buffer, or the end of the replay.
-enum After {
-    Line(usize),
-    End,
-}
-
-fn print_refused(number: u32) {
-    let mut out = io::buffer();
-    let end = printer::put_refused(&mut out, 0, number);
-    io::write_all(STDOUT_FILENO, &out[..end]);
-}
-
-// Offers a record, and prints the number of the refusal if it is refused.
-fn offer(state: &mut [u8], read: Record)
-    ensures { λ _. ⌜ now (state .exit) ≡ reply (callOf read) (now (state .entry)) .buffer ⌝ }
-{
-    let mut out = io::buffer();
-    let end = replaying::offer(state, read, &mut out, 0);
-    io::write_all(STDOUT_FILENO, &out[..end]);
+// What is left in hand: the bytes of the buffer between two positions, or nothing, since the replay is done.
+enum Left {
+    Part { from: usize, end: usize },
+    Done,
 }
 
 // Goes on from a place, through n streams, for as many events as a buffer holds, and prints them.
@@ -72,60 +54,93 @@ fn settle(state: &mut [u8], n: u32)
     }
 }
 
-// Replays the line at a position. A bad line ends the replay.
-fn replay_line(state: &mut [u8], n: u32, text: &[u8], at: usize) -> After
-    ensures inside { λ r. ⌜ within r (length (now (text .entry))) ⌝ }
-    ensures follows { λ r. ⌜ Follows n (now (text .entry)) at (now (state .entry)) r (now (state .exit)) ⌝ }
+// Replays the line at a position, and answers what was read. A bad line prints its number and changes nothing.
+fn replay_line(state: &mut [u8], n: u32, text: &[u8], at: usize) -> Line
+    ensures found { λ r. ⌜ r ≡ line (now (text .entry)) at ⌝ }
+    ensures follows { λ r. ⌜ Follows n r (now (state .entry)) (now (state .exit)) ⌝ }
 {
-    let Line::Read(found, next) = trace::read(text, at) else {
-        print_refused(BAD_LINE);
-        return After::End;
+    let mut out = io::buffer();
+    let passed = replaying::line(state, text, at, &mut out);
+    let end = passed.end;
+    io::write_all(STDOUT_FILENO, &out[..end]);
+    let found = passed.found;
+    let Line::Read(_, _) = found else {
+        return found;
     };
-    offer(state, found);
     settle(state, n);
-    After::Line(next)
+    found
 }
 
-// Sees that a whole line is in the buffer, if the trace has one more: moves what is left to the start and reads on behind it.
-fn ready(fd: i32, buffer: &mut [u8], from: usize, end: usize) -> Window
+// Replays all whole lines of the text in hand from a position on: those that end in it whatever follows, and if it is the last
+// of the trace, all.
+fn replay_lines(state: &mut [u8], n: u32, text: &[u8], at: usize, last: bool) -> Stop
+    requires { ⌜ at ≤ length (now text) ⌝ }
+    ensures { λ r. ⌜ Through n (now (text .entry)) at last (now (state .entry)) r (now (state .exit)) ⌝ }
+{
+    let mut from = at;
+    while from < text.len() {
+        if text.len() - from < LINE {
+            if !last {
+                return Stop::Before(from);
+            }
+        }
+        let Line::Read(_, next) = replay_line(state, n, text, from) else {
+            return Stop::Bad;
+        };
+        from = next;
+    }
+    Stop::Before(from)
+}
+
+// Moves what is left in hand to the start of the buffer, reads on behind it, and answers where that ends.
+fn ready(fd: i32, buffer: &mut [u8], from: usize, end: usize) -> usize
     requires { ⌜ (from ≤ end) × (end ≤ length (now buffer)) ⌝ }
-    ensures inside { λ r. ⌜ (r .from ≤ r .end) × (r .end ≤ length (now (buffer .exit))) ⌝ }
-    ensures kept { λ r. ⌜ take (end - from) (drop (r .from) (now (buffer .exit))) ≡ take (end - from) (drop from (now (buffer .entry))) ⌝ }
+    ensures inside { λ r. ⌜ (end - from ≤ r) × (r ≤ length (now (buffer .exit))) ⌝ }
+    ensures kept { λ r. ⌜ take (end - from) (now (buffer .exit)) ≡ hand (now (buffer .entry)) from end ⌝ }
 {
     let left = end - from;
-    if LINE <= left {
-        return Window { from, end };
-    }
     le::shift(buffer, 0, from, left);
     let got = io::read_full(fd, &mut buffer[left..]);
-    Window {
-        from: 0,
-        end: left + got,
+    left + got
+}
+
+// Reads on, and replays all whole lines of what is then in hand. A buffer that is not full holds the last of the trace.
+fn advance(fd: i32, state: &mut [u8], n: u32, buffer: &mut [u8], from: usize, end: usize) -> Left
+    requires { ⌜ (from ≤ end) × (end ≤ length (now buffer)) ⌝ }
+    ensures { λ r. ⌜ Advances n (hand (now (buffer .entry)) from end) (now (state .entry)) r (now (buffer .exit)) (now (state .exit)) ⌝ }
+{
+    let filled = ready(fd, buffer, from, end);
+    let last = filled < buffer.len();
+    let Stop::Before(p) = replay_lines(state, n, &buffer[..filled], 0, last) else {
+        return Left::Done;
+    };
+    if last {
+        return Left::Done;
+    }
+    Left::Part {
+        from: p,
+        end: filled,
     }
 }
 
-// Replays the trace line by line. A proved loop has to end, and nothing says that a file does: it counts its lines down, from
-// a number that no trace uses up.
-fn replay_trace(fd: i32, state: &mut [u8], n: u32)
-    ensures { λ _. ⌜ ((rs : List Record) × Offered n (now (state .entry)) rs (now (state .exit))) ⌝ }
+// Replays the trace, and answers whether it came to its end. A proved loop has to end, and nothing says that a file does: it
+// counts its reads down, from a number that no trace uses up.
+fn replay_trace(fd: i32, state: &mut [u8], n: u32) -> bool
+    ensures { λ r. ⌜ Trailed n (now (state .entry)) r (now (state .exit)) ⌝ }
 {
     let mut buffer = io::buffer();
     let mut from: usize = 0;
     let mut end: usize = 0;
-    let mut lines = u64::MAX;
-    while 0 < lines {
-        let window = ready(fd, &mut buffer, from, end);
-        let at = window.from;
-        end = window.end;
-        if at == end {
-            return;
-        }
-        let After::Line(next) = replay_line(state, n, &buffer[..end], at) else {
-            return;
+    let mut reads = u64::MAX;
+    while 0 < reads {
+        let Left::Part { from: p, end: e } = advance(fd, state, n, &mut buffer, from, end) else {
+            return true;
         };
-        from = next;
-        lines -= 1;
+        from = p;
+        end = e;
+        reads -= 1;
     }
+    false
 }
 
 // Puts `/` and a name behind the n bytes of a folder, and answers where the path ends; 0 if there is no room for it.
@@ -151,38 +166,59 @@ fn open(name: &[u8]) -> i32 {
     os::open_read(&path[..end])
 }
 
-// Loads the plan, of whose text one byte more is read than a plan has; the number of its refusal. A file that can't be opened
-// counts as empty.
-fn load(state: &mut [u8]) -> u32 {
-    let mut text = [0u8; Plan::TEXT + 1];
-    let fd = open(b"plan.txt");
+// Reads the start of a file, as much as the buffer holds, and answers how many bytes. A file that can't be opened counts as empty.
+fn read_start(name: &[u8], buffer: &mut [u8]) -> usize
+    ensures { λ r. ⌜ r ≤ length (now (buffer .exit)) ⌝ }
+{
+    let fd = open(name);
     if fd < 0 {
-        return engine::tessla_load(state, b"");
+        return 0;
     }
-    let n = io::read_full(fd, &mut text);
+    let n = io::read_full(fd, buffer);
     libc::close(fd);
-    engine::tessla_load(state, &text[..n])
+    n
 }
 
-// Settles, and replays the trace. A file that can't be opened counts as empty.
-fn play(state: &mut [u8], n: u32)
-    ensures { λ _. ⌜ Played n (now (state .entry)) (now (state .exit)) ⌝ }
+// Loads the plan, of whose text one byte more is read than a plan has, and prints the number of its refusal.
+fn load(state: &mut [u8]) -> u32
+    ensures { λ r. ⌜ ((plan : List ℕ) × (r ≡ loadReply plan (now (state .entry)) .number) × (now (state .exit) ≡ loadReply plan (now (state .entry)) .buffer)) ⌝ }
+{
+    let mut text = [0u8; Plan::TEXT + 1];
+    let n = read_start(b"plan.txt", &mut text);
+    let mut out = io::buffer();
+    let loaded = replaying::load(state, &text[..n], &mut out);
+    let end = loaded.end;
+    io::write_all(STDOUT_FILENO, &out[..end]);
+    loaded.number
+}
+
+// Settles, and replays the trace; a file that can't be opened counts as empty. Answers whether the trace came to its end.
+fn play(state: &mut [u8], n: u32) -> bool
+    ensures { λ r. ⌜ Played n (now (state .entry)) r (now (state .exit)) ⌝ }
 {
     settle(state, n);
     let fd = open(b"trace.txt");
     if fd < 0 {
-        return;
+        return true;
     }
-    replay_trace(fd, state, n);
+    let whole = replay_trace(fd, state, n);
     libc::close(fd);
+    whole
+}
+
+// Loads the plan, and plays the trace on it unless it is refused. Answers whether the trace came to its end.
+fn replay(state: &mut [u8], n: u32) -> bool
+    requires { ⌜ n ≡ capacity (length (now state)) ⌝ }
+    ensures { λ r. ⌜ (r ≡ true → ((plan : List ℕ) × (trace : List ℕ) × (w : List ℕ) × Printed plan trace (now (state .entry)) w (now (state .exit)))) ⌝ }
+{
+    let number = load(state);
+    if number != 0 {
+        return true;
+    }
+    play(state, n)
 }
 
 fn main() {
     let mut state = [0u8; Plan::STATE];
-    let number = load(&mut state);
-    if number != 0 {
-        print_refused(number);
-        return;
-    }
-    play(&mut state, Plan::STREAMS as u32);
+    replay(&mut state, Plan::STREAMS as u32);
 }

@@ -1,16 +1,25 @@
--- Every replay comes to its end, whatever the buffer holds.
+-- Every replay comes to its end, whatever the buffer holds and whatever the plan text and the trace text.
 use Prim.Native.Nat.{ℕ, zero, suc, _<_}
 use mathlib.Core.Path.{_≡_, refl, sym}
 use mathlib.Core.Bool.{false, true≢false}
 use mathlib.Core.List.{List, [], _∷_, _++_}
 use native.Mathlib.Omega.{arith}
+use lib.ListN.{length, drop, length-drop}
+use Rattle.operators.specs.Limits.{capacity}
 use Rattle.engine.specs.Reply.{reply}
+use Rattle.engine.specs.Load.{loadReply}
 use Rattle.trace.specs.declared.Record.{Record}
+use Rattle.trace.specs.declared.Line.{Line}
+use Rattle.trace.specs.declared.Line.the-variants.{Read, Bad}
+use Rattle.trace.specs.Trace.{line}
+use Rattle.trace.proofs.Ends.{line-ends}
+use Rattle.printer.specs.Print.{refusedText}
 use Rattle.replaying.specs.declared.Place.{Place}
 use Rattle.replaying.specs.declared.Place.the-variants.{Run, Collect, Rest}
 use Rattle.replaying.specs.Replay.{callOf, start, step, Prints, here, on}
 use Rattle.replaying.specs.Rank.{isRest, rank}
 use Rattle.replaying.specs.Session.{Replays, ends, goes}
+use Rattle.replaying.specs.Whole.{lineNumber, Lines, none, more, Stops, end, bad, Printed, refused, played}
 use Rattle.replaying.proofs.Bytes.{Fine}
 use Rattle.replaying.proofs.Nearer.{step-fine, step-falls}
 
@@ -42,3 +51,30 @@ replay-exists n s (r ∷ rs) =
     let x = comes-to-rest n s in
     let y = replay-exists n (reply (callOf r) (x .1) .buffer) rs in
     (_, y .1, goes (x .2) (y .2))
+
+-- ## The lines of a trace
+
+abbrev Stopped : List ℕ → Type 0
+Stopped trace = (rs : List Record) × (rest : List ℕ) × (v : List ℕ) × Lines trace rs rest × Stops rest v
+
+-- each line that is read leaves fewer bytes
+lines-exist : (k : ℕ) (trace : List ℕ) → length trace < k → Stopped trace
+lines-exist zero trace h = absurd (omega arith)
+lines-exist (suc k) [] h = ([], [], [], none, end)
+lines-exist (suc k) (c ∷ l) h = go (line (c ∷ l) 0) refl (λ next d. lines-exist k (drop next (c ∷ l)) (rw (length-drop next (c ∷ l)) (omega arith)))
+  where
+    go : (x : Line) → line (c ∷ l) 0 ≡ x → ((next : ℕ) → 0 < next → Stopped (drop next (c ∷ l))) → Stopped (c ∷ l)
+    go (Read r next) e ahead = let x = ahead next (line-ends (c ∷ l) 0 r next e .some) in (r ∷ x .0, x .1, x .2, more e (x .3), x .4)
+    go Bad e ahead = ([], c ∷ l, refusedText (lineNumber Bad), none, bad e)
+
+-- ## The whole
+
+pub printed-exists : (plan trace s : List ℕ) → (w : List ℕ) × (t : List ℕ) × Printed plan trace s w t
+printed-exists plan trace s = go (loadReply plan s .number) refl
+  where
+    go : (n : ℕ) → loadReply plan s .number ≡ n → (w : List ℕ) × (t : List ℕ) × Printed plan trace s w t
+    go zero e =
+        let l = lines-exist (suc (length trace)) trace (omega arith) in
+        let x = replay-exists (capacity (length s)) (loadReply plan s .buffer) (l .0) in
+        (x .0 ++ l .2, x .1, played e (l .3) (x .2) (l .4))
+    go (suc n) e = (refusedText (suc n), loadReply plan s .buffer, refused e)

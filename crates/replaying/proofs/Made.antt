@@ -7,10 +7,11 @@ use native.Mathlib.Omega.{arith}
 use native.Mathlib.Decide.{decLt, ℕ-discrete}
 use lib.Dec.{eqb}
 use Rattle.machine.specs.Calls.{Call, running, collecting}
-use Rattle.runs.specs.History.{Seen, Typed, AllTyped}
+use Rattle.runs.specs.Seen.{Typed, AllTyped}
 use Rattle.calls.specs.Reply.{Reply}
 use Rattle.engine.specs.Reply.{reply}
-use Rattle.engine.specs.History.{seenIn}
+use Rattle.engine.specs.Demands.{seenIn, leftBy}
+use Rattle.engine.proofs.Whole.{seenBy}
 use Rattle.trace.specs.declared.Record.{Record}
 use Rattle.trace.specs.declared.Record.the-variants.{Reading, Progress}
 use Rattle.printer.specs.Print.{eventText}
@@ -24,32 +25,24 @@ use Rattle.replaying.proofs.Nearer.{step-fine}
 
 -- ## Lists of calls on a buffer
 
-unfoldable pub seenFrom : List ℕ → List Call → List Seen
-seenFrom s [] = []
-seenFrom s (c ∷ cs) = seenIn c (reply c s) ∷ seenFrom (reply c s .buffer) cs
-
-unfoldable pub bufferAfter : List ℕ → List Call → List ℕ
-bufferAfter s [] = s
-bufferAfter s (c ∷ cs) = bufferAfter (reply c s .buffer) cs
-
-buffer-append : (s : List ℕ) (cs ds : List Call) → bufferAfter s (cs ++ ds) ≡ bufferAfter (bufferAfter s cs) ds
-unfolding bufferAfter
+pub buffer-append : (s : List ℕ) (cs ds : List Call) → leftBy s (cs ++ ds) ≡ leftBy (leftBy s cs) ds
+unfolding leftBy
 buffer-append s [] ds = refl
 buffer-append s (c ∷ cs) ds = buffer-append (reply c s .buffer) cs ds
 
-printed-append : (s : List ℕ) (cs ds : List Call) → printedOf (seenFrom s (cs ++ ds)) ≡ printedOf (seenFrom s cs) ++ printedOf (seenFrom (bufferAfter s cs) ds)
-unfolding seenFrom bufferAfter printedOf
+pub printed-append : (s : List ℕ) (cs ds : List Call) → printedOf (seenBy s (cs ++ ds)) ≡ printedOf (seenBy s cs) ++ printedOf (seenBy (leftBy s cs) ds)
+unfolding seenBy leftBy printedOf
 printed-append s [] ds = refl
 printed-append s (c ∷ cs) ds =
     let l = lineIn c (seenIn c (reply c s)) in let t = reply c s .buffer in
-    ap (λ (x : List ℕ). l ++ x) (printed-append t cs ds) ∙ sym (append-assoc l (printedOf (seenFrom t cs)) (printedOf (seenFrom (bufferAfter t cs) ds)))
+    ap (λ (x : List ℕ). l ++ x) (printed-append t cs ds) ∙ sym (append-assoc l (printedOf (seenBy t cs)) (printedOf (seenBy (leftBy t cs) ds)))
 
 offers-append : (cs ds : List Call) → othersOf (cs ++ ds) ≡ othersOf cs ++ othersOf ds
 unfolding othersOf
 offers-append [] ds = refl
 offers-append (c ∷ cs) ds = ap (λ (x : List Call). otherIn c ++ x) (offers-append cs ds) ∙ sym (append-assoc (otherIn c) (othersOf cs) (othersOf ds))
 
-typed-append : (cs ds : List Call) → AllTyped cs → AllTyped ds → AllTyped (cs ++ ds)
+pub typed-append : (cs ds : List Call) → AllTyped cs → AllTyped ds → AllTyped (cs ++ ds)
 typed-append [] ds h k = k
 typed-append (c ∷ cs) ds h k = (h .0, typed-append cs ds (h .1) k)
 
@@ -58,15 +51,15 @@ pub record Made (s : List ℕ) (offers : List Call) (printed t : List ℕ) : Typ
   pub calls : List Call
   pub typed : AllTyped calls
   pub offered : othersOf calls ≡ offers
-  pub lines : printed ≡ printedOf (seenFrom s calls)
-  pub buffer : t ≡ bufferAfter s calls
+  pub lines : printed ≡ printedOf (seenBy s calls)
+  pub buffer : t ≡ leftBy s calls
 
 made-none : (s : List ℕ) → Made s [] [] s
-unfolding seenFrom bufferAfter printedOf othersOf
+unfolding seenBy leftBy printedOf othersOf
 made-none s = record { calls = []; typed = tt; offered = refl; lines = refl; buffer = refl }
 
 made-one : (s : List ℕ) (c : Call) → Typed c → Made s (otherIn c) (lineIn c (seenIn c (reply c s))) (reply c s .buffer)
-unfolding seenFrom bufferAfter printedOf othersOf
+unfolding seenBy leftBy printedOf othersOf
 made-one s c h =
     record { calls = c ∷ []; typed = (h, tt); offered = append-nil (otherIn c); lines = sym (append-nil (lineIn c (seenIn c (reply c s)))); buffer = refl }
 
@@ -77,8 +70,8 @@ made-then {s} x y =
       calls = x .calls ++ y .calls;
       typed = typed-append (x .calls) (y .calls) (x .typed) (y .typed);
       offered = offers-append (x .calls) (y .calls) ∙ ap₂ _++_ (x .offered) (y .offered);
-      lines = ap₂ _++_ (x .lines) (y .lines ∙ ap (λ (l : List ℕ). printedOf (seenFrom l (y .calls))) b) ∙ sym (printed-append s (x .calls) (y .calls));
-      buffer = y .buffer ∙ ap (λ (l : List ℕ). bufferAfter l (y .calls)) b ∙ sym (buffer-append s (x .calls) (y .calls));
+      lines = ap₂ _++_ (x .lines) (y .lines ∙ ap (λ (l : List ℕ). printedOf (seenBy l (y .calls))) b) ∙ sym (printed-append s (x .calls) (y .calls));
+      buffer = y .buffer ∙ ap (λ (l : List ℕ). leftBy l (y .calls)) b ∙ sym (buffer-append s (x .calls) (y .calls));
     }
 
 -- ## From one place to the next
@@ -154,7 +147,7 @@ module _ (n : ℕ) (few : n ≤ 2 ^ 32) (s : List ℕ) (f : Fine s) where
 
 -- ## From one line to the next
 
-prints-made : {n : ℕ} {p : Place} {s w : List ℕ} {q : Place} {t : List ℕ} → n ≤ 2 ^ 32 → Prints n p s w q t → Fine s → Known n p s → Made s [] w t × Known n q t
+pub prints-made : {n : ℕ} {p : Place} {s w : List ℕ} {q : Place} {t : List ℕ} → n ≤ 2 ^ 32 → Prints n p s w q t → Fine s → Known n p s → Made s [] w t × Known n q t
 prints-made {p = p} {s = s} few here f h = (made-none s, h)
 prints-made {n} few (on {p} {s} x) f h =
     let r = prints-made few x (step-fine n p s (λ e. f)) (step-known n few s f p h) in

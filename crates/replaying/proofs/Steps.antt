@@ -2,16 +2,20 @@
 use Prim.Native.Nat.{ℕ, zero, suc, _+_, _<_, _≤_}
 use mathlib.Core.Path.{_≡_, refl, ap}
 use mathlib.Core.Bool.{Bool, true, false, cond}
-use mathlib.Core.List.{[]}
+use mathlib.Core.List.{List, []}
 use native.Mathlib.Omega.{arith}
 use lib.Dec.{eqb}
 use lib.ListN.{length}
 use borrow.Author.Tests.{eq-eqb, ne-eqb, lt-ltb, le-ltb}
 use Rattle.calls.specs.Reply.{Reply}
+use Rattle.engine.specs.Reply.{reply}
+use Rattle.trace.specs.declared.Line.{Line}
+use Rattle.trace.specs.declared.Line.the-variants.{Read, Bad}
 use Rattle.printer.specs.Print.{eventText, refusedText, refusedRoom}
 use Rattle.printer.proofs.Lines.{refused-most}
 use Rattle.replaying.specs.declared.Place.the-variants.{Run, Collect}
-use Rattle.replaying.specs.Replay.{refusal, turn, ran, afterOutput, roundAfter, collected}
+use Rattle.replaying.specs.Replay.{callOf, refusal, turn, ran, afterOutput, roundAfter, collected}
+use Rattle.replaying.specs.Whole.{lineNumber, lineText}
 
 -- ## Offers
 
@@ -70,3 +74,9 @@ ran-state busy r = go (eqb (r .moves) 0)
 pub refusal-most : (n : ℕ) → length (refusal n) ≤ refusedRoom
 refusal-most zero = omega arith
 refusal-most (suc n) = refused-most (suc n)
+
+-- ## A line
+
+pub line-most : (x : Line) (s : List ℕ) → length (lineText x s) ≤ refusedRoom
+line-most (Read r next) s = refusal-most (reply (callOf r) s .number)
+line-most Bad s = refused-most (lineNumber Bad)

@@ -1,4 +1,4 @@
--- How far a replay is from rest: a number that falls with every call.
+-- How: how far a replay is from rest: a number that falls with every call.
 use Prim.Native.Nat.{ℕ, _+_, _*_, _-_}
 use mathlib.Core.Bool.{Bool, true, false}
 use mathlib.Core.List.{List}

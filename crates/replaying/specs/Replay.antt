@@ -1,4 +1,4 @@
--- What the replay program prints and which state it leaves, call by call.
+-- Believe: what the replay program prints and which state it leaves, call by call.
 use Prim.Native.Nat.{ℕ, zero, suc, _+_, _-_, _^_}
 use mathlib.Core.Path.{_≡_}
 use mathlib.Core.Bool.{Bool, true, false, cond}

@@ -1,4 +1,4 @@
--- A whole replay: the calls that it makes, what it prints of them, and what the printed lines are worth.
+-- Believe: a whole replay: the calls that it makes, what it prints of them, and what the printed lines are worth.
 use Prim.Native.Nat.{ℕ}
 use mathlib.Core.Path.{_≡_}
 use mathlib.Core.Bool.{cond}
@@ -6,8 +6,10 @@ use mathlib.Core.List.{List, [], _∷_, _++_, map}
 use lib.Dec.{eqb}
 use Rattle.machine.specs.State.{Declared, loaded}
 use Rattle.machine.specs.Calls.{Call, reading, progress, moving, running, collecting}
-use Rattle.runs.specs.History.{Seen, AllTyped, log}
-use Rattle.runs.specs.Claim.{Claim, AtRest}
+use Rattle.runs.specs.Seen.{Seen, AllTyped}
+use Rattle.runs.specs.Demand3.{AtRest}
+use Rattle.runs.specs.History.{log}
+use Rattle.runs.specs.Claim.{nextNumber, Claim}
 use Rattle.engine.specs.Reply.{reply}
 use Rattle.trace.specs.declared.Record.{Record}
 use Rattle.printer.specs.Print.{eventText}
@@ -56,4 +58,4 @@ pub record Told (ds : List Declared) (rs : List Record) (printed : List ℕ) : T
   -- of which demands 2 and 3 hold, and that end at rest: so the events printed of an output are a beginning of the truth, and
   -- are complete as far as the input furthest behind is known
   pub claim : Claim ds calls
-  pub rest : AtRest ds calls
+  pub rest : AtRest ds (nextNumber ds calls)

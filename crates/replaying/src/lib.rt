@@ -7,8 +7,12 @@ ghost use Rattle.decimal.specs.Put.{Put};
 ghost use Rattle.printer.specs.Print.{eventRoom, refusedRoom};
 ghost use Rattle.replaying.specs.Replay.{Turned, Prints, callOf, refusal, allMoves, ran, afterOutput, collected, step};
 ghost use Rattle.replaying.specs.Rank.{isRest, rank};
+ghost use Rattle.replaying.specs.Whole.{lineText, lineState};
 ghost use Rattle.engine.specs.Reply.{reply};
+ghost use Rattle.engine.specs.Load.{loadReply};
+ghost use Rattle.trace.specs.Trace.{line as Trace·line};
 ghost use Rattle.machine.specs.Calls.{running, collecting};
+use trace::Line;
 use trace::Record;
 
 // Where a replay stands. `busy` says that something moved or was handed out in this round.
@@ -27,6 +31,21 @@ pub struct Stand {
     pub end: usize,
 }
 
+// The number of a loaded plan, and the position past what was put.
+pub struct Loaded {
+    pub number: u32,
+    pub end: usize,
+}
+
+// What reading a line found, and the position past what was put.
+pub struct Passed {
+    pub found: Line,
+    pub end: usize,
+}
+
+// The number of a line that can't be read.
+const BAD_LINE: u32 = 16;
+
 // Offers a record.
 fn offered(state: &mut [u8], read: Record) -> u32
     ensures number { λ r. ⌜ r ≡ reply (callOf read) (now (state .entry)) .number ⌝ }
@@ -44,17 +63,45 @@ fn offered(state: &mut [u8], read: Record) -> u32
     }
 }
 
-// Offers a record, and puts the line of the refusal if it is refused.
-pub fn offer(state: &mut [u8], read: Record, out: &mut [u8], at: usize) -> usize
-    requires { ⌜ at + refusedRoom ≤ length (now out) ⌝ }
-    ensures put { λ r. ⌜ Put (now (out .entry)) at (refusal (reply (callOf read) (now (state .entry)) .number)) r (now (out .exit)) ⌝ }
-    ensures state { λ _. ⌜ now (state .exit) ≡ reply (callOf read) (now (state .entry)) .buffer ⌝ }
+// Puts the line of a refusal at the start, if the number is one.
+fn put_refusal(out: &mut [u8], number: u32) -> usize
+    requires { ⌜ refusedRoom ≤ length (now out) ⌝ }
+    ensures { λ r. ⌜ Put (now (out .entry)) 0 (refusal number) r (now (out .exit)) ⌝ }
 {
-    let number = offered(state, read);
     if number == 0 {
-        return at;
+        return 0;
     }
-    printer::put_refused(out, at, number)
+    printer::put_refused(out, 0, number)
+}
+
+// Loads a plan, and puts the line of the refusal if it is refused.
+pub fn load(state: &mut [u8], text: &[u8], out: &mut [u8]) -> Loaded
+    requires { ⌜ refusedRoom ≤ length (now out) ⌝ }
+    ensures number { λ r. ⌜ r .number ≡ loadReply (now (text .entry)) (now (state .entry)) .number ⌝ }
+    ensures put { λ r. ⌜ Put (now (out .entry)) 0 (refusal (loadReply (now (text .entry)) (now (state .entry)) .number)) (r .end) (now (out .exit)) ⌝ }
+    ensures state { λ _. ⌜ now (state .exit) ≡ loadReply (now (text .entry)) (now (state .entry)) .buffer ⌝ }
+{
+    let number = engine::tessla_load(state, text);
+    let end = put_refusal(out, number);
+    Loaded { number, end }
+}
+
+// Reads the line at a position and offers its record, and puts the line of the refusal if it is refused. A bad line is put as
+// refused, and offers nothing.
+pub fn line(state: &mut [u8], text: &[u8], at: usize, out: &mut [u8]) -> Passed
+    requires { ⌜ refusedRoom ≤ length (now out) ⌝ }
+    ensures found { λ r. ⌜ r .found ≡ Trace·line (now (text .entry)) at ⌝ }
+    ensures put { λ r. ⌜ Put (now (out .entry)) 0 (lineText (Trace·line (now (text .entry)) at) (now (state .entry))) (r .end) (now (out .exit)) ⌝ }
+    ensures state { λ _. ⌜ now (state .exit) ≡ lineState (Trace·line (now (text .entry)) at) (now (state .entry)) ⌝ }
+{
+    let found = trace::read(text, at);
+    let Line::Read(read, _) = found else {
+        let end = printer::put_refused(out, 0, BAD_LINE);
+        return Passed { found, end };
+    };
+    let number = offered(state, read);
+    let end = put_refusal(out, number);
+    Passed { found, end }
 }
 
 // What follows once a stream, of n, has nothing more to hand out: the next stream, another round, or rest.

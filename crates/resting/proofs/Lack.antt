@@ -24,6 +24,12 @@ use Rattle.resting.specs.Left.{sum, share, lack}
 
 -- ## Sums
 
+-- each of the n streams counts
+pub sum-ones : (n : ℕ) → sum (λ i. 1) n ≡ n
+unfolding sum
+sum-ones zero = refl
+sum-ones (suc n) = let e = sum-ones n in omega arith
+
 sum-le : (f g : ℕ → ℕ) → ((i : ℕ) → f i ≤ g i) → (n : ℕ) → sum f n ≤ sum g n
 unfolding sum
 sum-le f g h zero = omega arith

@@ -1,4 +1,4 @@
--- What the bounds and marks of a state lack to the horizon, added up.
+-- How: what the bounds and marks of a state lack to the horizon, added up.
 use Prim.Native.Nat.{ℕ, zero, suc, _+_, _-_}
 use mathlib.Core.Bool.{cond}
 use mathlib.Core.List.{List}

@@ -23,7 +23,7 @@ use Rattle.layout.proofs.Laws.{RawOk, num-small}
 use Rattle.encoding.specs.View.{flag, flagOf, bitsOf, noNums, lastNums, delayNums}
 use Rattle.encoding.specs.Back.{optional, keptOf}
 use Rattle.encoding.specs.Sound.{IsValue, IsOptional, LastKept, DelayKept}
-use Rattle.valid.specs.Valid.{planOk, nextOk, sizesOk, risen, flagOk, noneIf, noneOk, lastOk, delayOk, keptOk, rowOk}
+use Rattle.valid.specs.Valid.{planOk, nextOk, sizesOk, risen, flagOk, noneIf, noneOk, lastOk, ownOk, delayOk, keptOk, rowOk}
 use Rattle.valid.proofs.Tests.{left, right}
 use Rattle.valid.proofs.Link.{PlanFacts, plan-facts}
 use Rattle.roundtrip.proofs.Tail.{bits-value}
@@ -167,7 +167,8 @@ module _ (r : Raw) (ok : RawOk r) where
       let b : Bool = flagOk (num priorFlagF r) (num priorF r) in
       let c : Bool = noneIf (num keptF r) (num flagF r) in
       let d : Bool = noneIf (num boundF r) (num priorFlagF r) in
-      let f : Bool = leb (num keptF r) (num boundF r) in
+      let w : Bool = ownOk (num keptF r) r in
+      let f : Bool = w && leb (num keptF r) (num boundF r) in
       let e₁ = right a (b && (c && (d && f))) e in
       let e₂ = right b (c && (d && f)) e₁ in
       let e₃ = right c (d && f) e₂ in
@@ -176,7 +177,7 @@ module _ (r : Raw) (ok : RawOk r) where
       rw (l, op) (
         record {
           prev = refl;
-          since = leb-true (num keptF r) (num boundF r) (right d f e₃);
+          since = leb-true (num keptF r) (num boundF r) (right w (leb (num keptF r) (num boundF r)) (right d f e₃));
           value = g .isOptional;
           prior = h .isOptional;
           unset = absent (num keptF r) (num flagF r) (num valueF r) (left c (d && f) e₂);
@@ -184,6 +185,17 @@ module _ (r : Raw) (ok : RawOk r) where
         },
         λ i. record { flag = g .flag i; priorFlag = h .flag i; kept = num keptF r; value = g .bits i; prior = h .bits i },
       )
+
+  pub own-kept : delayOk r ≡ true → ownOk (num keptF r) r ≡ true
+  unfolding delayOk
+  own-kept e =
+      let a : Bool = flagOk (num flagF r) (num valueF r) in
+      let b : Bool = flagOk (num priorFlagF r) (num priorF r) in
+      let c : Bool = noneIf (num keptF r) (num flagF r) in
+      let d : Bool = noneIf (num boundF r) (num priorFlagF r) in
+      let w : Bool = ownOk (num keptF r) r in
+      let f : Bool = w && leb (num keptF r) (num boundF r) in
+      left w (leb (num keptF r) (num boundF r)) (right d f (right c (d && f) (right b (c && (d && f)) (right a (b && (c && (d && f))) e))))
 
   pub none-kept : noneOk r ≡ true → isLast (groupOf (num opF r)) ≡ false → isDelay (groupOf (num opF r)) ≡ false → (keptOf r ≡ noKept) × (noNums ≡ record { flag = num flagF r; priorFlag = num priorFlagF r; kept = num keptF r; value = num valueF r; prior = num priorF r })
   unfolding noneOk keptOf

@@ -2,20 +2,20 @@
 use Prim.Native.Nat.{ℕ, zero, suc, _+_, _*_, _-_, _<_, _≤_}
 use mathlib.Core.Path.{_≡_, refl, sym, ap, _∙_}
 use mathlib.Core.List.{List, [], _∷_, _++_, map}
-use mathlib.Core.Bool.{Bool, true, false}
+use mathlib.Core.Bool.{Bool, true, false, cond}
 use mathlib.Core.Option.{Option, none, some}
 use native.Mathlib.Omega.{arith}
-use lib.Dec.{lit<}
+use lib.Dec.{T, lit<, ltb, eqb}
 use lib.IntN.{ℤ}
-use lib.ListN.{length, drop, replicate, length-map}
+use lib.ListN.{length, getD, drop, replicate, length-map}
 use lib.Seq.{drop-append-add}
-use borrow.Author.Tests.{le-leb, eq-eqb, ne-eqb}
+use borrow.Author.Tests.{le-leb, lt-ltb, eq-eqb, ne-eqb}
 use mir.Syntax.{w64}
 use mir.Val.{ofZ}
 use Rattle.meaning.specs.Plan.{Eqn, input, nil, unit, one, two, last, delay}
 use Rattle.meaning.specs.Events.{Event, horizon}
 use Rattle.machine.specs.State.{Kept, Cell, room}
-use Rattle.operators.specs.Operators.{groupOf, isPresent, isOperator, eqnGroup, numberOf}
+use Rattle.operators.specs.Operators.{groupOf, isDelay, isPresent, isOperator, eqnGroup, numberOf}
 use Rattle.operators.proofs.Laws.{one-group, two-group, group-of}
 use Rattle.operators.proofs.Rules.{out-pass, fields-pass}
 use Rattle.le.specs.Bytes.{allZero}
@@ -25,9 +25,9 @@ use Rattle.layout.specs.Record.{noSlot, num, headWidths, encSlot, encRaw, decRa
 use Rattle.layout.proofs.Laws.{head-len, slot-len, raw-enc}
 use Rattle.layout.proofs.Slots.{slot-zeros}
 use Rattle.encoding.specs.View.{flag, flagOf, bitsOf, keptNums, slotOf, padTo, rawOf, ofCell}
-use Rattle.encoding.specs.Sound.{Rising, IsNext, IsKept, SoundCell}
+use Rattle.encoding.specs.Sound.{Rising, IsNext, IsKept, SoundCell, Own}
 use Rattle.encoding.proofs.Widths.{cell-raw, pad-length}
-use Rattle.valid.specs.Valid.{planOk, nextOk, sizesOk, risen, flagOk, noneIf, noneOk, lastOk, delayOk, keptOk, rowOk}
+use Rattle.valid.specs.Valid.{planOk, nextOk, sizesOk, risen, flagOk, noneIf, noneOk, lastOk, ownOk, delayOk, keptOk, rowOk}
 
 -- ---- the plan part
 
@@ -79,16 +79,31 @@ none-passes : (y : ℕ) (o : Option ℤ) → (y ≡ 0 → o ≡ none) → noneIf
 none-passes zero o h = rw (h refl)
 none-passes (suc y) o h = rw (ne-eqb (suc y) 0 (λ e. omega arith))
 
-kept-passes : (e : Eqn) (o : Bool) (y : ℕ) (h : List Event) (m : ℕ) (k : Kept) → IsKept e y k → keptOk (rawOf e o y h m (keptNums e k)) ≡ true
-unfolding keptOk noneOk lastOk delayOk groupOf numberOf
-kept-passes input o y h m k ok = refl
-kept-passes nil o y h m k ok = refl
-kept-passes unit o y h m k ok = refl
-kept-passes (one f a) o y h m k ok = rw (one-group f)
-kept-passes (two g a b) o y h m k ok = rw (two-group g)
-kept-passes (last a b) o y h m k ok = rw (flag-passes (k .prev), none-passes y (k .prev) (ok .fresh))
-kept-passes (delay a b) o y h m k ok =
-    rw (flag-passes (k .value), flag-passes (k .prior), none-passes (k .since) (k .value) (ok .unset), none-passes y (k .prior) (ok .fresh)) (le-leb (k .since) y (ok .since))
+-- the newest event lies below the top
+newest-passes : (lo top n j : ℕ) (es : List Event) → length es ≤ n → Rising lo top es → length es ≡ suc j → getD (padTo n noSlot (map slotOf es)) j noSlot .stamp < top
+unfolding padTo
+newest-passes lo top n j [] h r l = absurd (omega arith)
+newest-passes lo top zero j (e ∷ es) h r l = absurd (omega arith)
+newest-passes lo top (suc n) zero (e ∷ []) h r l = r .2
+newest-passes lo top (suc n) zero (e ∷ d ∷ es) h r l = absurd (omega arith)
+newest-passes lo top (suc n) (suc j) (e ∷ es) h r l = newest-passes (suc (e .stamp)) top n j es (omega arith) (r .2) (omega arith)
+
+kept-passes : (e : Eqn) (o : Bool) (y : ℕ) (h : List Event) (m : ℕ) (k : Kept) → IsKept e y k → length h ≤ room → (T (isDelay (eqnGroup e)) → Rising 0 (k .since) h) → keptOk (rawOf e o y h m (keptNums e k)) ≡ true
+unfolding keptOk noneOk lastOk delayOk ownOk groupOf numberOf
+kept-passes input o y h m k ok few own = refl
+kept-passes nil o y h m k ok few own = refl
+kept-passes unit o y h m k ok few own = refl
+kept-passes (one f a) o y h m k ok few own = rw (one-group f)
+kept-passes (two g a b) o y h m k ok few own = rw (two-group g)
+kept-passes (last a b) o y h m k ok few own = rw (flag-passes (k .prev), none-passes y (k .prev) (ok .fresh))
+kept-passes (delay a b) o y h m k ok few own =
+    rw (flag-passes (k .value), flag-passes (k .prior), none-passes (k .since) (k .value) (ok .unset), none-passes y (k .prior) (ok .fresh), newest h few (own tt)) (le-leb (k .since) y (ok .since))
+  where
+    newest : (es : List Event) → length es ≤ room → Rising 0 (k .since) es → cond (eqb (length es) 0) true (ltb (getD (padTo room noSlot (map slotOf es)) (length es - 1) noSlot .stamp) (k .since)) ≡ true
+    newest [] l r = refl
+    newest (e ∷ es) l r =
+        let q : length (e ∷ es) - 1 ≡ length es = omega arith in
+        rw (ne-eqb (length (e ∷ es)) 0 (λ z. omega arith), q) (lt-ltb (getD (padTo room noSlot (map slotOf (e ∷ es))) (length es) noSlot .stamp) (k .since) (newest-passes 0 (k .since) room (length es) (e ∷ es) l r refl))
 
 -- ---- zeros behind the held events
 
@@ -133,9 +148,9 @@ zeros-pass n c ok =
     ∙ zeros-zero ((room - k) * 12)
 
 -- the whole record
-pub row-passes : (n : ℕ) (c : Cell) → n ≤ 256 → SoundCell n c → rowOk n (encRaw (ofCell c)) ≡ true
+pub row-passes : (n : ℕ) (c : Cell) → n ≤ 256 → SoundCell n c → Own c → rowOk n (encRaw (ofCell c)) ≡ true
 unfolding rowOk
-row-passes n c h ok =
+row-passes n c h ok own =
     let e : decRaw (encRaw (ofCell c)) ≡ ofCell c = raw-enc (ofCell c) (cell-raw n c h ok) in
     rw (e, plan-passes n c ok, sizes-pass n c ok, stamps, keeps, count) (zeros-pass n c ok)
   where
@@ -146,4 +161,4 @@ row-passes n c h ok =
     stamps = unfold ofCell in risen-passes 0 (c .bound) room (c .held) (ok .few) (ok .held)
 
     keeps : keptOk (ofCell c) ≡ true
-    keeps = unfold ofCell in kept-passes (c .eqn) (c .out) (c .bound) (c .held) (c .next) (c .kept) (ok .kept)
+    keeps = unfold ofCell in kept-passes (c .eqn) (c .out) (c .bound) (c .held) (c .next) (c .kept) (ok .kept) (ok .few) own

@@ -1,5 +1,5 @@
 -- A record that passes is the record of the cell that it gives, and that cell is sound.
-use Prim.Native.Nat.{ℕ, zero, suc, min}
+use Prim.Native.Nat.{ℕ, zero, suc, _-_, _<_, _≤_, min}
 use mathlib.Core.Path.{_≡_, refl, sym, ap, _∙_, subst}
 use mathlib.Core.List.{List, [], _∷_, map}
 use mathlib.Core.Bool.{Bool, true, false, not, cond}
@@ -7,7 +7,7 @@ use native.Mathlib.Omega.{arith}
 use lib.Dec.{eqb, lit<, lit≤, T}
 use lib.ListN.{length, take, length-map}
 use lib.Seq.{length-take-le}
-use borrow.Author.Tests.{eqb-true, leb-true, ne-eqb}
+use borrow.Author.Tests.{eqb-true, ltb-true, leb-true, ne-eqb}
 use mir.Syntax.{w64}
 use mir.Val.{ofZ, toZ}
 use Rattle.meaning.specs.Plan.{Eqn, input, nil, unit, one, two, last, delay, isInput}
@@ -18,16 +18,16 @@ use Rattle.operators.proofs.Laws.{group-of, number-back, value-back, input-by-n
 use Rattle.operators.proofs.Rules.{value-ok, out-ok, fields-first, fields-second, fields-reads}
 use Rattle.le.specs.Bytes.{Bytes}
 use Rattle.le.specs.Layout.{decFields}
-use Rattle.layout.specs.Record.{Raw, noSlot, num, decRaw, opF, aF, bF, outF, countF, flagF, priorFlagF, kF, boundF, nextF, keptF, valueF, priorF}
+use Rattle.layout.specs.Record.{Raw, noSlot, num, slotAt, decRaw, opF, aF, bF, outF, countF, flagF, priorFlagF, kF, boundF, nextF, keptF, valueF, priorF}
 use Rattle.layout.proofs.Laws.{RawOk, raw-ok}
 use Rattle.layout.proofs.Slots.{slots-many}
 use Rattle.encoding.specs.View.{flag, KeptNums, noNums, lastNums, delayNums, keptNums, slotOf, padTo, ofCell}
 use Rattle.encoding.specs.Back.{eventOf, heldOf, keptOf, toCell}
-use Rattle.encoding.specs.Sound.{IsValue, IsNext, LastKept, DelayKept, IsKept, SoundCell}
-use Rattle.valid.specs.Valid.{nextOk, lastOk, delayOk, noneOk, keptOk}
+use Rattle.encoding.specs.Sound.{IsValue, Rising, IsNext, LastKept, DelayKept, IsKept, SoundCell, Own}
+use Rattle.valid.specs.Valid.{nextOk, lastOk, ownOk, delayOk, noneOk, keptOk}
 use Rattle.valid.proofs.Link.{eqnIn}
-use Rattle.roundtrip.proofs.Tail.{slots-back, stamps-back}
-use Rattle.roundtrip.proofs.Back.{RowFacts, k-is, k-value, out-is, no-input, word, last-kept, delay-kept, none-kept}
+use Rattle.roundtrip.proofs.Tail.{slots-back, stamps-back, stamps-under}
+use Rattle.roundtrip.proofs.Back.{RowFacts, k-is, k-value, out-is, no-input, word, last-kept, delay-kept, own-kept, none-kept}
 
 -- ---- kept data by the equation's group
 
@@ -40,6 +40,15 @@ is-kept (one f a) y k l d n = n refl refl
 is-kept (two g a b) y k l d n = n refl refl
 is-kept (last a b) y k l d n = l refl
 is-kept (delay a b) y k l d n = d refl refl
+
+a-delay : (e : Eqn) → T (isDelay (eqnGroup e)) → (isLast (eqnGroup e) ≡ false) × (isDelay (eqnGroup e) ≡ true)
+a-delay input t = absurd t
+a-delay nil t = absurd t
+a-delay unit t = absurd t
+a-delay (one f a) t = absurd t
+a-delay (two g a b) t = absurd t
+a-delay (last a b) t = absurd t
+a-delay (delay a b) t = (refl, refl)
 
 abbrev storedNums : Raw → KeptNums
 storedNums r = record { flag = num flagF r; priorFlag = num priorFlagF r; kept = num keptF r; value = num valueF r; prior = num priorF r }
@@ -124,6 +133,22 @@ module _ (n : ℕ) (p : List ℕ) (len : length p ≡ 256) (b : Bytes p) (f : Ro
       let q : eqb (suc o) 0 ≡ false = ne-eqb (suc o) 0 (λ z. omega arith) in
       rw q (leb-true (num nextF (decRaw p)) (num boundF (decRaw p)) (rw q at e))
 
+  -- of a delay, whose newest held event lies below since
+  module _ (l : isLast (groupOf (num opF (decRaw p))) ≡ false) (d : isDelay (groupOf (num opF (decRaw p))) ≡ true) where
+    newest-below : (j : ℕ) → suc j ≡ num countF (decRaw p) → slotAt j (decRaw p) .stamp < num keptF (decRaw p)
+    unfolding ownOk
+    newest-below j e =
+        let r = decRaw p in
+        let q : num countF r - 1 ≡ j = omega arith in
+        ltb-true (slotAt j r .stamp) (num keptF r) (rw (ne-eqb (num countF r) 0 (λ z. omega arith), q) at (own-kept r (raw-ok p b) (as-delay r (raw-ok p b) (f .kept) l d)))
+
+    own-below : Rising 0 (keptOf (decRaw p) .since) (heldOf (decRaw p))
+    unfolding keptOf
+    own-below =
+        let r = decRaw p in
+        let many : num countF r ≤ length (r .slots) = rw (slots-many p) (f .count) in
+        rw (l, d, held-is) (stamps-back 0 (num keptF r) (num countF r) (r .slots) many (raw-ok p b .good) (stamps-under 0 (num boundF r) (num keptF r) (num countF r) (r .slots) many (λ z. omega arith) newest-below (f .stamps)))
+
   pub row-sound : SoundCell n (toCell (decRaw p))
   unfolding toCell
   row-sound =
@@ -146,3 +171,11 @@ module _ (n : ℕ) (p : List ℕ) (len : length p ≡ 256) (b : Bytes p) (f : Ro
       is-true : (q : Bool) → T q → q ≡ true
       is-true true t = refl
       is-true false t = absurd t
+
+  pub row-own : Own (toCell (decRaw p))
+  unfolding toCell
+  row-own t =
+      let r = decRaw p in
+      let g = same-group r (raw-ok p b) (f .kept) (eqnIn r) (number-back (num aF r) (num bF r) (toZ w64 (num kF r)) (num opF r) (f .plan .least) (f .plan .most)) in
+      let d = a-delay (eqnIn r) t in
+      own-below (ap isLast g ∙ d .0) (ap isDelay g ∙ d .1)

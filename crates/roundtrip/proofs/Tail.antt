@@ -6,9 +6,9 @@ use mathlib.Core.Bool.{Bool, true, false, cond}
 use native.Mathlib.Omega.{arith}
 use native.Mathlib.Nat.{zero-add, sub-zero}
 use lib.Dec.{eqb, leb}
-use lib.ListN.{length, take, drop, replicate, length-drop, replicate-append-replicate}
+use lib.ListN.{length, getD, take, drop, replicate, length-drop, replicate-append-replicate}
 use lib.Seq.{drop-drop}
-use borrow.Author.Tests.{eqb-true, leb-true}
+use borrow.Author.Tests.{eqb-true, leb-true, le-leb}
 use mir.Syntax.{w64}
 use mir.Val.{toZ}
 use mir.Facts.{ofZ-toZ, sfits-toZ}
@@ -115,3 +115,16 @@ stamps-back lo top (suc c) (x ∷ l) h ok e =
       bits-value (x .value) (ok .0 .1),
       stamps-back (suc (x .stamp)) top c l (omega arith) (ok .1) (rw q at r),
     )
+
+-- stamps that rise, the newest of them below z
+pub stamps-under : (lo top z c : ℕ) (l : List Slot) → c ≤ length l → (c ≡ 0 → lo ≤ z) → ((j : ℕ) → suc j ≡ c → getD l j noSlot .stamp < z) → risen top lo c l ≡ true → risen z lo c l ≡ true
+unfolding risen
+stamps-under lo top z zero l h m n e = le-leb lo z (m refl)
+stamps-under lo top z (suc c) [] h m n e = absurd (omega arith)
+stamps-under lo top z (suc zero) (x ∷ l) h m n e =
+    let k : x .stamp < z = n 0 refl in
+    rw (left (leb lo (x .stamp)) (leb (x .stamp + 1) top) e) (le-leb (x .stamp + 1) z (omega arith))
+stamps-under lo top z (suc (suc c)) (x ∷ l) h m n e =
+    let k = left (leb lo (x .stamp)) (risen top (x .stamp + 1) (suc c) l) e in
+    let r = right (leb lo (x .stamp)) (risen top (x .stamp + 1) (suc c) l) e in
+    rw k (stamps-under (x .stamp + 1) top z (suc c) l (omega arith) (λ q. absurd (omega arith)) (λ j q. n (suc j) (omega arith)) r)

@@ -9,7 +9,10 @@ use lib.Dec.{eqb, ltb}
 use lib.ListN.{length, getD, take, drop, replicate, length-map, length-append, length-drop, length-replicate}
 use lib.Seq.{length-take-le, take-at, drop-at, ext-getD}
 use borrow.Author.Tests.{eqb-false, ne-eqb, ltb-true, lt-ltb, not-true}
-use Rattle.meaning.specs.Cycle.{acyclic}
+use Rattle.meaning.specs.Plan.{eqnAt}
+use Rattle.meaning.specs.CycleTest.{acyclic}
+use Rattle.meaning.proofs.Within.{reads-within}
+use Rattle.meaning.proofs.CycleTest.{test-sound, test-complete}
 use Rattle.machine.specs.State.{Cell, State, cellAt, planOf}
 use Rattle.operators.specs.Operators.{numberOf}
 use Rattle.operators.specs.Limits.{capacity}
@@ -24,7 +27,7 @@ use Rattle.layout.specs.Record.{Raw, Raws, noRaw, encRaw, decRaw, encode, decod
 use Rattle.layout.proofs.Laws.{RawOk, RawsOk, raw-len, encode-decode, decode-encode, row-at, rows-many}
 use Rattle.encoding.specs.View.{ofCell, rawsOf, bytesOf}
 use Rattle.encoding.specs.Back.{toCell, stateOf}
-use Rattle.encoding.specs.Sound.{SoundCell, Sound}
+use Rattle.encoding.specs.Sound.{SoundCell, Own, Sound}
 use Rattle.encoding.proofs.Widths.{cell-raw, cell-back}
 use Rattle.valid.specs.Valid.{rowOk, allRows, streamsIn, count, planIn, valid}
 use Rattle.valid.proofs.Tests.{left, right}
@@ -32,7 +35,7 @@ use Rattle.valid.proofs.Link.{rows-at, count-few, count-fits}
 use Rattle.roundtrip.proofs.Passes.{row-passes, zeros-zero}
 use Rattle.roundtrip.proofs.Tail.{zero-list}
 use Rattle.roundtrip.proofs.Back.{row-facts}
-use Rattle.roundtrip.proofs.Rows.{row-back, row-sound}
+use Rattle.roundtrip.proofs.Rows.{row-back, row-sound, row-own}
 
 -- ---- from bytes to states
 
@@ -135,7 +138,10 @@ module _ (s : List ℕ) (b : Bytes s) (ok : valid s ≡ true) where
         each = λ i h.
             let k : i < count s = omega arith in
             rw n (rw (cell-at i k) (row-sound (count s) (part s (i * 256) 256) (row-part i k) (row-bytes i) (row-facts (count s) (part s (i * 256) 256) (facts-at i k))));
-        acyclic = f .acyclic;
+        own = λ i h.
+            let k : i < count s = omega arith in
+            rw (cell-at i k) (row-own (count s) (part s (i * 256) 256) (row-part i k) (row-bytes i) (row-facts (count s) (part s (i * 256) 256) (facts-at i k)));
+        acyclic = test-sound (capacity (length s)) (planIn (count s) s) (f .acyclic);
       }
 
 -- ---- from states to bytes
@@ -206,6 +212,11 @@ rows-pass f (c ∷ M) z h =
     ap (allRows f (suc (length M))) (enc-more c M z) ∙ rows-more f (length M) (encRaw (ofCell c) ++ (rowsOf M ++ z))
     ∙ ap₂ (λ (x y : List ℕ). f x && allRows f (length M) y) t d ∙ rw (h .0, rows-pass f M z (h .1))
 
+eqn-at : (M : State) (s : ℕ) → eqnAt (planOf M) s ≡ cellAt M s .eqn
+eqn-at [] s = refl
+eqn-at (c ∷ M) zero = refl
+eqn-at (c ∷ M) (suc s) = eqn-at M s
+
 -- a state within the capacity of this many bytes
 module _ (size : ℕ) (M : State) (ok : Sound (capacity size) M) where
   cells : All (SoundCell (length M)) M
@@ -251,6 +262,16 @@ module _ (size : ℕ) (M : State) (ok : Sound (capacity size) M) where
       let e : capacity size ≡ length M + (capacity size - length M) = omega arith in
       ap₂ streamsIn (ap capacity bytes-length ∙ e) bytes-are ∙ counted M (capacity size - length M) (size - length M * 256)
 
+  plan-length : length (planOf M) ≡ length M
+  plan-length = length-map M (λ c. c .eqn)
+
+  -- the cycle test, as deep as there is room for streams, passes a sound state
+  test-passes : acyclic (capacity size) (planOf M) ≡ true
+  test-passes =
+      test-complete (capacity size) (planOf M) (ok .acyclic)
+      (reads-within (planOf M) (λ s l. rw (plan-length, eqn-at M s) (ok .each s (rw plan-length at l) .arguments)))
+      (rw plan-length (ok .few))
+
   -- a sound state's bytes are valid
   pub bytes-valid : valid (bytesOf size M) ≡ true
   unfolding valid
@@ -259,13 +280,13 @@ module _ (size : ℕ) (M : State) (ok : Sound (capacity size) M) where
       let n : length M ≡ 0 → ⊥ = λ q. let h = ok .some in omega arith in
       let rows : allRows (rowOk (length M)) (length M) (bytesOf size M) ≡ true =
       ap (allRows (rowOk (length M)) (length M)) bytes-are
-      ∙ rows-pass (rowOk (length M)) M (replicate (size - length M * 256) 0) (all-rows′ M cells) in
+      ∙ rows-pass (rowOk (length M)) M (replicate (size - length M * 256) 0) (all-rows′ M cells (all-cells Own M (ok .own))) in
       let zeros : allZero (drop (length M * 256) (bytesOf size M)) ≡ true =
       ap (λ (l : List ℕ). allZero (drop (length M * 256) l)) bytes-are
       ∙ ap allZero (drop-at (rowsOf M) (replicate (size - length M * 256) 0) (length M * 256) rows-length) ∙ zeros-zero (size - length M * 256) in
-      let cyc : acyclic (capacity (length (bytesOf size M))) (planIn (length M) (bytesOf size M)) ≡ true = ap₂ (λ (x : ℕ) (N : State). acyclic (capacity x) (planOf N)) bytes-length bytes-state ∙ ok .acyclic in
+      let cyc : acyclic (capacity (length (bytesOf size M))) (planIn (length M) (bytesOf size M)) ≡ true = ap₂ (λ (x : ℕ) (N : State). acyclic (capacity x) (planOf N)) bytes-length bytes-state ∙ test-passes in
       rw (room, bytes-count, ne-eqb (length M) 0 n, rows, zeros) cyc
     where
-      all-rows′ : (N : State) → All (SoundCell (length M)) N → All (λ c. rowOk (length M) (encRaw (ofCell c)) ≡ true) N
-      all-rows′ [] h = tt
-      all-rows′ (c ∷ N) h = (row-passes (length M) c small (h .0), all-rows′ N (h .1))
+      all-rows′ : (N : State) → All (SoundCell (length M)) N → All Own N → All (λ c. rowOk (length M) (encRaw (ofCell c)) ≡ true) N
+      all-rows′ [] h w = tt
+      all-rows′ (c ∷ N) h w = (row-passes (length M) c small (h .0) (w .0), all-rows′ N (h .1) (w .1))

@@ -1,4 +1,4 @@
--- The machine state that valid bytes give.
+-- How: the machine state that valid bytes give.
 use Prim.Native.Nat.{ℕ}
 use mathlib.Core.Path.{_≡_}
 use mathlib.Core.Bool.{true}

@@ -9,7 +9,8 @@ use native.Mathlib.Omega.{arith}
 use lib.Dec.{T, leb, ltb, ltb→lt, nltb→le}
 use lib.ListN.{length}
 use lib.IntN.{ℤ}
-use Rattle.meaning.specs.Plan.{Eqn, input, nil, unit, one, two, last, delay, reads, Each, argA, argB}
+use Rattle.meaning.specs.Plan.{Eqn, input, nil, unit, one, two, last, delay}
+use Rattle.meaning.specs.Arguments.{reads, Each, argA, argB}
 use Rattle.meaning.specs.Events.{Event, ev, Stream, Streams, has, orElse, horizon}
 use Rattle.meaning.specs.Table.{latest, last-at, is, fires, delay-at, at}
 use Rattle.meaning.proofs.Tests.{Is, yes!, no!, look}
@@ -23,8 +24,9 @@ use Rattle.machine.specs.Step as step
 use Rattle.machine.proofs.Search.{least-ge, least-le, least-before, least-hit}
 use Rattle.machine.proofs.Window.{Seen, has-none, latest-seam, past-cong, past-flat, past-seam}
 use Rattle.machine.proofs.Release.{each-read, waiting-le-reader}
-use Rattle.runs.proofs.Kept.{keptOf, below, pointOf, point-le, point-new, value-seam}
-use Rattle.runs.proofs.Tracks.{cut-yes, known, Ahead, Tracks, New, quiet, new-none, held-shows}
+use Rattle.runs.specs.Inside.{knownIn, below}
+use Rattle.runs.proofs.Kept.{keptOf, pointOf, point-le, point-new, value-seam}
+use Rattle.runs.proofs.Tracks.{cut-yes, Ahead, Tracks, New, quiet, new-none, held-shows}
 use Rattle.runs.proofs.Tracks as tracks
 use Rattle.runs.proofs.Fires.{fires-latest}
 
@@ -55,7 +57,7 @@ module _ (S : Streams) (M : State) (inv : Tracks S M) where
   floor i = min (leastWaiting i M) (cellAt M i .bound)
 
   -- each stream shows what is known of it, from its floor on
-  pub shows-now : (i : ℕ) → Seen (known S M i) (floor i) (view (cellAt M i))
+  pub shows-now : (i : ℕ) → Seen (knownIn S M i) (floor i) (view (cellAt M i))
   shows-now i =
       rw (inv .held i) (rw append-nil at (held-shows (S i) (leastWaiting i M) (cellAt M i .bound) (cellAt M i .bound) [] (new-none (S i) (cellAt M i .bound))))
 
@@ -72,10 +74,10 @@ module _ (S : Streams) (M : State) (inv : Tracks S M) where
     pub arg-at : (a t : ℕ) → floor a ≤ y → y ≤ t → t < C a .bound → view (C a) t ≡ S a t
     arg-at a t l m n = shows-now a .from t (omega arith) ∙ cut-yes (S a) (C a .bound) t n
 
-    known-past : (a t : ℕ) → t ≤ C a .bound → pastLatest (known S M a) t ≡ pastLatest (S a) t
-    known-past a t l = past-cong (known S M a) (S a) t (λ p m. cut-yes (S a) (C a .bound) p (omega arith))
+    known-past : (a t : ℕ) → t ≤ C a .bound → pastLatest (knownIn S M a) t ≡ pastLatest (S a) t
+    known-past a t l = past-cong (knownIn S M a) (S a) t (λ p m. cut-yes (S a) (C a .bound) p (omega arith))
 
-    last-gives : (a b t : ℕ) → floor a ≤ y → floor b ≤ y → C s .kept ≡ keptOf (last a b) (known S M) s y → y ≤ t → t < C b .bound
+    last-gives : (a b t : ℕ) → floor a ≤ y → floor b ≤ y → C s .kept ≡ keptOf (last a b) (knownIn S M) s y → y ≤ t → t < C b .bound
         → T (not (has (view (C b) t) && ltb (C a .bound) t)) → last-at (view (C b) t) (orElse (latest (view (C a)) t) (C s .kept .prev)) ≡ last-at (S b t) (latest (S a) t)
     last-gives a b t la lb k l m n =
         rw (arg-at b t lb l m) (cases (S b t) (λ i. before (nltb→le (C a .bound) t (right (has (S b t)) (ltb (C a .bound) t) i (rw (arg-at b t lb l m) at n)))))
@@ -90,10 +92,10 @@ module _ (S : Streams) (M : State) (inv : Tracks S M) where
 
         before : t ≤ C a .bound → orElse (latest (view (C a)) t) (C s .kept .prev) ≡ latest (S a) t
         before j =
-            rw k (latest-seam (known S M a) (view (C a)) (floor a) (shows-now a) y t la l)
-            ∙ latest-cong (known S M a) (S a) t (λ p i. cut-yes (S a) (C a .bound) p (omega arith))
+            rw k (latest-seam (knownIn S M a) (view (C a)) (floor a) (shows-now a) y t la l)
+            ∙ latest-cong (knownIn S M a) (S a) t (λ p i. cut-yes (S a) (C a .bound) p (omega arith))
 
-    module _ (a b t : ℕ) (la : floor a ≤ y) (lb : floor b ≤ y) (k : C s .kept ≡ keptOf (delay a b) (known S M) s y) (l : y ≤ t) (m : t ≤ C b .bound)
+    module _ (a b t : ℕ) (la : floor a ≤ y) (lb : floor b ≤ y) (k : C s .kept ≡ keptOf (delay a b) (knownIn S M) s y) (l : y ≤ t) (m : t ≤ C b .bound)
         (q : (p : ℕ) → y ≤ p → p < t → S s p ≡ none) where
       since-is : C s .kept .since ≡ pointOf (S b) (S s) y
       since-is = rw (k, known-past b y (omega arith), known-past s y (omega arith))
@@ -101,8 +103,8 @@ module _ (S : Streams) (M : State) (inv : Tracks S M) where
       pub point-is : point (C s) (C b) t ≡ pointOf (S b) (S s) t
       unfolding point
       point-is =
-          let e : C s .kept .since ≡ pointOf (known S M b) (known S M s) y = ap (λ c. c .since) k in
-          let f = past-seam (known S M b) (view (C b)) (floor b) (shows-now b) y t lb l in
+          let e : C s .kept .since ≡ pointOf (knownIn S M b) (knownIn S M s) y = ap (λ c. c .since) k in
+          let f = past-seam (knownIn S M b) (view (C b)) (floor b) (shows-now b) y t lb l in
           let g = known-past b t m in
           let h = known-past s y (omega arith) in
           let i = past-flat (S s) y t l q in
@@ -112,9 +114,9 @@ module _ (S : Streams) (M : State) (inv : Tracks S M) where
       value-is z n =
           let e = since-is in
           let i = point-le (S b) (S s) y in
-          let j : C s .kept .value ≡ below (known S M a) (C s .kept .since) = ap (λ c. c .value) k ∙ ap (λ c. below (known S M a) (c .since)) (sym k) in
+          let j : C s .kept .value ≡ below (knownIn S M a) (C s .kept .since) = ap (λ c. c .value) k ∙ ap (λ c. below (knownIn S M a) (c .since)) (sym k) in
           rw j
-          (value-seam (known S M a) (view (C a)) (known S M a) (floor a) y (pointOf (S b) (S s) t) (C s .kept .since) (shows-now a) la (λ p u. refl) (omega arith)
+          (value-seam (knownIn S M a) (view (C a)) (knownIn S M a) (floor a) y (pointOf (S b) (S s) t) (C s .kept .since) (shows-now a) la (λ p u. refl) (omega arith)
           (λ u. point-new (S b) (S s) y t l (λ w. u (w ∙ sym e))) z
           ∙ cut-yes (S a) (C a .bound) (pred (pointOf (S b) (S s) t)) (omega arith))
 
@@ -131,7 +133,7 @@ module _ (S : Streams) (M : State) (inv : Tracks S M) where
           both false h = refl
 
     -- one case for each operator
-    gives-at : (e : Eqn) (t : ℕ) → Each (λ i. floor i ≤ y) (reads e) → C s .kept ≡ keptOf e (known S M) s y → ((p : ℕ) → p < horizon → S s p ≡ at e rd S s p)
+    gives-at : (e : Eqn) (t : ℕ) → Each (λ i. floor i ≤ y) (reads e) → C s .kept ≡ keptOf e (knownIn S M) s y → ((p : ℕ) → p < horizon → S s p ≡ at e rd S s p)
         → y ≤ t → t < horizon → t < limit e (C s) (C (argA e)) (C (argB e)) → T (not (stops e (C s) (C (argA e)) (C (argB e)) t))
         → ((p : ℕ) → y ≤ p → p < t → S s p ≡ none) → (e ≡ input → ⊥) → gives e (C s) (C (argA e)) (C (argB e)) t ≡ at e rd S s t
     unfolding at

@@ -8,9 +8,11 @@ use Prim.Native.Nat.{ℕ, zero, suc, pred, _+_, _≤_, _<_, max}
 use native.Mathlib.Omega.{arith}
 use native.Mathlib.Numerals.{add-one}
 use native.Mathlib.Decide.{decLt}
-use lib.Dec.{eqb, eqb→eq, eqb-refl}
+use lib.Dec.{leb, eqb, eqb→eq, eqb-refl}
+use borrow.Author.Tests.{leb-false}
 use lib.IntN.{ℤ}
-use Rattle.meaning.specs.Plan.{Eqn, input, nil, unit, one, two, last, delay, reads, Each, argA, argB}
+use Rattle.meaning.specs.Plan.{Eqn, input, nil, unit, one, two, last, delay}
+use Rattle.meaning.specs.Arguments.{reads, Each, argA, argB}
 use Rattle.meaning.specs.Events.{Stream, Streams, orElse}
 use Rattle.meaning.specs.Table.{latest}
 use Rattle.meaning.proofs.Tests.{Is, yes!, no!, look, true-is}
@@ -19,12 +21,8 @@ use Rattle.machine.specs.State.{Kept, Cell, noKept}
 use Rattle.machine.specs.Reach.{view, pastLatest, valueAt}
 use Rattle.machine.specs.Step.{absorb, later, keptTold}
 use Rattle.machine.proofs.Cells.{ne-eqb, eqb-ne}
+use Rattle.runs.specs.Inside.{below}
 use Rattle.machine.proofs.Window.{Seen, seen-or, or-none, latest-suc, latest-flat, latest-seam, past-le, past-cong, past-here, past-below, past-seam}
-
--- what a stream has one below z
-abbrev pub below : Stream → ℕ → Option ℤ
-below f zero = none
-below f (suc p) = f p
 
 -- one past the latest set point below y, of a delay d with second argument b
 abbrev pub pointOf : (b d : Stream) → ℕ → ℕ
@@ -112,20 +110,28 @@ module _ (K L : Streams) (s t : ℕ) (v : ℤ) (other : (i p : ℕ) → (i ≡ s
   kept-told (one f a) r y l own g = refl
   kept-told (two h a b) r y l own g = refl
   kept-told (last a b) r y l own g = rw (told-prev a y l)
-  kept-told (delay a b) r y l own g = rw (told-value a (pointOf (K b) (K r) y), told-value a y) (go (look (eqb b s)))
+  kept-told (delay a b) r y l own g = rw (told-value a z, told-value a y) (go (look (eqb b s)) (look (leb z t)))
     where
+      z : ℕ
+      z = pointOf (K b) (K r) y
+
       go : Is (eqb b s)
-          → ofDelay (cond (eqb b s && eqb y (t + 1)) y (pointOf (K b) (K r) y)) (cond (eqb b s && eqb y (t + 1)) (below (L a) y) (below (L a) (pointOf (K b) (K r) y))) (below (L a) y)
+          → Is (leb z t)
+          → cond (eqb b s && leb z t) (ofDelay (t + 1) (cond (eqb y (t + 1)) (below (L a) y) none) (below (L a) y)) (ofDelay z (below (L a) z) (below (L a) y))
           ≡ keptOf (delay a b) L r y
-      go (yes! q x) =
+      go (yes! q x) w =
           let e = eqb→eq b s x in
           let f = g e in
-          let n : pointOf (L b) (L r) y ≡ y = new e f in
-          rw (q, true-is (eqb y (t + 1)) (rw (f, add-one t) (eqb-refl (suc t))), n)
+          rw (q, true-is (eqb y (t + 1)) (rw (f, add-one t) (eqb-refl (suc t))), new e f) (either w f)
         where
           new : b ≡ s → y ≡ suc t → pointOf (L b) (L r) y ≡ y
           new e f = let h = past-le (L r) (suc t) in let j = past-here (L s) t (rw here tt) in rw (e, f) (omega arith)
-      go (no! q x) = rw (q, past-cong (K b) (L b) y (λ p m. other b p (λ e f. eqb-ne b s x e)), past-cong (K r) (L r) y (λ p m. own p))
+
+          -- a set point just below the bound was known already, or is now
+          either : Is (leb z t) → y ≡ suc t → cond (leb z t) (ofDelay (t + 1) (below (L a) y) (below (L a) y)) (ofDelay z (below (L a) z) (below (L a) y)) ≡ ofDelay y (below (L a) y) (below (L a) y)
+          either (yes! p x) f = let m : t + 1 ≡ y = omega arith in rw (p, m)
+          either (no! p x) f = let m : z ≡ y = let h = point-le (K b) (K r) y in let k = leb-false z t p in omega arith in rw (p, m)
+      go (no! q x) w = rw (q, past-cong (K b) (L b) y (λ p m. other b p (λ e f. eqb-ne b s x e)), past-cong (K r) (L r) y (λ p m. own p))
 
 -- ---- the bound of stream s goes from y to x: L is what is known then, C the cells, and each shows L from some stamp on
 

@@ -1,3 +1,5 @@
+-- computed
+pub mod Worked
 -- the invariant, and the step that keeps it
 pub mod Kept
 pub mod Tracks
@@ -7,6 +9,7 @@ pub mod Marks
 pub mod Fires
 pub mod Decide
 -- what a list of calls has done, and what holds after each
+pub mod Counts
 pub mod World
 pub mod Move
 pub mod Offers
@@ -16,17 +19,20 @@ pub mod Start
 -- rest
 pub mod Rest
 pub mod Numbers
+-- what the solution says of the state
+pub mod Waiting
+pub mod Keeping
+pub mod Reaching
 pub mod Claimed
 pub mod Reached
 -- the claim
 pub mod Whole
--- of every state of a run: room, tidiness, the order of moves, the reach
+-- of every state of a run: room, tidiness, the order of moves
 pub mod Room
 pub mod Tidy
 pub mod Local
 pub mod RunTidy
 pub mod Order
 pub mod RunOrder
-pub mod RunReach
--- computed
-pub mod Worked
+-- the premises are met
+pub mod Premises

@@ -9,7 +9,8 @@ use lib.Dec.{eqb, eqb→eq}
 use lib.ListN.{set, length-set}
 use lib.Seq.{getD-set-same, getD-set-other}
 use lib.IntN.{ℤ}
-use Rattle.meaning.specs.Plan.{Eqn, input, nil, unit, one, two, last, delay, argA, argB}
+use Rattle.meaning.specs.Plan.{Eqn, input, nil, unit, one, two, last, delay}
+use Rattle.meaning.specs.Arguments.{argA, argB}
 use Rattle.meaning.specs.Events.{Event, Streams, events}
 use Rattle.meaning.proofs.Tests.{Is, yes!, no!, look}
 use Rattle.machine.specs.State.{Cell, State, absent, cellAt, withHeld, withKept}
@@ -19,8 +20,9 @@ use Rattle.machine.proofs.Window.{or-none}
 use Rattle.machine.proofs.Rising.{drop-more}
 use Rattle.machine.proofs.Release.{Frame, frame-waiting, waiting-grows}
 use Rattle.machine.proofs.Frame.{raise-frame, raise-eqn, raise-out, raise-next, raise-bound}
+use Rattle.runs.specs.Inside.{knownIn}
 use Rattle.runs.proofs.Kept.{keptOf}
-use Rattle.runs.proofs.Tracks.{cut-yes, cut-no, known, Tracks, new-events, Rise}
+use Rattle.runs.proofs.Tracks.{cut-yes, cut-no, Tracks, new-events, Rise}
 use Rattle.runs.proofs.Decide.{floor-read}
 use Rattle.runs.proofs.Raise as raised
 use Rattle.runs.proofs.Tidy.{refreshed, refreshed-is, tidied, stale, near-of}
@@ -108,41 +110,41 @@ module _ (S : Streams) (M : State) (inv : Tracks S M) (s y : ℕ) (new : List Ev
   C-other : (i : ℕ) → (i ≡ s → ⊥) → C i ≡ cellAt M i
   C-other = raised.C-other S M inv s y new rise
 
-  own-fresh : refreshed (C s .eqn) (stale (C s)) (cellAt N (argA (C s .eqn))) (cellAt N (argB (C s .eqn))) ≡ keptOf (C s .eqn) (known S M₁) s (C s .bound)
+  own-fresh : refreshed (C s .eqn) (stale (C s)) (cellAt N (argA (C s .eqn))) (cellAt N (argB (C s .eqn))) ≡ keptOf (C s .eqn) (knownIn S M₁) s (C s .bound)
   own-fresh =
       let e = C s .eqn in
       let b = ap (λ c. c .bound) C-self in
       refreshed-same e (stale (C s)) (cellAt N (argA e)) (cellAt N (argB e)) (C (argA e)) (C (argB e)) (N-held (argA e)) (N-held (argB e))
-      ∙ refreshed-stale e (known S M) s (cellAt M s .bound) (C s) (C (argA e)) (C (argB e)) (rw C-self (inv .kept s)) (omega arith)
-      ∙ raised.own-kept S M inv s y new rise ∙ ap (λ x. keptOf e (known S M₁) s x) (sym b)
+      ∙ refreshed-stale e (knownIn S M) s (cellAt M s .bound) (C s) (C (argA e)) (C (argB e)) (rw C-self (inv .kept s)) (omega arith)
+      ∙ raised.own-kept S M inv s y new rise ∙ ap (λ x. keptOf e (knownIn S M₁) s x) (sym b)
 
-  same-below : (i p : ℕ) → p < cellAt M i .bound → known S M i p ≡ known S M₁ i p
+  same-below : (i p : ℕ) → p < cellAt M i .bound → knownIn S M i p ≡ knownIn S M₁ i p
   same-below i p l =
       let u = raised.C-up S M inv s y new rise i in
       rw (cut-yes (S i) (cellAt M i .bound) p l, cut-yes (S i) (C i .bound) p (omega arith))
 
-  other-fresh : (i : ℕ) → (i ≡ s → ⊥) → refreshed (C i .eqn) (C i) (cellAt N (argA (C i .eqn))) (cellAt N (argB (C i .eqn))) ≡ keptOf (C i .eqn) (known S M₁) i (C i .bound)
+  other-fresh : (i : ℕ) → (i ≡ s → ⊥) → refreshed (C i .eqn) (C i) (cellAt N (argA (C i .eqn))) (cellAt N (argB (C i .eqn))) ≡ keptOf (C i .eqn) (knownIn S M₁) i (C i .bound)
   other-fresh i n =
       let e = C i .eqn in
       let c = C-other i n in
       let b : C i .bound ≡ cellAt M i .bound = ap (λ c. c .bound) c in
       refreshed-same e (C i) (cellAt N (argA e)) (cellAt N (argB e)) (C (argA e)) (C (argB e)) (N-held (argA e)) (N-held (argB e))
-      ∙ refreshed-is (known S M) (known S M₁) (λ j. cellAt M j .bound) (λ j. min (leastWaiting j M) (cellAt M j .bound)) (λ j. C j) i (cellAt M i .bound) same-below (λ j p l. cut-no (S j) (cellAt M j .bound) p l)
+      ∙ refreshed-is (knownIn S M) (knownIn S M₁) (λ j. cellAt M j .bound) (λ j. min (leastWaiting j M) (cellAt M j .bound)) (λ j. C j) i (cellAt M i .bound) same-below (λ j p l. cut-no (S j) (cellAt M j .bound) p l)
       (λ j. omega arith) (raised.shows S M inv s y new rise) b refl e
       (rw c (floor-read S M inv i)) (rw c (near-of (cellAt M i .eqn) M (cellAt M i .bound) (inv .ahead i))) (rw c (inv .kept i))
-      ∙ ap (λ x. keptOf e (known S M₁) i x) (sym b)
+      ∙ ap (λ x. keptOf e (knownIn S M₁) i x) (sym b)
 
-  fresh : (i : ℕ) → refreshed (cellAt N i .eqn) (cellAt N i) (cellAt N (argA (cellAt N i .eqn))) (cellAt N (argB (cellAt N i .eqn))) ≡ keptOf (C i .eqn) (known S M₁) i (C i .bound)
+  fresh : (i : ℕ) → refreshed (cellAt N i .eqn) (cellAt N i) (cellAt N (argA (cellAt N i .eqn))) (cellAt N (argB (cellAt N i .eqn))) ≡ keptOf (C i .eqn) (knownIn S M₁) i (C i .bound)
   fresh i = go (look (eqb i s))
     where
-      go : Is (eqb i s) → refreshed (cellAt N i .eqn) (cellAt N i) (cellAt N (argA (cellAt N i .eqn))) (cellAt N (argB (cellAt N i .eqn))) ≡ keptOf (C i .eqn) (known S M₁) i (C i .bound)
+      go : Is (eqb i s) → refreshed (cellAt N i .eqn) (cellAt N i) (cellAt N (argA (cellAt N i .eqn))) (cellAt N (argB (cellAt N i .eqn))) ≡ keptOf (C i .eqn) (knownIn S M₁) i (C i .bound)
       go (yes! j x) = let e = eqb→eq i s x in rw (e, N-self) own-fresh
       go (no! j x) = rw (N-other i (eqb-ne i s x)) (other-fresh i (eqb-ne i s x))
 
   -- every cell after the step is the tidied one
   pub step-tidies : (i : ℕ) → cellAt (raise s y new M) i ≡ tidied N i
   step-tidies i =
-      let k = keptOf (C i .eqn) (known S M₁) i (C i .bound) in
+      let k = keptOf (C i .eqn) (knownIn S M₁) i (C i .bound) in
       raised.raise-cell S M inv s y new rise i
       ∙ ap (λ h. withHeld h (withKept k (C i))) (sym (held-is i))
       ∙ ap (λ c. withHeld (dropBelow (leastWaiting i N) (cellAt N i .held)) (withKept k c)) (sym bare)

@@ -16,8 +16,9 @@ use Rattle.machine.specs.Step.{readsIt, dropBelow, leastWaiting, release}
 use Rattle.machine.proofs.Cells.{set-cases, eqb-ne}
 use Rattle.machine.proofs.Rising.{events-flat, drop-again}
 use Rattle.machine.proofs.Release.{waiting-grows, looser-waiting, release-at, release-looser}
+use Rattle.runs.specs.Inside.{cut, knownIn}
 use Rattle.runs.proofs.Kept.{keptOf, kept-cong}
-use Rattle.runs.proofs.Tracks.{cut, cut-quiet, known, Ahead, ahead-grows, Tracks}
+use Rattle.runs.proofs.Tracks.{cut-quiet, Ahead, ahead-grows, Tracks}
 
 pub input-is : (e : Eqn) → T (isInput e) → e ≡ input
 input-is input h = refl
@@ -68,17 +69,17 @@ module _ (S : Streams) (M : State) (inv : Tracks S M) (s y : ℕ) (isIn : T (isI
   N-events : (i : ℕ) → events (S i) (cellAt N i .bound) ≡ events (S i) (cellAt M i .bound)
   N-events = N-cases (λ i c. events (S i) (c .bound) ≡ events (S i) (cellAt M i .bound)) (λ i n. refl) (events-flat (S s) (cellAt M s .bound) y grows quiet)
 
-  N-known : (i p : ℕ) → known S M i p ≡ known S N i p
+  N-known : (i p : ℕ) → knownIn S M i p ≡ knownIn S N i p
   N-known i p = N-cases (λ i c. cut (S i) (cellAt M i .bound) p ≡ cut (S i) (c .bound) p) (λ i n. refl) (cut-quiet (S s) (cellAt M s .bound) y p grows quiet) i
 
-  own-kept : cellAt M s .kept ≡ keptOf (cellAt M s .eqn) (known S N) s y
+  own-kept : cellAt M s .kept ≡ keptOf (cellAt M s .eqn) (knownIn S N) s y
   own-kept = let e = input-is (cellAt M s .eqn) isIn in rw e (rw e at (inv .kept s))
 
   pub progress-tracks : Tracks S N
   progress-tracks = record {
     held = λ i. N-held i ∙ inv .held i ∙ sym (rw (N-waiting i, N-events i));
-    kept = N-cases (λ i c. c .kept ≡ keptOf (c .eqn) (known S N) i (c .bound))
-        (λ i n. inv .kept i ∙ kept-cong (cellAt M i .eqn) (known S M) (known S N) i (cellAt M i .bound) (λ j p l. N-known j p)) own-kept;
+    kept = N-cases (λ i c. c .kept ≡ keptOf (c .eqn) (knownIn S N) i (c .bound))
+        (λ i n. inv .kept i ∙ kept-cong (cellAt M i .eqn) (knownIn S M) (knownIn S N) i (cellAt M i .bound) (λ j p l. N-known j p)) own-kept;
     ahead = N-cases (λ i c. Ahead (c .eqn) N (c .bound)) (λ i n. ahead-grows (cellAt M i .eqn) M N (cellAt M i .bound) N-up (inv .ahead i)) (rw (input-is (cellAt M s .eqn) isIn) tt);
     top = N-cases (λ i c. c .bound ≤ horizon) (λ i n. inv .top i) top;
     taken = λ i. let a = N-next i in let b = N-up i in let c = inv .taken i in omega arith;
@@ -151,7 +152,7 @@ module _ (M : State) (s n : ℕ) (there : s < length M) (grows : cellAt M s .nex
     pub collect-tracks : Tracks S N₂
     collect-tracks = record {
       held = λ i. ap (λ c. c .held) (collected-cell i) ∙ left-is i ∙ ap (λ b. dropBelow (leastWaiting i N₂) (events (S i) b)) (sym (bound-is i));
-      kept = λ i. ap (λ c. c .kept) (collected-cell i) ∙ inv .kept i ∙ rw (eqn-is i, bound-is i) (kept-cong (cellAt M i .eqn) (known S M) (known S N₂) i (cellAt M i .bound) (λ j p l. ap (λ k. cut (S j) k p) (sym (bound-is j))));
+      kept = λ i. ap (λ c. c .kept) (collected-cell i) ∙ inv .kept i ∙ rw (eqn-is i, bound-is i) (kept-cong (cellAt M i .eqn) (knownIn S M) (knownIn S N₂) i (cellAt M i .bound) (λ j p l. ap (λ k. cut (S j) k p) (sym (bound-is j))));
       ahead = λ i. rw (eqn-is i, bound-is i) (ahead-grows (cellAt M i .eqn) M N₂ (cellAt M i .bound) (λ j. let e = bound-is j in omega arith) (inv .ahead i));
       top = λ i. rw (bound-is i) (inv .top i);
       taken = λ i. rw (bound-is i) (collected-next (λ i m. m ≤ cellAt M i .bound) (λ i d. inv .taken i) low i);

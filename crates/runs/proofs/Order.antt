@@ -15,7 +15,8 @@ use lib.Dec.{T, leb, ltb, leb→le, nleb→lt, ltb→lt, nltb→le, lt→ltb, T-
 use lib.ListN.{length}
 use lib.Seq.{ext-getD}
 use lib.IntN.{ℤ}
-use Rattle.meaning.specs.Plan.{Eqn, input, nil, unit, one, two, last, delay, reads, Each, argA, argB}
+use Rattle.meaning.specs.Plan.{Eqn, input, nil, unit, one, two, last, delay}
+use Rattle.meaning.specs.Arguments.{reads, Each, argA, argB}
 use Rattle.meaning.specs.Events.{Event, Streams, events, has, horizon}
 use Rattle.meaning.specs.Table.{Solves}
 use Rattle.meaning.proofs.Tests.{Is, yes!, no!, look, T-and, T-and-l, T-and-r}
@@ -27,8 +28,9 @@ use Rattle.machine.proofs.Rising.{events-flat, drop-fewer}
 use Rattle.machine.proofs.Release.{Frame, frame-waiting, waiting-grows}
 use Rattle.machine.proofs.Frame.{raise-next, raise-bound}
 use Rattle.machine.proofs.Moves.{reachOf, reach-gt, goal, can-equation, can-of, no-input, goal-ge}
+use Rattle.runs.specs.Inside.{cut, knownIn}
 use Rattle.runs.proofs.Kept.{keptOf, kept-cong}
-use Rattle.runs.proofs.Tracks.{cut, cut-yes, known, Tracks}
+use Rattle.runs.proofs.Tracks.{cut-yes, Tracks}
 use Rattle.runs.proofs.Decide.{Finds, nothing, something, finds-le, floor, floor-read, shows-now, arg-at, point-is, in-reach}
 use Rattle.runs.proofs.World.{Shape}
 use Rattle.runs.proofs.Move.{row, equation-finds, move-raise, move-tracks, move-shape}
@@ -52,7 +54,7 @@ determined S A B a b f = ext-getD absent B A (f .size) (λ i l. cell-ext (cellAt
 
     kept : (i : ℕ) → cellAt B i .kept ≡ cellAt A i .kept
     kept i =
-        b .kept i ∙ rw (f .eqns i, f .bounds i) (kept-cong (cellAt A i .eqn) (known S B) (known S A) i (cellAt A i .bound) (λ j p l. ap (λ k. cut (S j) k p) (f .bounds j))) ∙ sym (a .kept i)
+        b .kept i ∙ rw (f .eqns i, f .bounds i) (kept-cong (cellAt A i .eqn) (knownIn S B) (knownIn S A) i (cellAt A i .bound) (λ j p l. ap (λ k. cut (S j) k p) (f .bounds j))) ∙ sym (a .kept i)
 
 -- ---- a state that is nowhere ahead of another, with the same marks
 
@@ -105,7 +107,7 @@ module _ (ds : List Declared) (rd S : Streams) (sol : Solves (declaredPlan ds) r
 
       -- nothing stops s at top in Z
       no-stop : (e : Eqn) → Each (λ i. floor S X x i ≤ cellAt X s .bound) (reads e) → Each (λ i. floor S Z z i ≤ cellAt Z s .bound) (reads e)
-          → cellAt X s .kept ≡ keptOf e (known S X) s (cellAt X s .bound) → cellAt Z s .kept ≡ keptOf e (known S Z) s (cellAt Z s .bound)
+          → cellAt X s .kept ≡ keptOf e (knownIn S X) s (cellAt X s .bound) → cellAt Z s .kept ≡ keptOf e (knownIn S Z) s (cellAt Z s .bound)
           → top < limit e (cellAt X s) (cellAt X (argA e)) (cellAt X (argB e)) → T (not (stops e (cellAt X s) (cellAt X (argA e)) (cellAt X (argB e)) top))
           → T (not (stops e (cellAt Z s) (cellAt Z (argA e)) (cellAt Z (argB e)) top))
       no-stop input lx lz kx kz l n = tt
@@ -116,7 +118,7 @@ module _ (ds : List Declared) (rd S : Streams) (sol : Solves (declaredPlan ds) r
       no-stop (last a b) lx lz kx kz l n =
           not-T (has (view (cellAt Z b) top) && ltb (cellAt Z a .bound) top) (λ h.
           let u = behind .bounds a in let w = behind .bounds s in
-          let here = seen-has (known S Z b) (view (cellAt Z b)) (floor S Z z b) (shows-now S Z z b) top (T-and-l (has (view (cellAt Z b) top)) (ltb (cellAt Z a .bound) top) h) in
+          let here = seen-has (knownIn S Z b) (view (cellAt Z b)) (floor S Z z b) (shows-now S Z z b) top (T-and-l (has (view (cellAt Z b) top)) (ltb (cellAt Z a .bound) top) h) in
           let c = behind .bounds b in
           let is : T (has (S b top)) = rw (cut-yes (S b) (cellAt Z b .bound) top (omega arith)) at here in
           let seen : T (has (view (cellAt X b) top)) = rw (arg-at S X x rd s b top (lx .1 .0) w l) is in

@@ -13,7 +13,8 @@ use lib.Dec.{T, ltb, eqb, eqb→eq, ltb→lt, nltb→le, T-not}
 use lib.ListN.{set, length-set}
 use lib.Seq.{getD-set-same, getD-set-other}
 use lib.IntN.{ℤ}
-use Rattle.meaning.specs.Plan.{Eqn, input, nil, unit, one, two, last, delay, reads, argA, argB}
+use Rattle.meaning.specs.Plan.{Eqn, input, nil, unit, one, two, last, delay}
+use Rattle.meaning.specs.Arguments.{reads, argA, argB}
 use Rattle.meaning.specs.Events.{Event, ev, Streams, events, horizon}
 use Rattle.meaning.proofs.Tests.{Is, yes!, no!, look, not-or-l, not-or-r}
 use Rattle.meaning.proofs.Each.{each-map}
@@ -24,8 +25,9 @@ use Rattle.machine.proofs.Cells.{set-cases, told-at, eqb-ne}
 use Rattle.machine.proofs.Window.{Seen}
 use Rattle.machine.proofs.Rising.{drop-more}
 use Rattle.machine.proofs.Release.{each-read, among, read-among, waiting-le-reader, waiting-grows, releases-at, releases-looser, looser-waiting}
+use Rattle.runs.specs.Inside.{cut, knownIn}
 use Rattle.runs.proofs.Kept.{keptOf, kept-cong, kept-told, kept-absorbed, Edge}
-use Rattle.runs.proofs.Tracks.{cut, cut-yes, cut-no, cut-quiet, cut-event, known, Ahead, ahead-grows, Tracks, New, quiet, event, Rise, new-none, new-events, held-shows}
+use Rattle.runs.proofs.Tracks.{cut-yes, cut-no, cut-quiet, cut-event, Ahead, ahead-grows, Tracks, New, quiet, event, Rise, new-none, new-events, held-shows}
 
 -- ---- a reader ahead of the new event, a delay of it, is just ahead
 
@@ -81,87 +83,87 @@ module _ (S : Streams) (M : State) (inv : Tracks S M) (s y : ℕ) (new : List Ev
       C-cases (λ i c. (es : List Event) × New (S i) (cellAt M i .bound) (c .bound) es × (c .held ≡ cellAt M i .held ++ es))
       (λ i n. ([], new-none (S i) (cellAt M i .bound), sym (append-nil (cellAt M i .held)))) (new, rise .comes, refl)
 
-  pub shows : (i : ℕ) → Seen (known S M₁ i) (min (leastWaiting i M) (cellAt M i .bound)) (view (C i))
+  pub shows : (i : ℕ) → Seen (knownIn S M₁ i) (min (leastWaiting i M) (cellAt M i .bound)) (view (C i))
   shows i =
       let n = C-new i in
       rw (n .2, inv .held i) (held-shows (S i) (leastWaiting i M) (cellAt M i .bound) (C i .bound) (n .0) (n .1))
 
   -- ---- write
-  same-below : (i p : ℕ) → p < cellAt M s .bound → known S M i p ≡ known S M₁ i p
+  same-below : (i p : ℕ) → p < cellAt M s .bound → knownIn S M i p ≡ knownIn S M₁ i p
   same-below i p l = C-cases (λ i c. cut (S i) (cellAt M i .bound) p ≡ cut (S i) (c .bound) p) (λ i n. refl) (rw (cut-yes (S s) (cellAt M s .bound) p l, cut-yes (S s) y p (omega arith))) i
 
-  pub own-kept : absorb (C s .eqn) (C s) (C (argA (C s .eqn))) (C (argB (C s .eqn))) ≡ keptOf (C s .eqn) (known S M₁) s y
+  pub own-kept : absorb (C s .eqn) (C s) (C (argA (C s .eqn))) (C (argB (C s .eqn))) ≡ keptOf (C s .eqn) (knownIn S M₁) s y
   own-kept =
-      kept-absorbed (known S M) (known S M₁) s (cellAt M s .bound) y (rise .grows) same-below C (λ i. min (leastWaiting i M) (cellAt M i .bound)) shows (omega arith) (ap (λ c. c .bound) C-self) (C s .eqn)
+      kept-absorbed (knownIn S M) (knownIn S M₁) s (cellAt M s .bound) y (rise .grows) same-below C (λ i. min (leastWaiting i M) (cellAt M i .bound)) shows (omega arith) (ap (λ c. c .bound) C-self) (C s .eqn)
       (each-map (λ a h. let x = waiting-le-reader a M s (rw (C-eqn s) at h) in omega arith) (reads (C s .eqn)) (each-read (C s .eqn)))
-      (ap (λ c. c .kept) C-self ∙ inv .kept s ∙ ap (λ e. keptOf e (known S M) s (cellAt M s .bound)) (sym (C-eqn s)))
+      (ap (λ c. c .kept) C-self ∙ inv .kept s ∙ ap (λ e. keptOf e (knownIn S M) s (cellAt M s .bound)) (sym (C-eqn s)))
 
   abbrev M₂ : State
   M₂ = write s y new M
 
-  self₂ : cellAt M₂ s ≡ withKept (keptOf (C s .eqn) (known S M₁) s (C s .bound)) (C s)
+  self₂ : cellAt M₂ s ≡ withKept (keptOf (C s .eqn) (knownIn S M₁) s (C s .bound)) (C s)
   unfolding write absorbed
   self₂ =
       getD-set-same M₁ s (withKept (absorb (C s .eqn) (C s) (C (argA (C s .eqn))) (C (argB (C s .eqn)))) (C s)) absent (rw (length-set M s (advance y new (cellAt M s))) (rise .there))
-      ∙ ap (λ k. withKept k (C s)) (own-kept ∙ ap (λ x. keptOf (C s .eqn) (known S M₁) s x) (sym (ap (λ c. c .bound) C-self)))
+      ∙ ap (λ k. withKept k (C s)) (own-kept ∙ ap (λ x. keptOf (C s .eqn) (knownIn S M₁) s x) (sym (ap (λ c. c .bound) C-self)))
 
-  other₂ : (i : ℕ) → (i ≡ s → ⊥) → cellAt M₂ i ≡ withKept (keptOf (C i .eqn) (known S M) i (C i .bound)) (C i)
+  other₂ : (i : ℕ) → (i ≡ s → ⊥) → cellAt M₂ i ≡ withKept (keptOf (C i .eqn) (knownIn S M) i (C i .bound)) (C i)
   unfolding write absorbed
   other₂ i n =
       getD-set-other M₁ s i (withKept (absorb (C s .eqn) (C s) (C (argA (C s .eqn))) (C (argB (C s .eqn)))) (C s)) absent n
       ∙ rw (C-other i n) (ap (λ k. withKept k (cellAt M i)) (inv .kept i))
 
   -- ---- tell
-  told-quiet : ((p : ℕ) → cellAt M s .bound ≤ p → p < y → S s p ≡ none) → (i : ℕ) → cellAt M₂ i ≡ withKept (keptOf (C i .eqn) (known S M₁) i (C i .bound)) (C i)
+  told-quiet : ((p : ℕ) → cellAt M s .bound ≤ p → p < y → S s p ≡ none) → (i : ℕ) → cellAt M₂ i ≡ withKept (keptOf (C i .eqn) (knownIn S M₁) i (C i .bound)) (C i)
   told-quiet q i = go (look (eqb i s))
     where
-      same : (i p : ℕ) → known S M i p ≡ known S M₁ i p
+      same : (i p : ℕ) → knownIn S M i p ≡ knownIn S M₁ i p
       same i p = C-cases (λ i c. cut (S i) (cellAt M i .bound) p ≡ cut (S i) (c .bound) p) (λ i n. refl) (cut-quiet (S s) (cellAt M s .bound) y p (omega arith) q) i
 
-      go : Is (eqb i s) → cellAt M₂ i ≡ withKept (keptOf (C i .eqn) (known S M₁) i (C i .bound)) (C i)
+      go : Is (eqb i s) → cellAt M₂ i ≡ withKept (keptOf (C i .eqn) (knownIn S M₁) i (C i .bound)) (C i)
       go (yes! e x) = let d = eqb→eq i s x in rw d self₂
       go (no! e x) =
-          other₂ i (eqb-ne i s x) ∙ ap (λ k. withKept k (C i)) (kept-cong (C i .eqn) (known S M) (known S M₁) i (C i .bound) (λ j p l. same j p))
+          other₂ i (eqb-ne i s x) ∙ ap (λ k. withKept k (C i)) (kept-cong (C i .eqn) (knownIn S M) (knownIn S M₁) i (C i .bound) (λ j p l. same j p))
 
   module _ (t : ℕ) (v : ℤ) (l : cellAt M s .bound ≤ t) (q : (p : ℕ) → cellAt M s .bound ≤ p → p < t → S s p ≡ none) (e : S s t ≡ some v) (at : y ≡ suc t) where
     self-bound : C s .bound ≡ suc t
     self-bound = ap (λ c. c .bound) C-self ∙ at
 
-    changed : (i p : ℕ) → (i ≡ s → p ≡ t → ⊥) → known S M i p ≡ known S M₁ i p
+    changed : (i p : ℕ) → (i ≡ s → p ≡ t → ⊥) → knownIn S M i p ≡ knownIn S M₁ i p
     changed i p =
         C-cases (λ i c. (i ≡ s → p ≡ t → ⊥) → cut (S i) (cellAt M i .bound) p ≡ cut (S i) (c .bound) p) (λ i n d. refl)
         (λ d. rw at (cut-event (S s) (cellAt M s .bound) t p l q (d refl))) i
 
-    here : known S M₁ s t ≡ some v
+    here : knownIn S M₁ s t ≡ some v
     here = rw self-bound (cut-yes (S s) (suc t) t (lt-suc-self t) ∙ e)
 
-    above : (p : ℕ) → t < p → known S M₁ s p ≡ none
+    above : (p : ℕ) → t < p → knownIn S M₁ s p ≡ none
     above p k = rw self-bound (cut-no (S s) (suc t) p k)
 
-    told-cell : (K : Streams) (i : ℕ) → ((i p : ℕ) → (i ≡ s → p ≡ t → ⊥) → K i p ≡ known S M₁ i p) → ((p : ℕ) → K i p ≡ known S M₁ i p)
+    told-cell : (K : Streams) (i : ℕ) → ((i p : ℕ) → (i ≡ s → p ≡ t → ⊥) → K i p ≡ knownIn S M₁ i p) → ((p : ℕ) → K i p ≡ knownIn S M₁ i p)
         → (t < C i .bound → Edge (C i .eqn) s t (C i .bound))
-        → told s t v (withKept (keptOf (C i .eqn) K i (C i .bound)) (C i)) ≡ withKept (keptOf (C i .eqn) (known S M₁) i (C i .bound)) (C i)
+        → told s t v (withKept (keptOf (C i .eqn) K i (C i .bound)) (C i)) ≡ withKept (keptOf (C i .eqn) (knownIn S M₁) i (C i .bound)) (C i)
     unfolding told
     told-cell K i other own edge = ap (λ k. withKept k (C i)) (go (look (ltb t (C i .bound))))
       where
-        go : Is (ltb t (C i .bound)) → cond (ltb t (C i .bound)) (keptTold (C i .eqn) s (C i .bound) t v (keptOf (C i .eqn) K i (C i .bound))) (keptOf (C i .eqn) K i (C i .bound)) ≡ keptOf (C i .eqn) (known S M₁) i (C i .bound)
+        go : Is (ltb t (C i .bound)) → cond (ltb t (C i .bound)) (keptTold (C i .eqn) s (C i .bound) t v (keptOf (C i .eqn) K i (C i .bound))) (keptOf (C i .eqn) K i (C i .bound)) ≡ keptOf (C i .eqn) (knownIn S M₁) i (C i .bound)
         go (yes! j x) =
             let m = ltb→lt t (C i .bound) x in
-            rw j (kept-told K (known S M₁) s t v other here above (C i .eqn) i (C i .bound) m own (edge m))
+            rw j (kept-told K (knownIn S M₁) s t v other here above (C i .eqn) i (C i .bound) m own (edge m))
         go (no! j x) =
             let m = nltb→le t (C i .bound) x in
-            rw j (kept-cong (C i .eqn) K (known S M₁) i (C i .bound) (λ a p n. other a p (λ f g. omega arith)))
+            rw j (kept-cong (C i .eqn) K (knownIn S M₁) i (C i .bound) (λ a p n. other a p (λ f g. omega arith)))
 
-    told-event : (i : ℕ) → cellAt (map (told s t v) M₂) i ≡ withKept (keptOf (C i .eqn) (known S M₁) i (C i .bound)) (C i)
+    told-event : (i : ℕ) → cellAt (map (told s t v) M₂) i ≡ withKept (keptOf (C i .eqn) (knownIn S M₁) i (C i .bound)) (C i)
     told-event i = told-at s t v M₂ i ∙ go (look (eqb i s))
       where
-        go : Is (eqb i s) → told s t v (cellAt M₂ i) ≡ withKept (keptOf (C i .eqn) (known S M₁) i (C i .bound)) (C i)
+        go : Is (eqb i s) → told s t v (cellAt M₂ i) ≡ withKept (keptOf (C i .eqn) (knownIn S M₁) i (C i .bound)) (C i)
         go (yes! j x) =
             let d = eqb→eq i s x in
-            rw (d, self₂) (told-cell (known S M₁) s (λ a p n. refl) (λ p. refl) (λ m. edge-self (C s .eqn) s t (C s .bound) self-bound))
+            rw (d, self₂) (told-cell (knownIn S M₁) s (λ a p n. refl) (λ p. refl) (λ m. edge-self (C s .eqn) s t (C s .bound) self-bound))
         go (no! j x) =
             let n = eqb-ne i s x in
-            rw (other₂ i n) (told-cell (known S M) i changed (λ p. changed i p (λ f g. n f)) (λ m. edge i n m))
+            rw (other₂ i n) (told-cell (knownIn S M) i changed (λ p. changed i p (λ f g. n f)) (λ m. edge i n m))
           where
             edge : (i : ℕ) → (i ≡ s → ⊥) → t < C i .bound → Edge (C i .eqn) s t (C i .bound)
             edge i n m =
@@ -180,13 +182,13 @@ module _ (S : Streams) (M : State) (inv : Tracks S M) (s y : ℕ) (new : List Ev
   unfolding tell
   tell-one t v N = refl
 
-  cells₃-of : {x : ℕ} {es : List Event} → New (S s) (cellAt M s .bound) x es → y ≡ x → new ≡ es → (i : ℕ) → cellAt M₃ i ≡ withKept (keptOf (C i .eqn) (known S M₁) i (C i .bound)) (C i)
+  cells₃-of : {x : ℕ} {es : List Event} → New (S s) (cellAt M s .bound) x es → y ≡ x → new ≡ es → (i : ℕ) → cellAt M₃ i ≡ withKept (keptOf (C i .eqn) (knownIn S M₁) i (C i .bound)) (C i)
   cells₃-of (quiet l n) a b i =
       ap (λ es. cellAt (tell s es M₂) i) b ∙ ap (λ N. cellAt N i) (tell-none M₂) ∙ told-quiet (λ p j k. n p j (omega arith)) i
   cells₃-of (event {t} {v} l n e) a b i =
       ap (λ es. cellAt (tell s es M₂) i) b ∙ ap (λ N. cellAt N i) (tell-one t v M₂) ∙ told-event t v l n e a i
 
-  cells₃ : (i : ℕ) → cellAt M₃ i ≡ withKept (keptOf (C i .eqn) (known S M₁) i (C i .bound)) (C i)
+  cells₃ : (i : ℕ) → cellAt M₃ i ≡ withKept (keptOf (C i .eqn) (knownIn S M₁) i (C i .bound)) (C i)
   cells₃ = cells₃-of (rise .comes) refl refl
 
   -- ---- release
@@ -199,7 +201,7 @@ module _ (S : Streams) (M : State) (inv : Tracks S M) (s y : ℕ) (new : List Ev
   abbrev left : ℕ → List Event
   left i = cond (among i freed) (dropBelow (leastWaiting i M₃) (C i .held)) (C i .held)
 
-  cells₄ : (i : ℕ) → cellAt M₄ i ≡ withHeld (left i) (withKept (keptOf (C i .eqn) (known S M₁) i (C i .bound)) (C i))
+  cells₄ : (i : ℕ) → cellAt M₄ i ≡ withHeld (left i) (withKept (keptOf (C i .eqn) (knownIn S M₁) i (C i .bound)) (C i))
   cells₄ i = releases-at freed M₃ i ∙ rw (cells₃ i)
 
   bound₄ : (i : ℕ) → cellAt M₄ i .bound ≡ C i .bound
@@ -268,7 +270,7 @@ module _ (S : Streams) (M : State) (inv : Tracks S M) (s y : ℕ) (new : List Ev
   tracks₄ : Tracks S M₄
   tracks₄ = record {
     held = λ i. ap (λ c. c .held) (cells₄ i) ∙ rw (waiting₄ i, bound₄ i) (held₄ i);
-    kept = λ i. ap (λ c. c .kept) (cells₄ i) ∙ rw (eqn₄ i, bound₄ i) (kept-cong (C i .eqn) (known S M₁) (known S M₄) i (C i .bound) (λ j p l. ap (λ k. cut (S j) k p) (sym (bound₄ j))));
+    kept = λ i. ap (λ c. c .kept) (cells₄ i) ∙ rw (eqn₄ i, bound₄ i) (kept-cong (C i .eqn) (knownIn S M₁) (knownIn S M₄) i (C i .bound) (λ j p l. ap (λ k. cut (S j) k p) (sym (bound₄ j))));
     ahead = λ i. rw (eqn₄ i, bound₄ i) (ahead-grows (C i .eqn) M M₄ (C i .bound) (λ j. let x = C-up j in let z = bound₄ j in omega arith) (ahead₄ i));
     top = λ i. rw (bound₄ i) (C-cases (λ i c. c .bound ≤ horizon) (λ i n. inv .top i) (rise .top) i);
     taken = λ i. let e = ap (λ c. c .next) (cells₄ i) in let f = bound₄ i in let x = C-next i in let z = C-up i in let u = inv .taken i in omega arith;
@@ -278,5 +280,5 @@ module _ (S : Streams) (M : State) (inv : Tracks S M) (s y : ℕ) (new : List Ev
   raise-tracks = rw raise-is tracks₄
 
   -- every cell after the step
-  pub raise-cell : (i : ℕ) → cellAt (raise s y new M) i ≡ withHeld (dropBelow (leastWaiting i (raise s y new M)) (events (S i) (C i .bound))) (withKept (keptOf (C i .eqn) (known S M₁) i (C i .bound)) (C i))
-  raise-cell i = rw raise-is (cells₄ i ∙ ap (λ h. withHeld h (withKept (keptOf (C i .eqn) (known S M₁) i (C i .bound)) (C i))) (held₄ i ∙ ap (λ w. dropBelow w (events (S i) (C i .bound))) (sym (waiting₄ i))))
+  pub raise-cell : (i : ℕ) → cellAt (raise s y new M) i ≡ withHeld (dropBelow (leastWaiting i (raise s y new M)) (events (S i) (C i .bound))) (withKept (keptOf (C i .eqn) (knownIn S M₁) i (C i .bound)) (C i))
+  raise-cell i = rw raise-is (cells₄ i ∙ ap (λ h. withHeld h (withKept (keptOf (C i .eqn) (knownIn S M₁) i (C i .bound)) (C i))) (held₄ i ∙ ap (λ w. dropBelow w (events (S i) (C i .bound))) (sym (waiting₄ i))))

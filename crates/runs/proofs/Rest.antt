@@ -13,7 +13,8 @@ use native.Mathlib.Omega.{arith}
 use native.Mathlib.Decide.{decLt}
 use lib.Dec.{T, ltb, ltb→lt, T-not, not-T}
 use lib.ListN.{length}
-use Rattle.meaning.specs.Plan.{Eqn, input, nil, unit, one, two, last, delay, Plan, eqnAt, isInput, reads, undelayed, Each, argA, argB}
+use Rattle.meaning.specs.Plan.{Eqn, input, nil, unit, one, two, last, delay, Plan, eqnAt, isInput}
+use Rattle.meaning.specs.Arguments.{reads, undelayed, Each, argA, argB}
 use Rattle.meaning.specs.Events.{Event, Streams, found, events, has, horizon}
 use Rattle.meaning.proofs.Tests.{Is, yes!, no!, look, T-and-r, eqb-self}
 use Rattle.meaning.proofs.Clear.{clear, clear-args}
@@ -25,8 +26,9 @@ use Rattle.machine.proofs.Window.{past-le}
 use Rattle.machine.proofs.Rising.{Rising, events-rising, rising-dropped}
 use Rattle.machine.proofs.Release.{waiting-who}
 use Rattle.machine.proofs.Moves.{reach-gt, goal-gt, can-of, no-input}
+use Rattle.runs.specs.Inside.{knownIn}
 use Rattle.runs.proofs.Kept.{keptOf, pointOf, point-le}
-use Rattle.runs.proofs.Tracks.{known, Tracks}
+use Rattle.runs.proofs.Tracks.{Tracks}
 
 each-zip : (P Q R : ℕ → Type 0) → ((a : ℕ) → P a → Q a → R a) → (xs : List ℕ) → Each P xs → Each Q xs → Each R xs
 each-zip P Q R f [] h k = tt
@@ -57,7 +59,7 @@ module _ (S : Streams) (M : State) (inv : Tracks S M) (collected : (s : ℕ) →
       (m : ℕ) (top : m ≤ horizon) (inputs : (s : ℕ) → s < length M → T (isInput (C s .eqn)) → m ≤ C s .bound)
       (stuck : (s : ℕ) → s < length M → T (not (canMove s M))) where
     module _ (y : ℕ) (l : y < m) (all : (s : ℕ) → s < length M → y ≤ C s .bound) where
-      no-stop : (e : Eqn) (s : ℕ) → C s .bound ≡ y → Each (λ a. a < length M) (reads e) → C s .kept ≡ keptOf e (known S M) s (C s .bound) → T (not (stops e (C s) (C (argA e)) (C (argB e)) (C s .bound)))
+      no-stop : (e : Eqn) (s : ℕ) → C s .bound ≡ y → Each (λ a. a < length M) (reads e) → C s .kept ≡ keptOf e (knownIn S M) s (C s .bound) → T (not (stops e (C s) (C (argA e)) (C (argB e)) (C s .bound)))
       unfolding point
       no-stop input s b w k = tt
       no-stop nil s b w k = tt
@@ -72,8 +74,8 @@ module _ (S : Streams) (M : State) (inv : Tracks S M) (collected : (s : ℕ) →
           not-T (ltb (C a .bound) (point (C s) (C c) (C s .bound))) (λ x.
           let u = all a (w .0) in
           let v = ltb→lt (C a .bound) (point (C s) (C c) (C s .bound)) x in
-          let e : C s .kept .since ≡ pointOf (known S M c) (known S M s) (C s .bound) = ap (λ c. c .since) k in
-          let p = point-le (known S M c) (known S M s) (C s .bound) in
+          let e : C s .kept .since ≡ pointOf (knownIn S M c) (knownIn S M s) (C s .bound) = ap (λ c. c .since) k in
+          let p = point-le (knownIn S M c) (knownIn S M s) (C s .bound) in
           let r = past-le (view (C c)) (C s .bound) in
           absurd (omega arith))
 

@@ -16,7 +16,7 @@ use Rattle.machine.specs.Step.{advance, canMove, comesIn, move, raise}
 use Rattle.machine.specs.Calls.{Call, Outcome, noInput, offerReading}
 use Rattle.machine.proofs.Moves.{goal}
 use Rattle.machine.proofs.Outcomes.{unless-cases}
-use Rattle.runs.specs.History.{AllTyped}
+use Rattle.runs.specs.Seen.{AllTyped}
 use Rattle.runs.specs.Claim.{readings, final, Keeps}
 use Rattle.runs.proofs.World.{World, Agrees, Good}
 use Rattle.runs.proofs.Offers as offers

@@ -13,9 +13,11 @@ use Rattle.machine.specs.Reach.{pastLatest}
 use Rattle.machine.specs.Step.{leastWaiting}
 use Rattle.machine.specs.Calls.{Call, reading, progress, moving, running, collecting, call}
 use Rattle.machine.proofs.Rising.{drop-nil}
-use Rattle.runs.specs.History.{Typed, AllTyped}
+use Rattle.runs.specs.Demand3.{isOut}
+use Rattle.runs.specs.Seen.{Typed, AllTyped}
+use Rattle.runs.specs.Inside.{knownIn}
 use Rattle.runs.proofs.Kept.{keptOf}
-use Rattle.runs.proofs.Tracks.{known, Ahead, Tracks}
+use Rattle.runs.proofs.Tracks.{Ahead, Tracks}
 use Rattle.runs.proofs.World.{World, start, then, worlds, Good}
 use Rattle.runs.proofs.Offers.{offer-reading-good, offer-progress-good}
 use Rattle.runs.proofs.Moving.{move-one-good, run-good}
@@ -27,6 +29,12 @@ unfolding loaded
 loaded-cell [] s = (record { eqn = nil; out = false }, refl, refl)
 loaded-cell (d ∷ ds) zero = (d, refl, refl)
 loaded-cell (d ∷ ds) (suc s) = loaded-cell ds s
+
+loaded-out : (ds : List Declared) (s : ℕ) → cellAt (loaded ds) s .out ≡ isOut ds s
+unfolding loaded
+loaded-out [] s = refl
+loaded-out (d ∷ ds) zero = refl
+loaded-out (d ∷ ds) (suc s) = loaded-out ds s
 
 loaded-size : (ds : List Declared) → length (loaded ds) ≡ length ds
 unfolding loaded
@@ -54,7 +62,7 @@ fresh-ahead (delay a b) M = omega arith
 pub loaded-tracks : (ds : List Declared) (S : Streams) → Tracks S (loaded ds)
 loaded-tracks ds S = record {
   held = λ s. let c = loaded-cell ds s .1 in rw c (sym (drop-nil (leastWaiting s (loaded ds))));
-  kept = λ s. let c = loaded-cell ds s in rw (c .1) (fresh-kept (c .0 .eqn) (known S (loaded ds)) s);
+  kept = λ s. let c = loaded-cell ds s in rw (c .1) (fresh-kept (c .0 .eqn) (knownIn S (loaded ds)) s);
   ahead = λ s. let c = loaded-cell ds s in rw (c .1) (fresh-ahead (c .0 .eqn) (loaded ds));
   top = λ s. let c = loaded-cell ds s .1 in rw c (omega arith);
   taken = λ s. let c = loaded-cell ds s .1 in rw c (omega arith);
@@ -63,7 +71,7 @@ loaded-tracks ds S = record {
 module _ (ds : List Declared) where
   pub start-good : Good ds (start ds)
   start-good = record {
-    shape = record { size = loaded-size ds; eqns = λ s. let c = loaded-cell ds s in ap (λ x. x .eqn) (c .1) ∙ sym (c .2); outs = λ s. refl };
+    shape = record { size = loaded-size ds; eqns = λ s. let c = loaded-cell ds s in ap (λ x. x .eqn) (c .1) ∙ sym (c .2); outs = loaded-out ds };
     inputs = λ s i. let c = loaded-cell ds s .1 in rw c;
     above = λ s t l. refl;
     right = λ rd S sol a. record {

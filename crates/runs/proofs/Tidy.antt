@@ -8,7 +8,8 @@ use Prim.Native.Nat.{ℕ, zero, suc, pred, _≤_, _<_, min, max}
 use native.Mathlib.Omega.{arith}
 use native.Mathlib.Decide.{decLt}
 use lib.Dec.{eqb, eqb→eq}
-use Rattle.meaning.specs.Plan.{Eqn, input, nil, unit, one, two, last, delay, reads, Each, argA, argB}
+use Rattle.meaning.specs.Plan.{Eqn, input, nil, unit, one, two, last, delay}
+use Rattle.meaning.specs.Arguments.{reads, Each, argA, argB}
 use Rattle.meaning.specs.Events.{Streams, events, orElse}
 use Rattle.meaning.specs.Table.{latest}
 use Rattle.meaning.proofs.Tests.{Is, yes!, no!, look, eqb-self}
@@ -19,8 +20,9 @@ use Rattle.machine.specs.Step.{later, dropBelow, leastWaiting}
 use Rattle.machine.proofs.Cells.{ne-eqb, eqb-ne}
 use Rattle.machine.proofs.Window.{Seen, seen-or, or-none, latest-flat, latest-seam, past-cong, past-flat, past-below, past-seam}
 use Rattle.machine.proofs.Rising.{drop-again}
-use Rattle.runs.proofs.Kept.{keptOf, below, pointOf, point-le}
-use Rattle.runs.proofs.Tracks.{cut-no, known, Ahead, Tracks}
+use Rattle.runs.specs.Inside.{knownIn, below}
+use Rattle.runs.proofs.Kept.{keptOf, pointOf, point-le}
+use Rattle.runs.proofs.Tracks.{cut-no, Ahead, Tracks}
 use Rattle.runs.proofs.Decide.{shows-now, floor-read}
 
 -- ---- tidying
@@ -157,7 +159,7 @@ pub tracks-tidy : (S : Streams) (M : State) → Tracks S M → (i : ℕ) → tid
 tracks-tidy S M inv i =
     let o = cellAt M i in
     let k : refreshed (o .eqn) o (cellAt M (argA (o .eqn))) (cellAt M (argB (o .eqn))) ≡ o .kept =
-    refreshed-is (known S M) (known S M) (λ j. cellAt M j .bound) (λ j. min (leastWaiting j M) (cellAt M j .bound)) (λ j. cellAt M j) i (o .bound) (λ j p l. refl) (λ j p l. cut-no (S j) (cellAt M j .bound) p l)
+    refreshed-is (knownIn S M) (knownIn S M) (λ j. cellAt M j .bound) (λ j. min (leastWaiting j M) (cellAt M j .bound)) (λ j. cellAt M j) i (o .bound) (λ j p l. refl) (λ j p l. cut-no (S j) (cellAt M j .bound) p l)
     (λ j. omega arith) (shows-now S M inv) refl refl (o .eqn) (floor-read S M inv i) (near-of (o .eqn) M (o .bound) (inv .ahead i)) (inv .kept i)
     ∙ sym (inv .kept i) in
     let h : dropBelow (leastWaiting i M) (o .held) ≡ o .held = ap (dropBelow (leastWaiting i M)) (inv .held i) ∙ drop-again (leastWaiting i M) (leastWaiting i M) (events (S i) (o .bound)) (omega arith) ∙ sym (inv .held i) in

@@ -2,7 +2,6 @@
 -- Each stream holds its events from the least waiting reader on and below its bound; what is kept is what is known below
 -- the bound; a delay is at most one ahead of its second argument.
 use mathlib.Core.Path.{_≡_, refl, sym, _∙_, ap}
-use mathlib.Core.Bool.{cond}
 use mathlib.Core.Option.{none, some}
 use mathlib.Core.List.{List, [], _∷_, _++_, append-nil}
 use Prim.Native.Nat.{ℕ, suc, _≤_, _<_, min}
@@ -21,22 +20,16 @@ use Rattle.machine.proofs.Cells.{ne-eqb}
 use Rattle.machine.proofs.Window.{Seen, or-none}
 use Rattle.machine.proofs.Rising.{Rising, events-rising, events-some, events-flat, found-append, found-events, found-low, found-high, found-drop, rising-drop, rising-dropped}
 use Rattle.machine.proofs.Release.{waiting-le-next}
+use Rattle.runs.specs.Inside.{cut, knownIn}
 use Rattle.runs.proofs.Kept.{keptOf}
 
 -- ---- what is known of a stream below k
-
-abbrev pub cut : Stream → ℕ → Stream
-cut f k p = cond (ltb p k) (f p) none
 
 pub cut-yes : (f : Stream) (k p : ℕ) → p < k → cut f k p ≡ f p
 cut-yes f k p l = rw (true-is (ltb p k) (lt→ltb p k l))
 
 pub cut-no : (f : Stream) (k p : ℕ) → k ≤ p → cut f k p ≡ none
 cut-no f k p l = rw (false-is (ltb p k) (not-T (ltb p k) (λ y. let z = ltb→lt p k y in absurd (omega arith))))
-
--- what is known in a state
-abbrev pub known : Streams → State → Streams
-known S M i = cut (S i) (cellAt M i .bound)
 
 -- ---- the invariant
 
@@ -52,7 +45,7 @@ Ahead (delay a b) M y = y ≤ suc (cellAt M b .bound)
 
 pub record Tracks (S : Streams) (M : State) : Type 0 where
   pub held : (s : ℕ) → cellAt M s .held ≡ dropBelow (leastWaiting s M) (events (S s) (cellAt M s .bound))
-  pub kept : (s : ℕ) → cellAt M s .kept ≡ keptOf (cellAt M s .eqn) (known S M) s (cellAt M s .bound)
+  pub kept : (s : ℕ) → cellAt M s .kept ≡ keptOf (cellAt M s .eqn) (knownIn S M) s (cellAt M s .bound)
   pub ahead : (s : ℕ) → Ahead (cellAt M s .eqn) M (cellAt M s .bound)
   pub top : (s : ℕ) → cellAt M s .bound ≤ horizon
   pub taken : (s : ℕ) → cellAt M s .next ≤ cellAt M s .bound

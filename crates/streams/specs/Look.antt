@@ -1,4 +1,4 @@
--- A raw record read as a cell with its bound and its set point within their ranges, and the struct that it is rebuilt into.
+-- How: a raw record read as a cell with its bound and its set point within their ranges, and the struct that it is rebuilt into.
 use Prim.Native.Nat.{ℕ, _≤_, min}
 use mathlib.Core.Path.{_≡_}
 use mathlib.Core.Bool.{false}

@@ -8,7 +8,7 @@ ghost use mir.Val.{toZ};
 ghost use Rattle.meaning.specs.Plan.{calc, one, two};
 ghost use Rattle.meaning.specs.Events.{horizon};
 ghost use Rattle.machine.specs.State.{noKept};
-ghost use Rattle.meaning.specs.Plan.{argA, argB};
+ghost use Rattle.meaning.specs.Arguments.{argA, argB};
 ghost use Rattle.operators.specs.Operators.{eqnOf};
 ghost use Rattle.layout.specs.Record.{decRaw, num, kF};
 ghost use Rattle.encoding.specs.Back as cells;

@@ -1,4 +1,4 @@
--- The grammar of plan text, over the form of its lines.
+-- Believe: the grammar of plan text, over the form of its lines.
 use Prim.Native.Nat.{ℕ, zero, suc, _+_}
 use mathlib.Core.Bool.{Bool, true, false, cond, _&&_}
 use mathlib.Core.List.{List, [], _∷_, map}

@@ -1,4 +1,4 @@
--- How the code looks a name up: its bytes as one number, the first the lowest.
+-- How: a name looked up: its bytes as one number, the first the lowest.
 use Prim.Native.Nat.{ℕ, _+_, _*_}
 use mathlib.Core.Bool.{cond}
 use mathlib.Core.List.{List, [], _∷_, map}

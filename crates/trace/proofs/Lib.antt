@@ -1,2 +1,4 @@
 pub mod Bounds
 pub mod Ends
+pub mod Fits
+pub mod CasesHold

@@ -1,4 +1,4 @@
--- The grammar of a trace: what line stands at a position, and where it ends.
+-- Believe: the grammar of a trace: what line stands at a position, and where it ends.
 use Prim.Native.Nat.{ℕ}
 use mathlib.Core.Bool.{cond}
 use mathlib.Core.List.{List, [], _∷_}

@@ -13,8 +13,9 @@ use mir.Syntax.{w64}
 use mir.Val.{toZ}
 use Rattle.le.specs.Bytes.{part}
 use Rattle.le.proofs.Laws.{le-one}
-use Rattle.meaning.specs.Plan.{Eqn, eqnAt, undelayed, argA, argB, AllBelow}
-use Rattle.meaning.specs.Cycle.{acyclic}
+use Rattle.meaning.specs.Plan.{Eqn, eqnAt}
+use Rattle.meaning.specs.Arguments.{undelayed, argA, argB, AllBelow}
+use Rattle.meaning.specs.CycleTest.{acyclic}
 use Rattle.machine.specs.State.{planOf}
 use Rattle.operators.specs.Operators.{operatorCount, isOperator, eqnOf, numberOf}
 use Rattle.operators.specs.Rules.{fieldsOk}

@@ -5,15 +5,15 @@ use mathlib.Core.List.{List, _∷_}
 use mathlib.Core.Bool.{Bool, true, false, not, cond, _&&_}
 use native.Mathlib.Omega.{arith}
 use native.Mathlib.Nat.{add-zero}
-use lib.Dec.{eqb, leb}
+use lib.Dec.{eqb, ltb, leb}
 use lib.ListN.{length, getD, take, drop}
 use lib.Seq.{drop-cons, drop-drop, getD-drop}
 use borrow.Author.Tests.{eq-eqb, ne-eqb, not-true, not-false, leb-true}
 use Rattle.le.specs.Bytes.{part}
-use Rattle.layout.specs.Record.{Slot, Raw, noSlot, num, countF, boundF, outF, nextF, smallF, lastF}
+use Rattle.layout.specs.Record.{Slot, Raw, noSlot, num, slotAt, countF, boundF, outF, nextF, smallF, lastF}
 use Rattle.machine.specs.State.{room}
 use Rattle.meaning.specs.Events.{horizon}
-use Rattle.valid.specs.Valid.{nextOk, sizesOk, risen, allRows, streamsIn}
+use Rattle.valid.specs.Valid.{nextOk, sizesOk, risen, ownOk, allRows, streamsIn}
 
 -- ---- a test p that the code has as b
 
@@ -63,6 +63,17 @@ risen-turn top low n i l h k =
     let f : i + 1 ≡ suc i = omega arith in
     ap₂ (risen top low) e (drop-cons l i noSlot (omega arith)) ∙ risen-more top low (n - (i + 1)) (getD l i noSlot) (drop (suc i) l)
     ∙ ap (λ (j : ℕ). leb low (getD l i noSlot .stamp) && risen top (getD l i noSlot .stamp + 1) (n - (i + 1)) (drop j l)) (sym f)
+
+-- ---- the newest held event
+
+pub own-none : (since : ℕ) (r : Raw) → num countF r ≡ 0 → true ≡ ownOk since r
+unfolding ownOk
+own-none since r e = rw (eq-eqb (num countF r) 0 e)
+
+-- n and t as the code read them
+pub own-some : (since n t : ℕ) (r : Raw) → n ≡ num countF r → (n ≡ 0 → ⊥) → t ≡ slotAt (n - 1) r .stamp → ltb t since ≡ ownOk since r
+unfolding ownOk
+own-some since n t r e h q = rw (q, sym e, ne-eqb n 0 h)
 
 -- ---- rows
 

@@ -1,5 +1,5 @@
--- What number 15 tests, reason by reason.
-use Prim.Native.Nat.{ℕ, zero, suc, _+_, _*_}
+-- How: what number 15 tests, reason by reason.
+use Prim.Native.Nat.{ℕ, zero, suc, _+_, _-_, _*_}
 use mathlib.Core.List.{List, [], _∷_}
 use mathlib.Core.Bool.{Bool, true, cond, _&&_, not}
 use lib.ListN.{length, getD, take, drop, replicate}
@@ -9,12 +9,12 @@ use lib.Dec.{ltb, eqb, leb}
 use Rattle.le.specs.Bytes.{allZero}
 use Rattle.meaning.specs.Plan.{Plan}
 use Rattle.meaning.specs.Events.{horizon}
-use Rattle.meaning.specs.Cycle.{acyclic}
+use Rattle.meaning.specs.CycleTest.{acyclic}
 use Rattle.machine.specs.State.{room, planOf}
 use Rattle.operators.specs.Operators.{groupOf, isLast, isDelay, isOperator}
 use Rattle.operators.specs.Rules.{fieldsOk}
 use Rattle.operators.specs.Limits.{capacity}
-use Rattle.layout.specs.Record.{Slot, Raw, num, decRaw, opF, aF, bF, outF, countF, flagF, priorFlagF, smallF, kF, boundF, nextF, keptF, valueF, priorF, lastF}
+use Rattle.layout.specs.Record.{Slot, Raw, num, slotAt, decRaw, opF, aF, bF, outF, countF, flagF, priorFlagF, smallF, kF, boundF, nextF, keptF, valueF, priorF, lastF}
 use Rattle.encoding.specs.Back.{stateOf}
 use Rattle.valid.specs.declared.Tested.{Tested}
 use Rattle.valid.specs.declared.Tested.the-variants as Tested
@@ -62,13 +62,19 @@ lastOk r =
     && (noneIf (num boundF r) (num flagF r)
     && (eqb (num priorFlagF r) 0 && (eqb (num valueF r) 0 && eqb (num priorF r) 0)))
 
+-- "A set point of a delay is a stamp at which b or the delay itself has an event": the newest held one lies below since
+unfoldable pub ownOk : ℕ → Raw → Bool
+ownOk since r = cond (eqb (num countF r) 0) true (ltb (slotAt (num countF r - 1) r .stamp) since)
+
 unfoldable pub delayOk : Raw → Bool
+unfolding ownOk
 delayOk r =
     flagOk (num flagF r) (num valueF r)
     && (flagOk (num priorFlagF r) (num priorF r)
     && (noneIf (num keptF r) (num flagF r)
     && (noneIf (num boundF r) (num priorFlagF r)
-    && leb (num keptF r) (num boundF r))))
+    && (ownOk (num keptF r) r
+    && leb (num keptF r) (num boundF r)))))
 
 unfoldable pub keptOk : Raw → Bool
 unfolding lastOk delayOk noneOk

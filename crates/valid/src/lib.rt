@@ -4,8 +4,8 @@ ghost use Prim.Native.Nat.{_+_, _*_, _≤_, _<_};
 ghost use lib.ListN.{length};
 ghost use Rattle.operators.specs.Limits.{mostStreams, capacity};
 ghost use Rattle.machine.specs.State.{room};
-ghost use Rattle.layout.specs.Record.{decRaw};
-ghost use Rattle.valid.specs.Valid.{planOk, nextOk, sizesOk, risen, flagOk, noneIf, noneOk, lastOk, delayOk, keptOk, rowOk, allRows, streamsIn, count, noted, clearIn, tested};
+ghost use Rattle.layout.specs.Record.{num, countF, decRaw};
+ghost use Rattle.valid.specs.Valid.{planOk, nextOk, sizesOk, risen, flagOk, noneIf, noneOk, lastOk, ownOk, delayOk, keptOk, rowOk, allRows, streamsIn, count, noted, clearIn, tested};
 use cycle::GRAPH;
 use limits::Bound;
 use limits::Queue;
@@ -143,8 +143,20 @@ fn last_ok(r: &[u8]) -> bool
     layout::word_at(r, layout::PRIOR) == 0
 }
 
+// Whether a delay's newest held event, a set point, lies below since.
+fn own_ok(r: &[u8], since: u64) -> bool
+    requires { ⌜ (length (now r) ≡ 256) × (num countF (decRaw (now r)) ≤ room) ⌝ }
+    ensures { λ x. ⌜ x ≡ ownOk since (decRaw (now (r .entry))) ⌝ }
+{
+    let count = layout::byte_at(r, layout::COUNT) as usize;
+    if count == 0 {
+        return true;
+    }
+    layout::stamp_at(r, count - 1) < since
+}
+
 fn delay_ok(r: &[u8]) -> bool
-    requires { ⌜ length (now r) ≡ 256 ⌝ }
+    requires { ⌜ (length (now r) ≡ 256) × (num countF (decRaw (now r)) ≤ room) ⌝ }
     ensures { λ x. ⌜ x ≡ delayOk (decRaw (now (r .entry))) ⌝ }
 {
     let flag = layout::byte_at(r, layout::FLAG);
@@ -163,11 +175,14 @@ fn delay_ok(r: &[u8]) -> bool
     if !none_if(bound, prior_flag) {
         return false;
     }
+    if !own_ok(r, since) {
+        return false;
+    }
     since <= bound
 }
 
 fn kept_ok(r: &[u8]) -> bool
-    requires { ⌜ length (now r) ≡ 256 ⌝ }
+    requires { ⌜ (length (now r) ≡ 256) × (num countF (decRaw (now r)) ≤ room) ⌝ }
     ensures { λ x. ⌜ x ≡ keptOk (decRaw (now (r .entry))) ⌝ }
 {
     let op = layout::byte_at(r, layout::OP);

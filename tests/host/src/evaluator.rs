@@ -59,7 +59,7 @@ impl Table<'_> {
         }
     }
 
-    /// "The delay fires at t exactly if for some set point p < t the stream a has value t − p at p, and b has no event
+    /// "The delay fires [..] at t exactly if for some set point p < t the stream a has value t − p at p, and b has no event
     /// strictly between p and t."
     fn fires(&self, s: usize, a: usize, b: usize, t: u32) -> bool {
         self.due.iter().filter(|(stream, _)| *stream == a).any(|(_, p)| {
@@ -69,7 +69,7 @@ impl Table<'_> {
     }
 }
 
-/// "A result outside the value range gives no event."
+/// "A result outside the value range [..] gives no event."
 fn within(x: i128) -> Option<i64> {
     i64::try_from(x).ok()
 }

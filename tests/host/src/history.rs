@@ -138,7 +138,7 @@ impl Session {
         true
     }
 
-    /// "The events handed out of each output are a beginning of what the definition gives for the accepted readings."
+    /// "the events handed out of each output are a beginning of what the definition gives for the accepted readings"
     /// False if the definition has too many events to look at.
     pub fn check_beginning(&self) -> bool {
         let last = self.handed.iter().flatten().map(|(t, _)| *t as u64).max();

@@ -1,8 +1,10 @@
-//! What the host tests share: the definition's evaluator, the two engines, a model on whole histories, random plans.
+//! What the host tests share: the definition's evaluator, the two engines, a model on whole histories and one on any state,
+//! random plans.
 
 pub mod buffer;
 pub mod engine;
 pub mod evaluator;
+pub mod found;
 pub mod history;
 pub mod layout;
 pub mod model;

@@ -3,7 +3,7 @@
 
 use crate::engine::{Answer, Call};
 use crate::evaluator::{Events, HORIZON};
-use crate::plan::{Op, Plan};
+use crate::plan::{Op, Plan, Stream};
 
 #[derive(Clone)]
 pub struct Model {
@@ -59,25 +59,6 @@ impl Model {
         let at = |i: usize| self.events[i].get(&(t as u32)).copied();
         let (x, z) = (at(stream.a), at(stream.b));
         match stream.op {
-            Op::In | Op::Nil => None,
-            Op::Unit => (t == 0).then_some(0),
-            Op::Time => x.map(|_| t as i64),
-            Op::Set => x.map(|_| stream.k),
-            Op::Plus => x?.checked_add(stream.k),
-            Op::Neg => x?.checked_neg(),
-            Op::Add => x?.checked_add(z?),
-            Op::Sub => x?.checked_sub(z?),
-            Op::Mul => x?.checked_mul(z?),
-            Op::Div => x?.checked_div(z?),
-            Op::Rem => match (x?, z?) {
-                (_, -1) => Some(0),
-                (x, z) => x.checked_rem(z),
-            },
-            Op::Lt => Some((x? < z?) as i64),
-            Op::Le => Some((x? <= z?) as i64),
-            Op::Eq => Some((x? == z?) as i64),
-            Op::Keep => x.filter(|_| z.is_some_and(|z| z != 0)),
-            Op::Merge => x.or(z),
             Op::Last => z.and_then(|_| self.events[stream.a].range(..t as u32).next_back().map(|(_, v)| *v)),
             Op::Delay => {
                 let due = |p: u64, v: i64| v > 0 && p + v as u64 == t;
@@ -88,6 +69,7 @@ impl Model {
                     .any(|(p, v)| *v as i128 <= HORIZON as i128 && due(*p as u64, *v) && set(p) && quiet(*p));
                 fires.then_some(0)
             }
+            _ => at_one_stamp(stream, t, x, z),
         }
     }
 
@@ -194,5 +176,31 @@ impl Model {
             }
         }
         Answer::default()
+    }
+}
+
+/// The table's rows of document 01 that look at one stamp alone: all but last and delay. x and z are the arguments' events.
+pub fn at_one_stamp(stream: Stream, t: u64, x: Option<i64>, z: Option<i64>) -> Option<i64> {
+    match stream.op {
+        Op::In | Op::Nil => None,
+        Op::Unit => (t == 0).then_some(0),
+        Op::Time => x.map(|_| t as i64),
+        Op::Set => x.map(|_| stream.k),
+        Op::Plus => x?.checked_add(stream.k),
+        Op::Neg => x?.checked_neg(),
+        Op::Add => x?.checked_add(z?),
+        Op::Sub => x?.checked_sub(z?),
+        Op::Mul => x?.checked_mul(z?),
+        Op::Div => x?.checked_div(z?),
+        Op::Rem => match (x?, z?) {
+            (_, -1) => Some(0),
+            (x, z) => x.checked_rem(z),
+        },
+        Op::Lt => Some((x? < z?) as i64),
+        Op::Le => Some((x? <= z?) as i64),
+        Op::Eq => Some((x? == z?) as i64),
+        Op::Keep => x.filter(|_| z.is_some_and(|z| z != 0)),
+        Op::Merge => x.or(z),
+        Op::Last | Op::Delay => unreachable!("looks back"),
     }
 }

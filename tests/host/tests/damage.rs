@@ -1,9 +1,10 @@
-//! Texts and states damaged at random: the library's numbers, results and buffers are those of the plain C engine, nothing is
-//! written on a refusal, nothing outside the lent buffers is touched.
+//! Texts and states damaged at random: the library's numbers, results and buffers are those of the plain C engine and, on
+//! states, of the model of any state; nothing is written on a refusal, nothing outside the lent buffers is touched.
 
 use host::buffer::Lent;
 use host::engine::{engines, Answer, Call, STATE_LENGTH};
 use host::evaluator::HORIZON;
+use host::found::Found;
 use host::history::Session;
 use host::plan::{parse, text_of};
 use host::random::{plan, rounds, seed, Random};
@@ -160,8 +161,47 @@ fn damage(random: &mut Random, state: &mut [u8], streams: usize) {
     }
 }
 
+/// A delay as no call leaves it: ahead of its second argument, with events of its own, since near the newest or anywhere.
+fn ahead(random: &mut Random, state: &mut [u8], streams: usize) {
+    let delays: Vec<usize> = (0..streams).filter(|s| state[256 * s] == 19).collect();
+    if delays.is_empty() {
+        return;
+    }
+    let s = random.pick(&delays);
+    let record = 256 * s;
+    let b = state[record + 2] as usize;
+    let known = if b < streams { host::layout::bound(state, b).min(400) } else { 0 };
+    let bound = known + random.below(30);
+    put(state, record + 16, &bound.to_le_bytes());
+    put(state, record + 24, &[0; 8]);
+    state[record + 64..record + 256].fill(0);
+    let mut stamps: Vec<u32> = (0..random.below(4)).map(|_| random.below(bound + 1) as u32).filter(|t| (*t as u64) < bound).collect();
+    stamps.sort();
+    stamps.dedup();
+    for (j, t) in stamps.iter().enumerate() {
+        put(state, record + 64 + 12 * j, &t.to_le_bytes());
+    }
+    state[record + 4] = stamps.len() as u8;
+    let newest = stamps.last().map_or(0, |t| *t as u64 + 1);
+    let since = match random.below(8) {
+        0 => newest.saturating_sub(1),
+        1..=3 => newest,
+        4 => (newest + 1).min(bound),
+        _ => newest + random.below(bound - newest + 1),
+    };
+    put(state, record + 32, &since.to_le_bytes());
+    for (flag, at, is) in [(5, 40, since > 0), (6, 48, bound > 0)] {
+        state[record + flag] = (is && random.chance(60)) as u8;
+        let value = if state[record + flag] == 1 { 1 + random.below(25) as i64 } else { 0 };
+        put(state, record + at, &value.to_le_bytes());
+    }
+}
+
 #[test]
 fn damaged_states() {
+    // delays with events of their own: since below one past the newest, at it, above it; b's reading told at or above since,
+    // just below the bound and lower; told before since
+    let (mut below, mut at, mut above, mut edge, mut lower, mut before_since) = (0u64, 0u64, 0u64, 0u64, 0u64, 0u64);
     let (mut good, mut bad, mut moves, mut done) = (0u64, 0u64, 0u64, [0u64; 5]);
     for round in 0..rounds(15_000) {
         let mut random = Random::of(11, round);
@@ -180,18 +220,28 @@ fn damaged_states() {
         }
         for _ in 0..4 {
             let mut bytes = session.state().to_vec();
-            for _ in 0..1 + random.below(3) {
+            let of_a_delay = random.chance(50);
+            for _ in 0..(!of_a_delay) as u64 + random.below(3) {
                 damage(&mut random, &mut bytes, plan.len());
+            }
+            if of_a_delay {
+                ahead(&mut random, &mut bytes, plan.len());
             }
             let mut states = [Lent::of(&bytes), Lent::of(&bytes)];
             // a list of calls on the damaged state, which may go on as one that no call leaves
             for _ in 0..12 {
                 let before = states[0].to_vec();
-                let s = random.below(plan.len() as u64 + 1) as u32;
+                let mut s = random.below(plan.len() as u64 + 1) as u32;
+                // often the second argument of a delay, for a reading below the delay's bound
+                let seconds: Vec<usize> = (0..plan.len()).filter(|&d| before[256 * d] == 19).collect();
+                if !seconds.is_empty() && random.chance(20) {
+                    s = before[256 * random.pick(&seconds) + 2] as u32;
+                }
                 let own = (s as usize).min(plan.len() - 1);
                 let bound = host::layout::bound(&before, own).min(HORIZON);
+                let far = if random.chance(50) { 3 } else { 20 };
                 let (kind, call) = match random.below(10) {
-                    0..=1 => (0, Call::Reading(s, (bound + random.below(3)).saturating_sub(1).min(u32::MAX as u64) as u32, random.value())),
+                    0..=1 => (0, Call::Reading(s, (bound + random.below(far)).saturating_sub(1).min(u32::MAX as u64) as u32, random.value())),
                     2 => (1, Call::Progress(s, (bound + random.below(5)).saturating_sub(1))),
                     3..=5 => (2, Call::Move(s)),
                     6..=7 => (3, Call::Run(random.below(20) as u32)),
@@ -201,6 +251,28 @@ fn damaged_states() {
                     engines().iter().zip(&mut states).map(|(engine, state)| engine.call(state, call)).collect();
                 let story = || format!("seed {} round {round}: {call:?} on\n{}", seed(), shown(&before, plan.len()));
                 assert_eq!(answers[0], answers[1], "library and reference, {}", story());
+                let found = Found::read(&before);
+                let (wanted, after) = match found.clone() {
+                    None => (Answer { number: 15, ..Answer::default() }, before.clone()),
+                    Some(mut found) => (found.call(call), found.bytes()),
+                };
+                assert_eq!(answers[0], wanted, "library and model, {}", story());
+                assert!(states[0][..] == after[..], "library and model leave other states, {}\nlibrary\n{}\nmodel\n{}", story(), shown(&states[0], plan.len()), shown(&after, plan.len()));
+                for d in (0..plan.len()).filter(|&d| before[256 * d] == 19) {
+                    let newest = host::layout::held(&before, d).last().map(|(t, _)| *t as u64 + 1);
+                    let since = u64::from_le_bytes(before[256 * d + 32..256 * d + 40].try_into().unwrap());
+                    if let Some(newest) = newest {
+                        below += (since < newest) as u64;
+                        at += (since == newest && found.is_some()) as u64;
+                        above += (since > newest && found.is_some()) as u64;
+                    }
+                    if let (Call::Reading(s, t, _), 0, true) = (call, wanted.number, before[256 * d + 2] as u32 == s) {
+                        let (t, y) = (t as u64, host::layout::bound(&before, d));
+                        edge += (t >= since && t + 1 == y) as u64;
+                        lower += (t >= since && t + 1 < y) as u64;
+                        before_since += (t < since) as u64;
+                    }
+                }
                 assert!(states[0][..] == states[1][..], "library and reference leave other states, {}\nlibrary\n{}\nreference\n{}", story(), shown(&states[0], plan.len()), shown(&states[1], plan.len()));
                 if answers[0].number != 0 {
                     assert!(states[0][..] == before[..], "written on a refusal, {}", story());
@@ -218,7 +290,14 @@ fn damaged_states() {
         }
     }
     println!("seed {}: {good} calls on damaged states that are taken, {bad} refused 15, done by kind {done:?}, {moves} moves in runs", seed());
+    println!(
+        "seed {}: delays with events of their own, since below {below}, at {at}, above {above}; b's readings just below the bound \
+         {edge}, lower {lower}, before since {before_since}",
+        seed()
+    );
     assert!(good > bad && moves > 0 && done.iter().all(|&count| count > 0));
+    let reached = [below, at, above, edge, lower, before_since];
+    assert!(reached.iter().all(|&count| count > 0) || rounds(15_000) < 15_000, "a kind of state was never met: {reached:?}");
 }
 
 /// The records of a state, for a message.

@@ -2,7 +2,7 @@ use mathlib.Core.Path.{sym, ap, _∙_}
 use Prim.Native.Nat.{_*_}
 use denote.Ref.{now}
 use lib.Seq.{sets}
-use Rattle.meaning.specs.Plan.{prompts}
+use Rattle.meaning.specs.Arguments.{prompts}
 use Rattle.operators.specs.Operators.{argumentsOf}
 use Rattle.operators.proofs.Arms.{bare-prompts, late-prompts}
 use Rattle.cycle.specs.Graph.{entryBy, entryOf}

@@ -1,6 +1,6 @@
 use mathlib.Core.Path.{sym, ap, _∙_}
 use denote.Ref.{now}
-use Rattle.meaning.specs.Plan.{reads}
+use Rattle.meaning.specs.Arguments.{reads}
 use Rattle.layout.specs.Record.{encode, decode}
 use Rattle.streams.specs.declared.Op.{Op}
 use Rattle.streams.specs.Look.{equation}

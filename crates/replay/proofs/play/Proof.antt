@@ -1,15 +1,9 @@
-use mathlib.Core.List.{[]}
-use Rattle.replay.specs.Played.{none}
-use Rattle.replay.proofs.Order
+-- `replay::play` meets its contract.
+use Rattle.replay.proofs.Hand.{trailed-none}
+use Rattle.replay.proofs.Whole.{settled-played}
 use borrow.Author.Needs.{needs}
 use Rattle.replay.proofs.play.Statement.{statement}
 use Rattle.replay.proofs.play.Tie as tie
-use Rattle.replay.proofs.play.Reads as reads
-use Rattle.replay.proofs.play.Lts as lts
-use Rattle.libc.proofs.close.Reads as close-reads
-use Rattle.replay.proofs.open.Reads as open-reads
-use Rattle.replay.proofs.replay_trace.Reads as replay-trace-reads
-use Rattle.replay.proofs.settle.Reads as settle-reads
 
 settle-requires : tie.Need-settle-requires
 settle-requires c κs = search needs
@@ -24,7 +18,7 @@ same-length : tie.Need-same-length
 same-length c = search needs
 
 returns : tie.Need-returns
-returns c = let p = Order.played (c .before .before .before .before .before .settle .ensures) none in ([], p .0, p .1)
+returns c = settled-played (c .before .before .before .before .before .settle .ensures) (trailed-none (c .before .before .before .before .before .before .before .before .args .n) (c .before .before .before .before .before .settle .last .0))
 
 replay-trace-requires : tie.Need-replay-trace-requires
 replay-trace-requires c κs = search needs
@@ -36,7 +30,7 @@ same-length-2 : tie.Need-same-length-2
 same-length-2 c = search needs
 
 returns-2 : tie.Need-returns-2
-returns-2 c = let x = c .before .before .before .replay-trace .ensures in let p = Order.played (c .before .before .before .before .before .before .before .before .before .before .settle .ensures) (x .1) in (x .0, p .0, p .1)
+returns-2 c = settled-played (c .before .before .before .before .before .before .before .before .before .before .settle .ensures) (c .before .before .before .replay-trace .ensures)
 
 pub play-spec : {M : Type 1} → statement M
 play-spec =

@@ -11,9 +11,6 @@ use Rattle.replay.proofs.ready.Tie as tie
 sub-left : tie.Need-sub-left
 sub-left c = search needs
 
-returns : tie.Need-returns
-returns c = search needs
-
 shift-requires : tie.Need-shift-requires
 shift-requires c κs = search needs
 
@@ -29,26 +26,25 @@ part-read-full-end c = search needs
 read-full-requires : tie.Need-read-full-requires
 read-full-requires c κs = search needs
 
-add-t12 : tie.Need-add-t12
-add-t12 c = search needs
+add-result : tie.Need-add-result
+add-result c = search needs
 
 same-length : tie.Need-same-length
 same-length c = search needs
 
-returns-2 : tie.Need-returns-2
-returns-2 c = (search needs, kept (now (c .before .before .before .before .before .before .before .before .before .before .args .buffer)) (c .before .before .before .before .before .before .shift .last .0) (c .before .before .read-full .last .1 .0) (c .before .before .before .before .before .before .before .before .before .before .args .from) (c .before .before .before .before .before .before .before .before .before .before .args .end - c .before .before .before .before .before .before .before .before .before .before .args .from) (length (c .before .before .before .before .before .before .shift .last .0) - (c .before .before .before .before .before .before .before .before .before .before .args .end - c .before .before .before .before .before .before .before .before .before .before .args .from)) (omega arith) (c .before .before .before .before .before .before .shift .ensures))
+returns : tie.Need-returns
+returns c = (search needs, kept (now (c .before .before .before .before .before .before .before .before .before .args .buffer)) (c .before .before .before .before .before .before .shift .last .0) (c .before .before .read-full .last .1 .0) (c .before .before .before .before .before .before .before .before .before .args .from) (c .before .before .before .before .before .before .before .before .before .args .end - c .before .before .before .before .before .before .before .before .before .args .from) (length (c .before .before .before .before .before .before .shift .last .0) - (c .before .before .before .before .before .before .before .before .before .args .end - c .before .before .before .before .before .before .before .before .before .args .from)) (omega arith) (c .before .before .before .before .before .before .shift .ensures))
 
 pub ready-spec : {M : Type 1} → statement M
 ready-spec =
     tie.close
     (tie.spec
     sub-left
-    returns
     shift-requires
     sub-read-full
     part-read-full-start
     part-read-full-end
     read-full-requires
-    add-t12
+    add-result
     same-length
-    returns-2)
+    returns)

@@ -1,50 +1,71 @@
-use mathlib.Core.Path.{refl, sym, subst, _∙_}
+-- `replay::replay_line` meets its contract.
+use mathlib.Core.Path.{sym, _∙_, subst}
 use Prim.Native.Nat.{ℕ}
-use denote.Ref.{now}
-use Rattle.trace.proofs.Ends.{line-ends}
 use mathlib.Core.List.{List}
+use denote.Ref.{now}
+use lib.Seq.{length-take-le}
+use Rattle.trace.specs.Trace.{line}
+use Rattle.decimal.proofs.Puts.{put-length}
+use Rattle.replaying.proofs.Steps.{line-most}
 use Rattle.replay.specs.Played.{Settles}
 use borrow.Author.Needs.{needs}
+use native.Mathlib.Omega.{arith}
 use Rattle.replay.proofs.replay_line.Statement.{statement}
 use Rattle.replay.proofs.replay_line.Tie as tie
 
-read-requires : tie.Need-read-requires
-read-requires c κs = search needs
+buffer-requires : tie.Need-buffer-requires
+buffer-requires c κs = search needs
 
-enum-known-found : tie.Need-enum-known-found
-enum-known-found c = search needs
+slice-aggregate-line : tie.Need-slice-aggregate-line
+slice-aggregate-line c = search needs
+
+line-requires : tie.Need-line-requires
+line-requires c κs = search needs
+
+array-share-prefix-out : tie.Need-array-share-prefix-out
+array-share-prefix-out c = omega (arith, c .before .before .before .line .ensures .1 .0 .past, line-most (line (now (c .before .before .before .before .before .before .before .before .before .args .text)) (c .before .before .before .before .before .before .before .before .before .args .at)) (now (c .before .before .before .before .before .before .before .before .before .args .state)), put-length (c .before .before .before .line .ensures .1 .0))
+
+slice-aggregate-write-all : tie.Need-slice-aggregate-write-all
+slice-aggregate-write-all c = sym (length-take-le (c .before .before .before .before .line .result .end) (c .before .before .before .before .line .last .1 .1 .1 .0) (omega (arith, c .before .before .before .before .line .ensures .1 .0 .past, line-most (line (now (c .before .before .before .before .before .before .before .before .before .before .args .text)) (c .before .before .before .before .before .before .before .before .before .before .args .at)) (now (c .before .before .before .before .before .before .before .before .before .before .args .state)), put-length (c .before .before .before .before .line .ensures .1 .0))))
+
+write-all-requires : tie.Need-write-all-requires
+write-all-requires c κs = search needs
 
 enum-told : tie.Need-enum-told
 enum-told c = search needs
 
-print-refused-requires : tie.Need-print-refused-requires
-print-refused-requires c κs = search needs
-
-returns : tie.Need-returns
-returns c = (tt, (sym (c .before .before .before .read .ensures) ∙ c .before .enum-told .given .1, refl))
-
-offer-requires : tie.Need-offer-requires
-offer-requires c κs = search needs
-
-settle-requires : tie.Need-settle-requires
-settle-requires c κs = search needs
+enum-told-2 : tie.Need-enum-told-2
+enum-told-2 c = search needs
 
 same-length : tie.Need-same-length
 same-length c = search needs
 
+returns : tie.Need-returns
+returns c = (c .before .before .before .before .before .before .before .line .ensures .0, rw (c .enum-told2 .given .1) (rw (sym (c .before .before .before .before .before .before .before .line .ensures .0) ∙ c .enum-told2 .given .1) at (c .before .before .before .before .before .before .before .line .ensures .1 .1)))
+
+settle-requires : tie.Need-settle-requires
+settle-requires c κs = search needs
+
+same-length-2 : tie.Need-same-length-2
+same-length-2 c = search needs
+
 returns-2 : tie.Need-returns-2
-returns-2 c = (line-ends (now (c .before .before .before .before .before .before .before .before .before .before .before .before .before .before .args .text)) (c .before .before .before .before .before .before .before .before .before .before .before .before .before .before .args .at) (c .before .before .before .before .before .before .before .before .before .found .given .0 .0) (c .before .before .before .before .before .before .before .before .before .found .given .0 .1 .0) (sym (c .before .before .before .before .before .before .before .before .before .before .before .read .ensures) ∙ c .before .before .before .before .before .before .before .before .before .found .given .1) .inside, (c .before .before .before .before .before .before .before .before .before .found .given .0 .0, sym (c .before .before .before .before .before .before .before .before .before .before .before .read .ensures) ∙ c .before .before .before .before .before .before .before .before .before .found .given .1, subst (λ (z : List ℕ). Settles (c .before .before .before .before .before .before .before .before .before .before .before .before .before .before .args .n) z (c .before .before .settle .last .0)) (c .before .before .before .before .before .before .offer .ensures) (c .before .before .settle .ensures)))
+returns-2 c = (c .before .before .before .before .before .before .before .before .before .before .before .line .ensures .0, rw (c .before .before .before .before .enum-told .given .1) (subst (λ (z : List ℕ). Settles (c .before .before .before .before .before .before .before .before .before .before .before .before .before .before .before .before .before .args .n) z (c .before .before .settle .last .0)) (rw (sym (c .before .before .before .before .before .before .before .before .before .before .before .line .ensures .0) ∙ c .before .before .before .before .enum-told .given .1) at (c .before .before .before .before .before .before .before .before .before .before .before .line .ensures .1 .1)) (c .before .before .settle .ensures)))
 
 pub replay-line-spec : {M : Type 1} → statement M
 replay-line-spec =
     tie.close
     (tie.spec
-    read-requires
-    enum-known-found
+    buffer-requires
+    slice-aggregate-line
+    line-requires
+    array-share-prefix-out
+    slice-aggregate-write-all
+    write-all-requires
     enum-told
-    print-refused-requires
-    returns
-    offer-requires
-    settle-requires
+    enum-told-2
     same-length
+    returns
+    settle-requires
+    same-length-2
     returns-2)

@@ -50,7 +50,7 @@ unfolding rowOk
 returns-3 c = let a = c .before .before .before .before .before .before .before .before .before .args in let p = now (a .r) in let r = decRaw p in Tests.pass (planOk (a .n) r) (c .before .before .before .before .before .before .before .plan-ok .result) ((sizesOk r) && ((risen (num boundF r) 0 (num countF r) (r .slots)) && ((keptOk r) && (allZero (drop (64 + num countF r * 12) p))))) _ (c .before .before .before .before .before .before .before .plan-ok .ensures) (c .before .before .before .before .before .before .if1 .left) (Tests.pass (sizesOk r) (c .before .before .before .before .before .sizes-ok .result) ((risen (num boundF r) 0 (num countF r) (r .slots)) && ((keptOk r) && (allZero (drop (64 + num countF r * 12) p)))) _ (c .before .before .before .before .before .sizes-ok .ensures) (c .before .before .before .before .if2 .left) (Tests.stop (risen (num boundF r) 0 (num countF r) (r .slots)) (c .before .rises .result) ((keptOk r) && (allZero (drop (64 + num countF r * 12) p))) (c .before .rises .ensures ∙ ap₂ (λ (x y : ℕ). risen x 0 y (r .slots)) (c .before .before .word-at .ensures) (c .before .before .before .byte-at .ensures .0)) (c .if3 .taken)))
 
 kept-ok-requires : tie.Need-kept-ok-requires
-kept-ok-requires c κs = search needs
+kept-ok-requires c κs = let a = c .before .before .before .before .before .before .before .before .before .args in let p = now (a .r) in let r = decRaw p in let c16 = Tests.sizes-count r (sym (c .before .before .before .before .before .sizes-ok .ensures) ∙ not-false (c .before .before .before .before .before .sizes-ok .result) (c .before .before .before .before .if2 .left)) in (omega arith, c16)
 
 returns-4 : tie.Need-returns-4
 unfolding rowOk

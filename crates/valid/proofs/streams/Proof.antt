@@ -8,7 +8,7 @@ use denote.Ref.{now}
 use Rattle.le.specs.Bytes.{allZero}
 use Rattle.valid.specs.Valid.{rowOk, allRows, count, clearIn, valid, tested}
 use Rattle.valid.specs.declared.Tested.the-variants as Tested
-use Rattle.meaning.specs.Cycle.{acyclic}
+use Rattle.meaning.specs.CycleTest.{acyclic}
 use Rattle.valid.specs.Valid.{planIn}
 use Rattle.valid.proofs.Link
 use borrow.Author.Needs.{needs}

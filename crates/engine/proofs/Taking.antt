@@ -1,0 +1,33 @@
+-- Load takes just the texts of the plans that keep the written rules.
+use Prim.Native.Nat.{ℕ, _<_}
+use mathlib.Core.Path.{_≡_, sym, ap, _∙_}
+use mathlib.Core.Logic.{_↔_}
+use mathlib.Core.List.{List}
+use native.Mathlib.Omega.{arith}
+use lib.ListN.{length}
+use borrow.Author.Tests.{lt-ltb}
+use Rattle.machine.specs.State.{Declared}
+use Rattle.operators.specs.Limits.{capacity}
+use Rattle.operators.proofs.Sizes.{capacity-few}
+use Rattle.render.specs.Render.{render}
+use Rattle.plan.specs.Rules.{number}
+use Rattle.plan.specs.Taken.{KeepsRules}
+use Rattle.plan.proofs.Taken.{taken-exactly}
+use Rattle.plan.proofs.Rendered.{render-taken}
+use Rattle.engine.specs.Load.{loadReply}
+use Rattle.engine.specs.Demands.{Taking}
+
+-- the number of a load is that of its text, if the buffer has room for streams
+number-of : (text s : List ℕ) → 0 < capacity (length s) → loadReply text s .number ≡ number (capacity (length s)) text
+unfolding loadReply
+number-of text s l = rw (lt-ltb 0 (capacity (length s)) l)
+
+pub taking : Taking
+taking = record {
+  exactly = λ text s l.
+      let e = number-of text s l in
+      let t = taken-exactly (capacity (length s)) (capacity-few (length s)) text in
+      (λ q. t .0 (sym e ∙ q), λ x. e ∙ t .1 x);
+  every = λ ds s k.
+      number-of (render ds) s (omega (arith, k .some, k .few)) ∙ render-taken (capacity (length s)) (capacity-few (length s)) ds k .0;
+}

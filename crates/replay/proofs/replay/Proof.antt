@@ -1,0 +1,27 @@
+-- `replay::replay` meets its contract.
+use Rattle.replay.proofs.Whole.{refused-printed, played-printed}
+use borrow.Author.Needs.{needs}
+use Rattle.replay.proofs.replay.Statement.{statement}
+use Rattle.replay.proofs.replay.Tie as tie
+
+load-requires : tie.Need-load-requires
+load-requires c κs = search needs
+
+same-length : tie.Need-same-length
+same-length c = search needs
+
+returns : tie.Need-returns
+returns c = λ q. refused-printed (c .before .before .before .load .result) (c .before .before .before .load .ensures) (c .if1 .taken)
+
+play-requires : tie.Need-play-requires
+play-requires c κs = search needs
+
+same-length-2 : tie.Need-same-length-2
+same-length-2 c = search needs
+
+returns-2 : tie.Need-returns-2
+returns-2 c = played-printed (c .before .before .before .before .before .before .before .load .ensures) (c .before .before .before .before .if1 .left) (c .before .before .before .before .before .before .before .before .before .before .pre) (c .before .before .play .ensures)
+
+pub replay-spec : {M : Type 1} → statement M
+replay-spec =
+    tie.close (tie.spec load-requires same-length returns play-requires same-length-2 returns-2)

@@ -1,0 +1,49 @@
+-- What a last or a delay keeps, told by the solution: the machine's search for the latest set point finds the latest.
+use mathlib.Core.Path.{_≡_, refl, ap}
+use mathlib.Core.Logic.{inl, inr}
+use Prim.Native.Nat.{ℕ, zero, suc, pred, _≤_, _<_, max}
+use native.Mathlib.Omega.{arith}
+use native.Mathlib.Decide.{decLe}
+use Rattle.meaning.specs.Plan.{Eqn, input, nil, unit, one, two, last, delay}
+use Rattle.meaning.specs.Events.{Stream, Streams}
+use Rattle.machine.specs.State.{State, cellAt}
+use Rattle.machine.specs.Reach.{pastLatest}
+use Rattle.machine.proofs.Window.{past-max, past-hit}
+use Rattle.runs.specs.Inside.{knownIn, SetPoint, PastLatest, never, past, KeptAs}
+use Rattle.runs.proofs.Kept.{keptOf, pointOf, point-le}
+use Rattle.runs.proofs.Tracks.{Tracks}
+
+-- every set point below y is counted
+pub point-max : (b d : Stream) (y p : ℕ) → p < y → SetPoint b d p → p < pointOf b d y
+point-max b d y p l (inl h) = let k = past-max b y p l h in omega arith
+point-max b d y p l (inr h) = let k = past-max d y p l h in omega arith
+
+-- and what is counted is one past a set point
+pub point-hit : (b d : Stream) (y : ℕ) → 0 < pointOf b d y → SetPoint b d (pred (pointOf b d y))
+point-hit b d y l = go (decLe (pastLatest d y) (pastLatest b y))
+  where
+    go : Dec (pastLatest d y ≤ pastLatest b y) → SetPoint b d (pred (max (pastLatest b y) (pastLatest d y)))
+    go (yes k) = let e : max (pastLatest b y) (pastLatest d y) ≡ pastLatest b y = omega arith in rw e (inl (past-hit b y (omega arith)))
+    go (no k) = let e : max (pastLatest b y) (pastLatest d y) ≡ pastLatest d y = omega arith in rw e (inr (past-hit d y (omega arith)))
+
+pub point-latest : (b d : Stream) (y : ℕ) → PastLatest b d y (pointOf b d y)
+point-latest b d y = go (pointOf b d y) refl
+  where
+    go : (z : ℕ) → pointOf b d y ≡ z → PastLatest b d y z
+    go zero e = never (λ p l s. let k = point-max b d y p l s in absurd (omega arith))
+    go (suc p) e =
+        let k = point-le b d y in
+        let q : pred (pointOf b d y) ≡ p = ap pred e in
+        past {p = p} (omega arith) (rw q at (point-hit b d y (omega arith))) (λ r i j s. let m = point-max b d y r j s in absurd (omega arith))
+
+kept-of : (e : Eqn) (K : Streams) (s y : ℕ) → KeptAs e K s y (keptOf e K s y)
+kept-of input K s y = refl
+kept-of nil K s y = refl
+kept-of unit K s y = refl
+kept-of (one f a) K s y = refl
+kept-of (two g a b) K s y = refl
+kept-of (last a b) K s y = record { prev = refl; others = (refl, refl, refl) }
+kept-of (delay a b) K s y = record { prev = refl; since = point-latest (K b) (K s) y; value = refl; prior = refl }
+
+pub kept-as : (S : Streams) (M : State) → Tracks S M → (s : ℕ) → KeptAs (cellAt M s .eqn) (knownIn S M) s (cellAt M s .bound) (cellAt M s .kept)
+kept-as S M inv s = rw (inv .kept s) (kept-of (cellAt M s .eqn) (knownIn S M) s (cellAt M s .bound))

@@ -1,0 +1,3 @@
+pub mod Quiet
+pub mod Visits
+pub mod Example
