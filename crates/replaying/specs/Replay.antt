@@ -50,7 +50,7 @@ unfoldable pub nextOutput : ℕ → ℕ → List ℕ → ℕ
 unfolding least
 nextOutput n from s = least (isOutput s) from (n - from)
 
--- past the last output, "repeats until nothing moves or waits"
+-- past the last output, "repeats until nothing moves or waits": after a round that handed out something
 abbrev pub roundAfter : Bool → Place
 roundAfter true = Run
 roundAfter false = Rest
@@ -64,7 +64,7 @@ toOutput n from busy s = cond (ltb (nextOutput n from s) n) (Collect (nextOutput
 abbrev pub allMoves : ℕ
 allMoves = 2 ^ 32 - 1
 
--- "runs to rest": until a run makes fewer moves
+-- "runs to rest": until a run makes fewer moves than it was asked for
 abbrev pub ran : ℕ → Reply → Turn
 ran n r = cond (ltb (r .moves) allMoves) (turn (toOutput n 0 false (r .buffer)) [] (r .buffer)) (turn Run [] (r .buffer))
 
