@@ -10,6 +10,9 @@ use Rattle.meaning.specs.Cycle.{Leads}
 use Rattle.operators.specs.Limits.{mostStreams}
 use Rattle.plan.specs.Rules.{allKeep, Form, refused, formed, planFrom}
 use Rattle.plan.specs.Pass.{notedAll}
+use Rattle.text.specs.declared.Head.the-variants as Head
+use Rattle.faults.specs.declared.Fault.{Fault}
+use Rattle.faults.specs.Faults.{Lowest, planOf, faultOfHead}
 
 -- ## Marks: a byte for each stream, 0 if it is not marked
 
@@ -83,3 +86,8 @@ pub record LowestTo (n : ℕ) (plan : Plan) (r : ℕ) : Type 0 where
 abbrev pub LowestIn : ℕ → Form → ℕ → Type 0
 LowestIn n (refused q) r = Unit {0}
 LowestIn n (formed fs end) r = LowestTo n (planFrom fs) r
+
+-- the fault of a text whose first two lines announce n streams
+pub record FoundAfter (cap : ℕ) (s : List ℕ) (n at : ℕ) (f : Fault) : Type 0 where
+  pub place : f ≡ faultOfHead cap s (f .stream) (Head.Streams n at)
+  pub lowest : f .number ≡ 6 → Lowest (planOf cap s) (f .stream)
