@@ -1,3 +1,5 @@
 pub mod Walk
 pub mod Grown
 pub mod Noting
+pub mod Leading
+pub mod Cycles

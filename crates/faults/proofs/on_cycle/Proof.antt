@@ -1,3 +1,5 @@
+use denote.Ref.{now}
+use Rattle.faults.proofs.Cycles.{lowest-in}
 use borrow.Author.Needs.{needs}
 use native.Mathlib.Omega.{arith}
 use Rattle.faults.proofs.on_cycle.Statement.{statement}
@@ -21,7 +23,7 @@ lowest-requires c κs = search needs
 
 -- src/lib.rt:291:1
 returns : tie.Need-returns
-returns c = ?
+returns c = lowest-in (now (c .before .before .before .before .before .before .args .text)) (c .before .before .before .before .before .before .args .n) (c .before .before .before .before .before .before .args .at) (omega arith) (c .before .before .before .before .before .before .pre .1) (c .before .before .before .note-all .last .1 .1 .1 .0) (c .before .before .before .note-all .ensures) (c .lowest .result) (c .lowest .ensures)
 
 pub on-cycle-spec : {M : Type 1} → statement M
 on-cycle-spec =
