@@ -1,5 +1,7 @@
 pub mod Walk
+pub mod Says
 pub mod Grown
 pub mod Noting
 pub mod Leading
 pub mod Cycles
+pub mod Number
