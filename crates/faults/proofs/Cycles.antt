@@ -1,8 +1,8 @@
 -- The search over the graph of a text finds the lowest stream that leads to itself, and finds none just where rule 6 is kept.
-use Prim.Native.Nat.{ℕ, _+_, _*_, _<_, _≤_}
-use mathlib.Core.Path.{_≡_, refl, sym, ap, _∙_, subst}
+use Prim.Native.Nat.{ℕ, _*_, _<_, _≤_}
+use mathlib.Core.Path.{_≡_, refl, sym, _∙_, subst}
 use mathlib.Core.Bool.{Bool, true, false}
-use mathlib.Core.List.{List, [], _++_, List·Memᴰ, List·Memᴰ·not-nil}
+use mathlib.Core.List.{List, [], List·Memᴰ, List·Memᴰ·not-nil}
 use native.Mathlib.Omega.{arith}
 use native.Mathlib.Decide.{decLt}
 use lib.ListN.{length, drop, replicate, length-replicate, List·getD-eq-default}
@@ -14,7 +14,7 @@ use Rattle.meaning.proofs.Each.{each-at}
 use Rattle.meaning.proofs.Within.{Within}
 use Rattle.meaning.proofs.CycleTest.{test-sound, test-complete}
 use Rattle.operators.specs.Limits.{mostStreams}
-use Rattle.cycle.specs.Graph.{graphLength, graphOf}
+use Rattle.cycle.specs.Graph.{graphLength}
 use Rattle.cycle.proofs.Tied.{argsAt, Tied}
 use Rattle.cycle.proofs.Graphs.{graph-tied}
 use Rattle.text.specs.declared.Fields.{Fields}

@@ -9,7 +9,7 @@ use lib.ListN.{length}
 use borrow.Author.Tests.{eq-eqb, ne-eqb, lt-ltb, le-ltb}
 use Rattle.meaning.specs.Plan.{Plan}
 use Rattle.meaning.specs.CycleTest.{acyclic}
-use Rattle.operators.specs.Limits.{mostStreams, textLimit}
+use Rattle.operators.specs.Limits.{textLimit}
 use Rattle.lines.specs.Form.{skip}
 use Rattle.text.specs.declared.Fields.{Fields}
 use Rattle.text.specs.declared.Head.{Head}

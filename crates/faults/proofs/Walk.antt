@@ -1,19 +1,16 @@
 -- The walks over the streams' lines, one stream after the other, as the code takes them.
 use Prim.Native.Nat.{ℕ, zero, suc, _+_, _*_, _-_, _<_, _≤_}
-use mathlib.Core.Path.{_≡_, refl, sym}
-use mathlib.Core.Bool.{Bool, true, false, not, cond}
+use mathlib.Core.Path.{_≡_}
+use mathlib.Core.Bool.{true, false, cond}
 use mathlib.Core.List.{List}
 use native.Mathlib.Omega.{arith}
 use lib.ListN.{length}
-use borrow.Author.Tests.{eq-eqb, ne-eqb, not-true, not-false}
-use Rattle.operators.specs.Operators.{groupOf, takesFirst, takesSecond, usesK}
-use Rattle.operators.specs.Rules.{argOk, valueOk}
+use borrow.Author.Tests.{eq-eqb, ne-eqb}
 use Rattle.text.specs.declared.Fields.{Fields}
 use Rattle.text.specs.declared.Lines.{Lines}
 use Rattle.text.specs.declared.Lines.the-variants as Lines
 use Rattle.text.specs.Grammar.{stream}
 use Rattle.plan.specs.Rules.{keeps}
-use Rattle.faults.specs.declared.Fault.{Fault}
 use Rattle.faults.specs.Faults.{fault, none, inStream, streamLine, streamOr, formFault, fieldBroken, ruleFault}
 
 -- ## The first faulty line

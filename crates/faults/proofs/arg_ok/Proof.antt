@@ -1,15 +1,10 @@
-use borrow.Author.Needs.{needs}
-use native.Mathlib.Omega.{arith}
+-- `faults::arg_ok` meets its contract.
 use Rattle.faults.proofs.arg_ok.Statement.{statement}
 use Rattle.faults.proofs.arg_ok.Tie as tie
-use Rattle.faults.proofs.arg_ok.Reads as reads
-use Rattle.faults.proofs.arg_ok.Lts as lts
 
--- src/lib.rt:113:1
 returns : tie.Need-returns
 returns c = rw (c .if1 .taken)
 
--- src/lib.rt:113:1
 returns-2 : tie.Need-returns-2
 returns-2 c = rw (c .if1 .left)
 

@@ -1,5 +1,6 @@
+-- `faults::form_fault` meets its contract.
 use Prim.Native.Nat.{_≤_, _-_}
-use mathlib.Core.Path.{_≡_, refl, sym, ap, _∙_}
+use mathlib.Core.Path.{_≡_, sym, ap, _∙_}
 use native.Mathlib.Nat.{sub-zero}
 use denote.Ref.{now}
 use Rattle.faults.specs.Faults.{inStream, formFault}
@@ -8,11 +9,6 @@ use borrow.Author.Needs.{needs}
 use native.Mathlib.Omega.{arith}
 use Rattle.faults.proofs.form_fault.Statement.{statement}
 use Rattle.faults.proofs.form_fault.Tie as tie
-use Rattle.faults.proofs.form_fault.Reads as reads
-use Rattle.faults.proofs.form_fault.Lts as lts
-use Rattle.faults.proofs.in_stream.Reads as in-stream-reads
-use Rattle.faults.proofs.stream_line.Reads as stream-line-reads
-use Rattle.text.proofs.read_stream.Reads as read-stream-reads
 
 abbrev Inv-loop : tie.InvT-loop
 Inv-loop text at n p₀ i₀ p i = (i ≤ n) × (formFault text i p (n - i) ≡ formFault text 0 at n)
@@ -20,59 +16,45 @@ Inv-loop text at n p₀ i₀ p i = (i ≤ n) × (formFault text i p (n - i) ≡ 
 abbrev μ-loop : tie.MeasureT-loop
 μ-loop text at n p₀ i₀ p i = n - i
 
--- src/lib.rt:86:5
 loop-holds : tie.Need-loop-holds Inv-loop μ-loop
 loop-holds c = (omega arith, simp sub-zero)
 
--- src/lib.rt:87:15
 read-stream-requires : tie.Need-read-stream-requires Inv-loop μ-loop
 read-stream-requires c κs = search needs
 
--- src/lib.rt:88:27
 enum-known-f : tie.Need-enum-known-f Inv-loop μ-loop
 enum-known-f c = search needs
 
--- src/lib.rt:90:17
 add-i : tie.Need-add-i Inv-loop μ-loop
 add-i c = omega arith
 
--- src/lib.rt:86:5
 loop-less : tie.Need-loop-less Inv-loop μ-loop
 loop-less c = omega arith
 
--- src/lib.rt:86:5
 loop-again : tie.Need-loop-again Inv-loop μ-loop
 loop-again c = (omega arith, form-go (now (c .before .before .before .before .before .before .before .args .text)) (c .before .before .before .before .before .before .before .args .n) (c .before .before .before .before .before .loop .i) (c .before .before .before .before .before .loop .p) (omega arith) (c .before .f .given .0 .0) (sym (c .before .before .before .read-stream .ensures) ∙ c .before .f .given .1) ∙ c .before .before .before .before .before .loop .inv .1)
 
--- src/lib.rt:92:28
 enum-known-r : tie.Need-enum-known-r Inv-loop μ-loop
 enum-known-r c = search needs
 
--- src/lib.rt:93:21
 stream-line-requires : tie.Need-stream-line-requires Inv-loop μ-loop
 stream-line-requires c κs = search needs
 
--- src/lib.rt:94:17
 in-stream-requires : tie.Need-in-stream-requires Inv-loop μ-loop
 in-stream-requires c κs = (omega arith, c .stream-line .ensures .1)
 
--- src/lib.rt:94:17
 returns : tie.Need-returns Inv-loop μ-loop
 returns c = c .in-stream .ensures ∙ ap (inStream (c .before .before .before .r .given .0 .0) (c .before .before .before .before .before .before .before .loop .i)) (c .before .stream-line .ensures .0) ∙ form-halt (now (c .before .before .before .before .before .before .before .before .before .args .text)) (c .before .before .before .before .before .before .before .before .before .args .n) (c .before .before .before .before .before .before .before .loop .i) (c .before .before .before .before .before .before .before .loop .p) (omega arith) (c .before .before .before .r .given .0 .0) (sym (c .before .before .before .before .before .read-stream .ensures) ∙ c .before .before .before .r .given .1) ∙ c .before .before .before .before .before .before .before .loop .inv .1
 
--- src/lib.rt:107:23
 mul-t14 : tie.Need-mul-t14 Inv-loop μ-loop
 mul-t14 c = omega arith
 
--- src/lib.rt:107:19
 add-t15 : tie.Need-add-t15 Inv-loop μ-loop
 add-t15 c = omega arith
 
--- src/lib.rt:80:1
 returns-2 : tie.Need-returns-2 Inv-loop μ-loop
 returns-2 c = form-right (now (c .before .before .before .before .args .text)) (c .before .before .before .before .args .n) (c .before .before .loop .i) (c .before .before .loop .p) (omega arith) (c .if1 .taken) ∙ c .before .before .loop .inv .1
 
--- src/lib.rt:80:1
 returns-3 : tie.Need-returns-3 Inv-loop μ-loop
 returns-3 c = form-left-over (now (c .before .before .before .before .args .text)) (c .before .before .before .before .args .n) (c .before .before .loop .i) (c .before .before .loop .p) (omega arith) (c .if1 .left) ∙ c .before .before .loop .inv .1
 

@@ -1,33 +1,24 @@
+-- `faults::head_line` meets its contract.
 use mathlib.Core.Path.{sym, _∙_}
 use borrow.Author.Needs.{needs}
-use native.Mathlib.Omega.{arith}
 use Rattle.faults.proofs.head_line.Statement.{statement}
 use Rattle.faults.proofs.head_line.Tie as tie
-use Rattle.faults.proofs.head_line.Reads as reads
-use Rattle.faults.proofs.head_line.Lts as lts
-use Rattle.lines.proofs.skip.Reads as skip-reads
 
--- src/lib.rt:46:32
 slice-aggregate-skip : tie.Need-slice-aggregate-skip
 slice-aggregate-skip c = search needs
 
--- src/lib.rt:46:11
 skip-requires : tie.Need-skip-requires
 skip-requires c κs = search needs
 
--- src/lib.rt:47:26
 enum-told : tie.Need-enum-told
 enum-told c = search needs
 
--- src/lib.rt:48:25
 enum-told-2 : tie.Need-enum-told-2
 enum-told-2 c = search needs
 
--- src/lib.rt:43:1
 returns : tie.Need-returns
 returns c = rw (sym (c .before .before .skip .ensures) ∙ c .enum-told .given .1)
 
--- src/lib.rt:43:1
 returns-2 : tie.Need-returns-2
 returns-2 c = rw (sym (c .before .before .skip .ensures) ∙ c .enum-told2 .given .1)
 

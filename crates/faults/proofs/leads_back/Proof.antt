@@ -1,38 +1,28 @@
+-- `faults::leads_back` meets its contract.
 use Prim.Native.Nat.{ℕ}
 use mathlib.Core.Path.{refl, subst}
 use mathlib.Core.List.{List}
 use denote.Ref.{now}
 use Rattle.faults.specs.Marks.{Spread}
 use borrow.Author.Needs.{needs}
-use native.Mathlib.Omega.{arith}
 use Rattle.faults.proofs.leads_back.Statement.{statement}
 use Rattle.faults.proofs.leads_back.Tie as tie
-use Rattle.faults.proofs.leads_back.Reads as reads
-use Rattle.faults.proofs.leads_back.Lts as lts
-use Rattle.faults.proofs.mark_arguments.Reads as mark-arguments-reads
-use Rattle.faults.proofs.spread.Reads as spread-reads
 
--- src/lib.rt:253:30
 slice-aggregate-mark-arguments : tie.Need-slice-aggregate-mark-arguments
 slice-aggregate-mark-arguments c = search needs
 
--- src/lib.rt:253:5
 mark-arguments-requires : tie.Need-mark-arguments-requires
 mark-arguments-requires c κs = search needs
 
--- src/lib.rt:254:22
 slice-aggregate-spread : tie.Need-slice-aggregate-spread
 slice-aggregate-spread c = search needs
 
--- src/lib.rt:254:5
 spread-requires : tie.Need-spread-requires
 spread-requires c κs = search needs
 
--- src/lib.rt:255:9
 array-read-result : tie.Need-array-read-result
 array-read-result c = search needs
 
--- src/lib.rt:248:1
 returns : tie.Need-returns
 returns c = record { marks = c .before .spread .last .1 .1 .0; spread = subst (λ (l : List ℕ). Spread (now (c .before .before .before .before .before .before .args .graph)) (c .before .before .before .before .before .before .args .n) l (c .before .spread .last .1 .1 .0)) (c .before .before .before .before .mark-arguments .ensures .0) (c .before .spread .ensures); told = refl }
 

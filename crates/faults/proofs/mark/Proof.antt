@@ -1,34 +1,26 @@
-use mathlib.Core.Path.{_≡_, refl, sym, ap, _∙_, subst}
+-- `faults::mark` meets its contract.
 use denote.Ref.{now}
 use Rattle.faults.proofs.Grown.{marked-out, marked-seen, marked-new, grown-none, grown-new}
 use borrow.Author.Needs.{needs}
 use native.Mathlib.Omega.{arith}
 use Rattle.faults.proofs.mark.Statement.{statement}
 use Rattle.faults.proofs.mark.Tie as tie
-use Rattle.faults.proofs.mark.Reads as reads
-use Rattle.faults.proofs.mark.Lts as lts
 
--- src/lib.rt:175:9
 returns : tie.Need-returns
 returns c = (marked-out (c .before .args .x) (now (c .before .args .marks)) (omega arith), grown-none (now (c .before .args .marks)))
 
--- src/lib.rt:177:8
 slice-read-if2 : tie.Need-slice-read-if2
 slice-read-if2 c = search needs
 
--- src/lib.rt:178:9
 returns-2 : tie.Need-returns-2
 returns-2 c = (marked-seen (c .before .before .before .args .x) (now (c .before .before .before .args .marks)) (c .if2 .taken), grown-none (now (c .before .before .before .args .marks)))
 
--- src/lib.rt:180:5
 slice-write-marks : tie.Need-slice-write-marks
 slice-write-marks c = search needs
 
--- src/lib.rt:169:1
 same-length : tie.Need-same-length
 same-length c = search needs
 
--- src/lib.rt:169:1
 returns-3 : tie.Need-returns-3
 returns-3 c = (marked-new (c .before .before .before .args .x) (now (c .before .before .before .args .marks)) (c .if2 .left), grown-new (c .before .before .before .args .x) (now (c .before .before .before .args .marks)) (omega arith) (c .if2 .left))
 

@@ -1,66 +1,47 @@
-use mathlib.Core.Path.{_≡_, refl, sym, ap, _∙_, subst}
+-- `faults::mark_arguments` meets its contract.
+use mathlib.Core.Path.{sym, ap, _∙_, subst}
 use denote.Ref.{now}
-use mathlib.Core.Bool.{Bool}
-use mathlib.Core.List.{List}
-use Prim.Native.Nat.{ℕ}
+use Prim.Native.Nat.{_+_, _*_}
 use Rattle.faults.specs.Marks.{marked, Grown}
 use lib.ListN.{getD}
-use Prim.Native.Nat.{_+_, _*_}
 use Rattle.faults.proofs.Grown.{grown-none, grown-both, args-none, args-both}
 use borrow.Author.Needs.{needs}
-use native.Mathlib.Omega.{arith}
 use Rattle.faults.proofs.mark_arguments.Statement.{statement}
 use Rattle.faults.proofs.mark_arguments.Tie as tie
-use Rattle.faults.proofs.mark_arguments.Reads as reads
-use Rattle.faults.proofs.mark_arguments.Lts as lts
-use Rattle.faults.proofs.either.Reads as either-reads
-use Rattle.faults.proofs.mark.Reads as mark-reads
 
--- src/lib.rt:196:14
 mul-at : tie.Need-mul-at
 mul-at c = search needs
 
--- src/lib.rt:197:8
 element-copy-out-if1 : tie.Need-element-copy-out-if1
 element-copy-out-if1 c = search needs
 
--- src/lib.rt:198:9
 returns : tie.Need-returns
 returns c = (args-none (now (c .before .before .before .args .graph)) (c .before .before .before .args .i) (now (c .before .before .before .args .marks)) (c .if1 .taken), grown-none (now (c .before .before .before .args .marks)))
 
--- src/lib.rt:200:19
 add-a : tie.Need-add-a
 add-a c = search needs
 
--- src/lib.rt:200:13
 element-copy-out-a : tie.Need-element-copy-out-a
 element-copy-out-a c = search needs
 
--- src/lib.rt:201:19
 add-b : tie.Need-add-b
 add-b c = search needs
 
--- src/lib.rt:201:13
 element-copy-out-b : tie.Need-element-copy-out-b
 element-copy-out-b c = search needs
 
--- src/lib.rt:202:9
 mark-requires : tie.Need-mark-requires
 mark-requires c κs = search needs
 
--- src/lib.rt:203:9
 mark-requires-2 : tie.Need-mark-requires-2
 mark-requires-2 c κs = search needs
 
--- src/lib.rt:204:5
 either-requires : tie.Need-either-requires
 either-requires c κs = search needs
 
--- src/lib.rt:191:1
 same-length : tie.Need-same-length
 same-length c = search needs
 
--- src/lib.rt:191:1
 returns-2 : tie.Need-returns-2
 returns-2 c = (c .before .before .before .mark2 .ensures .0 ∙ ap (marked (getD (now (c .before .before .before .before .before .before .before .before .before .before .before .before .before .before .args .graph)) (3 * c .before .before .before .before .before .before .before .before .before .before .before .before .before .before .args .i + 2) 0)) (c .before .before .before .before .before .before .before .mark .ensures .0) ∙ args-both (now (c .before .before .before .before .before .before .before .before .before .before .before .before .before .before .args .graph)) (c .before .before .before .before .before .before .before .before .before .before .before .before .before .before .args .i) (now (c .before .before .before .before .before .before .before .before .before .before .before .before .before .before .args .marks)) (c .before .before .before .before .before .before .before .before .before .before .before .if1 .left), subst (Grown (now (c .before .before .before .before .before .before .before .before .before .before .before .before .before .before .args .marks)) (c .before .before .before .mark2 .last .0)) (sym (c .either .ensures)) (grown-both (c .before .before .before .before .before .before .before .mark .result) (c .before .before .before .mark2 .result) (c .before .before .before .before .before .before .before .mark .ensures .1) (c .before .before .before .mark2 .ensures .1)))
 

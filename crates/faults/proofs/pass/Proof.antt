@@ -1,4 +1,5 @@
-use mathlib.Core.Path.{_≡_, refl, sym, ap, _∙_, subst}
+-- `faults::pass` meets its contract.
+use mathlib.Core.Path.{_≡_, refl, sym, _∙_, subst}
 use denote.Ref.{now}
 use Prim.Native.Nat.{_≤_, _-_}
 use native.Mathlib.Nat.{sub-zero}
@@ -9,10 +10,6 @@ use borrow.Author.Needs.{needs}
 use native.Mathlib.Omega.{arith}
 use Rattle.faults.proofs.pass.Statement.{statement}
 use Rattle.faults.proofs.pass.Tie as tie
-use Rattle.faults.proofs.pass.Reads as reads
-use Rattle.faults.proofs.pass.Lts as lts
-use Rattle.faults.proofs.either.Reads as either-reads
-use Rattle.faults.proofs.turn.Reads as turn-reads
 
 abbrev Inv-loop : tie.InvT-loop
 Inv-loop graph n marks₀ new₀ i₀ marks new i = (i ≤ n) × ((passed graph i (n - i) marks ≡ passed graph 0 n marks₀) × (Grown marks₀ marks new × (length marks ≡ length marks₀)))
@@ -20,35 +17,27 @@ Inv-loop graph n marks₀ new₀ i₀ marks new i = (i ≤ n) × ((passed graph 
 abbrev μ-loop : tie.MeasureT-loop
 μ-loop graph n marks₀ new₀ i₀ marks new i = n - i
 
--- src/lib.rt:227:5
 loop-holds : tie.Need-loop-holds Inv-loop μ-loop
 loop-holds c = (omega arith, (simp sub-zero, (grown-none (now (c .before .args .marks)), refl)))
 
--- src/lib.rt:228:13
 turn-requires : tie.Need-turn-requires Inv-loop μ-loop
 turn-requires c κs = omega arith
 
--- src/lib.rt:229:9
 either-requires : tie.Need-either-requires Inv-loop μ-loop
 either-requires c κs = search needs
 
--- src/lib.rt:230:9
 add-i : tie.Need-add-i Inv-loop μ-loop
 add-i c = omega arith
 
--- src/lib.rt:227:5
 loop-less : tie.Need-loop-less Inv-loop μ-loop
 loop-less c = omega arith
 
--- src/lib.rt:227:5
 loop-again : tie.Need-loop-again Inv-loop μ-loop
 loop-again c = (omega arith, (passed-go (now (c .before .before .before .before .before .before .before .before .args .graph)) (c .before .before .before .before .before .before .before .before .args .n) (c .before .before .before .before .before .before .loop .i) (c .before .before .before .before .before .before .loop .marks) (omega arith) (c .before .before .before .turn .last .1 .1 .0) (c .before .before .before .turn .ensures .0) ∙ c .before .before .before .before .before .before .loop .inv .1 .0, (subst (Grown (now (c .before .before .before .before .before .before .before .before .args .marks)) (c .before .before .before .turn .last .1 .1 .0)) (sym (c .either .ensures)) (grown-both (c .before .before .before .before .before .before .loop .new) (c .before .before .before .turn .result) (c .before .before .before .before .before .before .loop .inv .1 .1 .0) (c .before .before .before .turn .ensures .1)), c .before .before .before .turn .kept .1 .1 .0 ∙ c .before .before .before .before .before .before .loop .inv .1 .1 .1)))
 
--- src/lib.rt:220:1
 same-length : tie.Need-same-length Inv-loop μ-loop
 same-length c = c .before .loop .inv .1 .1 .1
 
--- src/lib.rt:220:1
 returns : tie.Need-returns Inv-loop μ-loop
 returns c = (passed-end (now (c .before .before .before .args .graph)) (c .before .before .before .args .n) (c .before .loop .i) (c .before .loop .marks) (omega arith) ∙ c .before .loop .inv .1 .0, c .before .loop .inv .1 .1 .0)
 

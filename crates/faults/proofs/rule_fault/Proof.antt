@@ -1,5 +1,6 @@
+-- `faults::rule_fault` meets its contract.
 use Prim.Native.Nat.{_≤_, _-_}
-use mathlib.Core.Path.{_≡_, refl, sym, ap, _∙_}
+use mathlib.Core.Path.{_≡_, sym, ap, _∙_}
 use native.Mathlib.Nat.{sub-zero}
 use denote.Ref.{now}
 use borrow.Author.Tests.{not-true, not-false}
@@ -9,12 +10,6 @@ use borrow.Author.Needs.{needs}
 use native.Mathlib.Omega.{arith}
 use Rattle.faults.proofs.rule_fault.Statement.{statement}
 use Rattle.faults.proofs.rule_fault.Tie as tie
-use Rattle.faults.proofs.rule_fault.Reads as reads
-use Rattle.faults.proofs.rule_fault.Lts as lts
-use Rattle.faults.proofs.field_broken.Reads as field-broken-reads
-use Rattle.faults.proofs.in_stream.Reads as in-stream-reads
-use Rattle.operators.proofs.fields_ok.Reads as fields-ok-reads
-use Rattle.text.proofs.read_stream.Reads as read-stream-reads
 
 abbrev Inv-loop : tie.InvT-loop
 Inv-loop text at n p₀ i₀ p i = (i ≤ n) × (ruleFault text n i p (n - i) ≡ ruleFault text n 0 at n)
@@ -22,59 +17,45 @@ Inv-loop text at n p₀ i₀ p i = (i ≤ n) × (ruleFault text n i p (n - i) �
 abbrev μ-loop : tie.MeasureT-loop
 μ-loop text at n p₀ i₀ p i = n - i
 
--- src/lib.rt:149:5
 loop-holds : tie.Need-loop-holds Inv-loop μ-loop
 loop-holds c = (omega arith, simp sub-zero)
 
--- src/lib.rt:150:32
 read-stream-requires : tie.Need-read-stream-requires Inv-loop μ-loop
 read-stream-requires c κs = search needs
 
--- src/lib.rt:150:27
 enum-known-f : tie.Need-enum-known-f Inv-loop μ-loop
 enum-known-f c = search needs
 
--- src/lib.rt:151:13
 enum-told : tie.Need-enum-told Inv-loop μ-loop
 enum-told c = search needs
 
--- src/lib.rt:153:44
 cast-fields-ok : tie.Need-cast-fields-ok Inv-loop μ-loop
 cast-fields-ok c = search needs
 
--- src/lib.rt:153:13
 fields-ok-requires : tie.Need-fields-ok-requires Inv-loop μ-loop
 fields-ok-requires c κs = search needs
 
--- src/lib.rt:154:17
 field-broken-requires : tie.Need-field-broken-requires Inv-loop μ-loop
 field-broken-requires c κs = search needs
 
--- src/lib.rt:155:13
 in-stream-requires : tie.Need-in-stream-requires Inv-loop μ-loop
 in-stream-requires c κs = (omega arith, c .field-broken .ensures .1)
 
--- src/lib.rt:155:13
 returns : tie.Need-returns Inv-loop μ-loop
 returns c = c .in-stream .ensures ∙ ap (inStream 5 (c .before .before .before .before .before .before .before .before .before .before .loop .i)) (c .before .field-broken .ensures .0) ∙ rule-broken (now (c .before .before .before .before .before .before .before .before .before .before .before .before .args .text)) (c .before .before .before .before .before .before .before .before .before .before .before .before .args .n) (c .before .before .before .before .before .before .before .before .before .before .loop .i) (c .before .before .before .before .before .before .before .before .before .before .loop .p) (omega arith) (c .before .before .before .before .before .before .f .given .0 .0) (sym (c .before .before .before .before .before .before .before .before .read-stream .ensures) ∙ c .before .before .before .before .before .before .f .given .1) (sym (c .before .before .before .fields-ok .ensures) ∙ not-true (c .before .before .before .fields-ok .result) (c .before .before .if1 .taken)) ∙ c .before .before .before .before .before .before .before .before .before .before .loop .inv .1
 
--- src/lib.rt:158:9
 add-i : tie.Need-add-i Inv-loop μ-loop
 add-i c = omega arith
 
--- src/lib.rt:149:5
 loop-less : tie.Need-loop-less Inv-loop μ-loop
 loop-less c = omega arith
 
--- src/lib.rt:149:5
 loop-again : tie.Need-loop-again Inv-loop μ-loop
 loop-again c = (omega arith, rule-go (now (c .before .before .before .before .before .before .before .before .before .before .args .text)) (c .before .before .before .before .before .before .before .before .before .before .args .n) (c .before .before .before .before .before .before .before .before .loop .i) (c .before .before .before .before .before .before .before .before .loop .p) (omega arith) (c .before .before .before .before .f .given .0 .0) (sym (c .before .before .before .before .before .before .read-stream .ensures) ∙ c .before .before .before .before .f .given .1) (sym (c .before .fields-ok .ensures) ∙ not-false (c .before .fields-ok .result) (c .if1 .left)) ∙ c .before .before .before .before .before .before .before .before .loop .inv .1)
 
--- src/lib.rt:143:1
 returns-2 : tie.Need-returns-2 Inv-loop μ-loop
 returns-2 c = rule-end (now (c .before .before .before .args .text)) (c .before .before .before .args .n) (c .before .loop .i) (c .before .loop .p) (omega arith) ∙ c .before .loop .inv .1
 
--- src/lib.rt:143:1
 returns-3 : tie.Need-returns-3 Inv-loop μ-loop
 returns-3 c = rule-halt (now (c .before .before .before .before .before .before .args .text)) (c .before .before .before .before .before .before .args .n) (c .before .before .before .before .loop .i) (c .before .before .before .before .loop .p) (omega arith) (c .enum-told .given .0 .0) (sym (c .before .before .read-stream .ensures) ∙ c .enum-told .given .1) ∙ c .before .before .before .before .loop .inv .1
 

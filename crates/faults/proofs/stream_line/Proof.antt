@@ -1,46 +1,34 @@
+-- `faults::stream_line` meets its contract.
 use mathlib.Core.Path.{sym, _∙_}
 use lib.Dec.{lit<}
 use Rattle.faults.specs.Faults.{streamLine}
 use borrow.Author.Needs.{needs}
-use native.Mathlib.Omega.{arith}
 use Rattle.faults.proofs.stream_line.Statement.{statement}
 use Rattle.faults.proofs.stream_line.Tie as tie
-use Rattle.faults.proofs.stream_line.Reads as reads
-use Rattle.faults.proofs.stream_line.Lts as lts
-use Rattle.faults.proofs.field_line.Reads as field-line-reads
-use Rattle.text.proofs.op_line.Reads as op-line-reads
 
--- src/lib.rt:72:11
 op-line-requires : tie.Need-op-line-requires
 op-line-requires c κs = search needs
 
--- src/lib.rt:73:27
 enum-known-p : tie.Need-enum-known-p
 enum-known-p c = search needs
 
--- src/lib.rt:73:33
 field-line-requires : tie.Need-field-line-requires
 field-line-requires c κs = search needs
 
--- src/lib.rt:74:26
 enum-told : tie.Need-enum-told
 enum-told c = search needs
 
--- src/lib.rt:75:24
 enum-told-2 : tie.Need-enum-told-2
 enum-told-2 c = search needs
 
--- src/lib.rt:69:1
 returns : tie.Need-returns
 unfolding streamLine
 returns c = (c .field-line .ensures .0 ∙ rw (sym (c .before .before .before .before .op-line .ensures) ∙ c .before .before .p .given .1), c .field-line .ensures .1)
 
--- src/lib.rt:69:1
 returns-2 : tie.Need-returns-2
 unfolding streamLine
 returns-2 c = (rw (sym (c .before .before .op-line .ensures) ∙ c .enum-told .given .1), lit< tt)
 
--- src/lib.rt:69:1
 returns-3 : tie.Need-returns-3
 unfolding streamLine
 returns-3 c = (rw (sym (c .before .before .op-line .ensures) ∙ c .enum-told2 .given .1), lit< tt)
