@@ -5,3 +5,4 @@ pub mod Noting
 pub mod Leading
 pub mod Cycles
 pub mod Number
+pub mod CasesHold
