@@ -28,7 +28,7 @@ use Rattle.faults.proofs.Leading.{back-leads, back-none}
 no-arguments : (plan : Plan) (s a : ℕ) → length plan ≤ s → List·Memᴰ a (undelayed (eqnAt plan s)) → ⊥
 no-arguments plan s a l h = List·Memᴰ·not-nil (rw (List·getD-eq-default plan nil {n = s} l) at h)
 
-no-way : (plan : Plan) (s : ℕ) {z : ℕ} → length plan ≤ s → Leads plan s z → ⊥
+pub no-way : (plan : Plan) (s : ℕ) {z : ℕ} → length plan ≤ s → Leads plan s z → ⊥
 no-way plan s {z} l (step h) = no-arguments plan s z l h
 no-way plan s l (then {a} h w) = no-arguments plan s a l h
 

@@ -5,4 +5,6 @@ pub mod Noting
 pub mod Leading
 pub mod Cycles
 pub mod Number
+pub mod Begins
+pub mod Located
 pub mod CasesHold
