@@ -5,6 +5,7 @@ pub mod Noting
 pub mod Leading
 pub mod Cycles
 pub mod Number
+pub mod Once
 pub mod Begins
 pub mod Located
 pub mod CasesHold
