@@ -1,0 +1,293 @@
+"""Why load refuses a plan text, in words: from its answer (number, line, stream) and the text."""
+import difflib
+import re
+
+import causes
+from causes import Cause
+from plans import GREATEST, KEYS, LEAST, NO_ARGUMENT, ONE_ARGUMENT, OPERATORS, STREAMS, TEXT, USE_K, fields, lines_of, undelayed
+
+TABLE = '"From TeSSLa\'s usual operators" in docs/MANUAL.md'
+# names from elsewhere, and what stands for them here
+ELSEWHERE = {
+    "input": "in", "read": "in", "null": "nil", "none": "nil", "empty": "nil", "const": "set", "value": "set", "minus": "sub",
+    "times": "mul", "mult": "mul", "mod": "rem", "less": "lt", "equal": "eq", "equals": "eq", "timer": "delay", "filter": "keep",
+    "either": "merge", "subtract": "sub", "multiply": "mul", "divide": "div", "modulo": "rem", "negate": "neg", "lower": "lt",
+}
+# TeSSLa's names that the manual's table writes with our operators
+IN_TABLE = ["count", "const", "prev", "on", "sum", "filter", "default", "signal", "lift", "slift", "and", "or", "not", "defaultfrom"]
+SWAPPED = {"gt": "lt", "ge": "le", "gte": "le", "lte": "le", "more": "lt", "ne": "eq", "neq": "eq"}
+
+
+def joined(words):
+    words = [str(word) for word in words]
+    return words[0] if len(words) == 1 else ", ".join(words[:-1]) + " and " + words[-1]
+
+
+def plural(count, one, more=None):
+    return "%d %s" % (count, one if count == 1 else more or one + "s")
+
+
+def due(line, count):
+    """The key that is due on a line (from 1) and what it is, in a plan of `count` streams; None after the last stream."""
+    if line <= 2:
+        return ("plan", "plan=1") if line == 1 else ("streams", "streams=N, the number of streams")
+    stream, place = divmod(line - 3, 5)
+    if count is not None and stream >= count:
+        return None
+    what = ["operator", "first argument", "second argument", "value", "out"][place]
+    return KEYS[place], "%s=, the %s of stream %d" % (KEYS[place], what, stream) if place < 4 else "out=0 or out=1, of stream %d" % stream
+
+
+def count_of(lines):
+    """The number after streams=, where it can be read."""
+    found = re.fullmatch(rb"streams=(\d{1,3})\n", lines[1]) if len(lines) > 1 else None
+    return int(found[1]) if found else None
+
+
+def op_lines(lines):
+    return sum(1 for line in lines if re.match(rb"\s*op\s*=", line, re.I))
+
+
+# ---- line by line: 2, 3 and 4
+
+def ends_early(lines, line, count):
+    """The text ends before this line."""
+    if line <= 2:
+        return Cause("the text ends before this line", "write the line and those that follow it")
+    stream, place = divmod(line - 3, 5)
+    there = op_lines(lines)
+    if place == 0:
+        return Cause(
+            "the text ends after %s, but streams=%d says %d" % (plural(stream, "stream"), count, count),
+            "write streams=%d, or add the missing streams" % there if there else "add the streams, five lines each")
+    return Cause("the text ends in stream %d: its line %s= is missing" % (stream, KEYS[place]), "add the missing lines: each stream has op, a, b, k, out")
+
+
+def goes_on(lines, line, count):
+    """The text goes on at this line, after the last stream."""
+    there, first = op_lines(lines), lines[line - 1]
+    if first.strip() == b"":
+        return Cause("an empty line after the last stream", "delete it: the text ends with the line feed of the last out line")
+    if first.startswith(b"plan="):
+        return Cause("a second plan begins after the last stream", "put each plan into a folder of its own")
+    if there > count:
+        if there > STREAMS:
+            return Cause("the text goes on after stream %d, the last one: streams=%d, but it has %d op lines" % (count - 1, count, there), "delete streams: a plan has at most %d" % STREAMS)
+        return Cause("the text goes on after stream %d, the last one: streams=%d, but it has %d op lines" % (count - 1, count, there), "write streams=%d, or delete the lines from here" % there)
+    return Cause("the text goes on after stream %d, the last one" % (count - 1), "delete the lines from here; each stream has op, a, b, k, out, once each")
+
+
+def of_key(lines, line, key):
+    """The line's key is not the one that is due."""
+    body = lines[line - 1].rstrip(b"\n").decode()
+    found, equals, _ = body.partition("=")
+    if not equals:
+        if re.match(r"[A-Za-z]+\s*:", body):
+            return Cause("a colon where = is due", "write key=value, as %s=%s" % (key, "merge" if key == "op" else "0"))
+        return Cause("the line has no =", "write key=value, as %s=%s" % (key, "merge" if key == "op" else "0"))
+    if found == key:
+        return None
+    if found.lower() == key:
+        return Cause("capitals in %s=" % found, "write it in small letters, %s=" % key)
+    if found.strip("'\"") != found:
+        return Cause("quotation marks", "take them away")
+    known = ["plan", "streams"] + KEYS
+    if found.lower() not in known:
+        return Cause("%s= is no key of a plan" % found, "the keys are %s" % joined(known))
+    before = lines[line - 2].partition(b"=")[0].decode(errors="replace") if line > 1 else ""
+    if before == found:
+        return Cause("%s= a second time, where %s= is due" % (found, key), "delete one of the two")
+    order = "each stream has op, a, b, k, out, in this order" if key in KEYS else "a plan begins with plan=1 and streams=N"
+    return Cause("%s= where %s= is due" % (found, key), "put the missing line %s= before it, or the lines into order: %s" % (key, order))
+
+
+def nearest(name):
+    """What to do about a name that is no operator."""
+    low = name.lower()
+    if low in OPERATORS:
+        return "write op=%s, in small letters" % low
+    if low in SWAPPED:
+        swap = ", with a and b in the other order" if SWAPPED[low] in ("lt", "le") and low not in ("lte",) else ", and then not"
+        return "write op=%s%s; see %s" % (SWAPPED[low], "" if low == "lte" else swap, TABLE)
+    if low in IN_TABLE:
+        return "see %s: it says how to write %s in a plan" % (TABLE, low)
+    close = difflib.get_close_matches(low, OPERATORS, 1, 0.5)
+    guess = ELSEWHERE.get(low) or (close[0] if close else None)
+    return ("did you mean op=%s? " % guess if guess else "") + 'the operators are in the table "The operators" in docs/MANUAL.md'
+
+
+def of_name(name):
+    """An operator's name that is not even of the form of one."""
+    if name == "":
+        return Cause("the operator's name is missing", "write one, as op=in")
+    if name.strip("'\"") != name:
+        return Cause("quotation marks", "take them away")
+    if re.search("[A-Z]", name) and re.fullmatch("[A-Za-z]+", name):
+        return Cause("capitals in op=%s" % name, nearest(name))
+    if re.fullmatch("[a-z]{6,}", name):
+        return Cause("%s is no operator: names have at most five letters" % name, nearest(name))
+    several = re.match(r"([a-z]{1,5})[ (]", name)
+    if several:
+        return Cause("more than a name after op=", "write op=%s, and its arguments on the lines a=, b= and k=" % several[1])
+    return Cause("%s is no name of an operator: names are one to five small letters" % name, nearest(name))
+
+
+def of_value(key, word):
+    """What stands after the key, where the key is right."""
+    if key == "op":
+        return of_name(word)
+    if word[:1] in ("'", '"') and word:
+        return Cause("quotation marks", "take them away")
+    if key == "plan":
+        return Cause("plan=%s: the first line is always plan=1" % word, "write plan=1; the number of streams stands on the next line")
+    if key == "out":
+        return Cause("out=%s: out is 0 or 1" % word, "write out=1 for an output, out=0 otherwise")
+    if key in ("a", "b") and re.fullmatch("[A-Za-z_][A-Za-z_0-9]*", word):
+        return Cause("a name where a number is due: %s" % word, "streams are named by their numbers, counted from 0")
+    if re.search(" (op|a|b|k|out|streams)=", " " + word):
+        return Cause("more than one key on the line", "write each key=value on a line of its own")
+    if " " in word:
+        return Cause("a blank in the line", "take it away")
+    wrong = causes.of_number(word, 19 if key == "k" else 3, key == "k")
+    if key == "k" and re.fullmatch(r"-?[1-9][0-9]*", word) and not LEAST <= int(word) <= GREATEST:
+        return Cause("a value out of range: %s" % word, "values go from %d to %d" % (LEAST, GREATEST))
+    return wrong
+
+
+def of_form(text, line):
+    """Number 2: what is wrong with the form at a line."""
+    lines = lines_of(text)
+    count = count_of(lines)
+    whole = causes.of_file(text)
+    if not text:
+        return Cause("the file is empty", "write the plan into it, or copy the nearest one from plans/")
+    if line == 1 and whole:
+        return whole
+    if line > len(lines):
+        return ends_early(lines, line, count)
+    general = causes.of_line(lines[line - 1])
+    where = due(line, count)
+    if where is None:
+        return general if general and general not in (causes.EMPTY_LINE, causes.BLANK_LINE) else goes_on(lines, line, count)
+    if general:
+        return general
+    key = where[0]
+    wrong = of_key(lines, line, key) or of_value(key, lines[line - 1].rstrip(b"\n").decode().partition("=")[2])
+    if wrong is None and not lines[line - 1].endswith(b"\n"):
+        return causes.NO_LINE_END
+    if not lines[line - 1].endswith(b"\n") and key in ("plan", "out", "op"):
+        # what there is may be right, and only its end missing
+        if re.fullmatch(rb"plan=1|out=[01]|op=[a-z]{1,5}", lines[line - 1]):
+            return causes.NO_LINE_END
+    return wrong or Cause("the line cannot be read", "compare it with the plans under plans/")
+
+
+def of_count(text):
+    """Number 3."""
+    lines = lines_of(text)
+    there = op_lines(lines)
+    if count_of(lines) == 0:
+        return Cause("streams=0: a plan has 1 to %d streams" % STREAMS, "write streams=%d, as many as the text has op lines" % there if there else "add a stream")
+    return Cause(
+        "streams=%s: a plan has 1 to %d streams" % (count_of(lines), STREAMS),
+        "write streams=%d, as many as the text has op lines" % there if 1 <= there <= STREAMS else "leave streams out, or split the plan into two")
+
+
+# ---- the text as a whole: 1
+
+def of_length(text):
+    """Number 1, with the first line that is not as a plan's lines are."""
+    lines = lines_of(text)
+    count = count_of(lines)
+    for place, line in enumerate(lines, 1):
+        where = due(place, count)
+        form = where and {"plan": rb"plan=1\n", "op": rb"op=[a-z]{1,5}\n", "out": rb"out=[01]\n"}.get(where[0], rb"%s=-?[0-9]+\n" % where[0].encode())
+        if not form or not re.fullmatch(form, line):
+            wrong = of_form(text, place)
+            return Cause("the text has %d bytes, and at most %d are taken" % (len(text), TEXT), "a plan without anything else in it is always shorter. Look at line %d first: %s" % (place, wrong.what))
+    return Cause("the text has %d bytes, and at most %d are taken" % (len(text), TEXT), "look for numbers that are too long")
+
+
+# ---- the rules over the streams: 5 and 6
+
+def uses(op):
+    return joined(([] if op in NO_ARGUMENT else ["a"] if op in ONE_ARGUMENT else ["a", "b"]) + (["k"] if op in USE_K else []) or ["none of a, b and k"])
+
+
+def of_field(plan, line, s):
+    """Number 5: the field at the line, of stream s."""
+    stream, key = plan[s], KEYS[(line - 3) % 5]
+    value = getattr(stream, key)
+    if key == "out":
+        return Cause("out=1 on an input", "to hand out an input, add a stream op=plus, a=%d, k=0, and mark that with out=1" % s)
+    if key in ("a", "b") and key in uses(stream.op).split(" and "):
+        return Cause("there is no stream %d: with streams=%d the highest is %d" % (value, len(plan), len(plan) - 1), "write the number of the stream that you mean; streams are counted from 0")
+    return Cause("%s=%d, but %s does not use %s: it uses %s" % (key, value, stream.op, key, uses(stream.op)), "write %s=0" % key)
+
+
+def cycle(plan, s):
+    """A shortest way from stream s back to itself by undelayed arguments."""
+    ways = [[s]]
+    met = set()
+    while ways:
+        way = ways.pop(0)
+        for x in undelayed(plan[way[-1]]):
+            if x == s:
+                return way
+            if x not in met:
+                met.add(x)
+                ways.append(way + [x])
+    return [s]
+
+
+def of_cycle(plan, s):
+    """Number 6: stream s leads to itself."""
+    way = cycle(plan, s)
+    steps = ["stream %d (%s) reads %s" % (x, plan[x].op, y if y != x else "itself") for x, y in zip(way, way[1:] + [s])]
+    return Cause("a cycle: " + ", ".join(steps), 'a stream may be worked out from its own past only: a cycle must pass through the first argument (a) of a last or a delay; see "Stamp 0 and the base of a recursion" in docs/MANUAL.md')
+
+
+# ---- what is printed
+
+def elsewhere(text, line):
+    """Of the other lines, how many have a mistake that shows in their bytes."""
+    found = {}
+    for place, other in enumerate(lines_of(text), 1):
+        wrong = causes.of_line(other) if place != line else None
+        if wrong:
+            found.setdefault(wrong.what if "ASCII" not in wrong.what else "a character that is not plain ASCII", []).append(place)
+    words = ["%s on %s" % (what, "line %d" % places[0] if len(places) == 1 else "%d lines, the first is %d" % (len(places), places[0])) for what, places in found.items()]
+    return "also: " + "; ".join(words) if words else None
+
+
+def why(text, verdict):
+    number, line, stream = verdict
+    if number == 1:
+        return of_length(text)
+    if number == 2:
+        return of_form(text, line)
+    if number == 3:
+        return of_count(text)
+    if number == 4:
+        name = lines_of(text)[line - 1].rstrip(b"\n").decode()[3:]
+        return Cause("%s is no operator" % name, nearest(name))
+    return of_field(fields(text), line, stream) if number == 5 else of_cycle(fields(text), stream)
+
+
+def explain(text, verdict):
+    """The lines to print for a text that is refused."""
+    number, line, _ = verdict
+    cause = why(text, verdict)
+    lines = lines_of(text)
+    said = ["plan.txt%s: %s" % (" line %d" % line if line else "", cause.what)]
+    if 1 <= line <= len(lines):
+        said.append("  the line: %s" % causes.quoted(lines[line - 1]))
+    where = due(line, count_of(lines)) if number in (2, 3, 4) else None
+    if where:
+        said.append("  due here: %s" % where[1])
+    said.append("  do: %s" % cause.do)
+    more = elsewhere(text, line) if number in (1, 2) and cause != causes.UTF_16 else None
+    if more:
+        said.append("  %s" % more)
+    said.append("  load answers %d" % number)
+    return said
