@@ -90,32 +90,56 @@ def nevers(plan, may):
 
 # ---- timers that nothing holds back
 
-def ticks(plan, may, clock):
-    """The timers that set themselves again and again and wait for no input."""
+def grown(plan, row):
+    """The least set of streams that has each s with row(s, set)."""
+    found = set()
+    while True:
+        more = {s for s in range(len(plan)) if s in found or row(s, found)}
+        if more == found:
+            return found
+        found = more
+
+
+def waiting(plan, may):
+    """The streams that are known only as far as some input is."""
+    def row(s, found):
+        stream = plan[s]
+        if stream.op not in ("last", "delay"):
+            return stream.op == "in" or any(x in found for x in reads(stream))
+        later = may[stream.b].later != NONE or (stream.op == "delay" and may[s].later != NONE)
+        return stream.b in found or (later and stream.a in found)
+    return grown(plan, row)
+
+
+def held_back(plan, may):
+    """The streams that have to wait, with 16 events ahead, for a stream that waits for an input."""
+    after = readers(plan)
+    wait = waiting(plan, may)
+    return grown(plan, lambda s, found: any(x in wait or (x in found and may[x].later != NONE) for x in after[s]))
+
+
+def ticks(plan, may):
+    """The timers that set themselves again and again and wait for no input, and that no reader holds back."""
+    free = set(range(len(plan))) - waiting(plan, may) - held_back(plan, may)
     found = []
     for s, stream in enumerate(plan):
-        again = stream.op == "delay" and s in clock[stream.a] and sets(may[stream.a].later)
-        if again and not set(inputs(plan)) & sources(plan, s):
+        if stream.op == "delay" and s in free and may[s] != NEVER and s in sources(plan, s) and sets(may[stream.a].later):
             period = may[stream.a].later
             if period == ANY or LAST_STAMP // period > MANY:
                 found.append(s)
     return found
 
 
-def endless(plan, may, clock):
-    """Outputs that tick without an input, and ticks that nothing reads."""
+def endless(plan, may):
+    """Outputs that tick without an input, and ticks that nothing waits for."""
     said = []
     after = readers(plan)
-    entered = set(inputs(plan))
-    going = ticks(plan, may, clock)
-    for s, stream in enumerate(plan):
-        behind = sources(plan, s) | {s}
-        timer = next((d for d in going if d in behind), None)
-        if stream.out and may[s].later != NONE and timer is not None and not entered & behind:
-            said.append((s, "an output that ticks without an input: %s sets itself again up to the last stamp and no reading holds it back, so that a replay prints for hours. Let a stream that also reads an input read the ticks, and make that the output" % named(plan, timer)))
-    for d in going:
-        ahead = reached(plan, d, lambda x: after[x]) | {d}
-        if not any(plan[x].out or entered & sources(plan, x) for x in ahead):
+    for d in ticks(plan, may):
+        ahead = sorted(reached(plan, d, lambda x: after[x]) | {d})
+        outputs = [s for s in ahead if plan[s].out and may[s].later != NONE]
+        for s in outputs:
+            said.append((s, "an output that ticks without an input: %s sets itself again up to the last stamp and no reading holds it back, so that a replay prints for hours. Let a stream that also reads an input read the ticks, and make that the output" % ("it" if s == d else named(plan, d))))
+        if not outputs:
             said.append((d, "a tick that nothing reads: it is worked out to the last stamp all the same, and the first run takes that long. Leave it out, or let a stream that also reads an input read it"))
     return said
 
@@ -209,6 +233,6 @@ def warnings(plan):
     """All warnings, in words."""
     may = possible(plan)
     clock = clocks(plan, may)
-    ticking = endless(plan, may, clock)
+    ticking = endless(plan, may)
     found = nevers(plan, may) + ticking + strangers(plan, may, clock) + nowhere(plan, may, [s for s, _ in ticking if not plan[s].out])
     return ["warning: %s%s" % ("" if s is None else named(plan, s) + ": ", what) for s, what in found]
