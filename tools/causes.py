@@ -74,7 +74,7 @@ def of_line(line):
         return BLANK_LINE
     if any(c > 127 for c in body):
         return character(body)
-    if bare.startswith((b"#", b"//", b"--", b";")) or re.search(rb"[ \t](#|//|--|;)|#|//|;.*\S", bare):
+    if bare.startswith((b"#", b"//", b"--", b";")) or re.search(rb"#|//|[ \t](--|;)", bare):
         return COMMENT
     if bare.endswith(b";"):
         return SEMICOLON

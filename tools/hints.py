@@ -118,16 +118,20 @@ def held_back(plan, may):
     return grown(plan, lambda s, found: any(x in wait or (x in found and may[x].later != NONE) for x in after[s]))
 
 
-def ticks(plan, may):
-    """The timers that set themselves again and again and wait for no input, and that no reader holds back."""
-    free = set(range(len(plan))) - waiting(plan, may) - held_back(plan, may)
-    found = []
+def again(plan, may):
+    """The timers that may set themselves again and again, each with the least number of stamps from ring to ring."""
+    found = {}
     for s, stream in enumerate(plan):
-        if stream.op == "delay" and s in free and may[s] != NEVER and s in sources(plan, s) and sets(may[stream.a].later):
-            period = may[stream.a].later
-            if period == ANY or LAST_STAMP // period > MANY:
-                found.append(s)
+        period = may[stream.a].later
+        if stream.op == "delay" and may[s] != NEVER and s in sources(plan, s) and sets(period):
+            found[s] = 1 if period == ANY else period
     return found
+
+
+def ticks(plan, may):
+    """Those of them that wait for no input, that no reader holds back, and that have no end in sight."""
+    free = set(range(len(plan))) - waiting(plan, may) - held_back(plan, may)
+    return [s for s, period in again(plan, may).items() if s in free and LAST_STAMP // period > MANY]
 
 
 def endless(plan, may):

@@ -81,6 +81,8 @@ def of_key(lines, line, key):
     """The line's key is not the one that is due."""
     body = lines[line - 1].rstrip(b"\n").decode()
     found, equals, _ = body.partition("=")
+    if re.match(r"\d+:\s*[a-z]+", body):
+        return Cause("a stream in one line, as the manual writes it", "write it out in five lines: op, a, b, k and out")
     if not equals:
         if re.match(r"[A-Za-z]+\s*:", body):
             return Cause("a colon where = is due", "write key=value, as %s=%s" % (key, "merge" if key == "op" else "0"))

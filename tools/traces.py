@@ -46,6 +46,8 @@ def why(line):
         return Cause("a line of %d bytes, and at most %d are read" % (len(body), LINE), "the forms are " + FORMS)
     if "  " in body:
         return Cause("two blanks where one is due", "write one blank between the parts")
+    if re.fullmatch(r"[-0-9.:]+([;, ][-0-9.:]+)+", body):
+        return Cause("columns of a table", "write each line out: " + FORMS)
     keys = [part.partition("=")[0] for part in body.split(" ")]
     for part in body.split(" "):
         key, equals, word = part.partition("=")
