@@ -3,10 +3,14 @@ import re
 import unicodedata
 from collections import namedtuple
 
+from plans import GREATEST, LEAST
+
 # what is wrong, and what to do about it
 Cause = namedtuple("Cause", "what do")
 
-UTF_16 = Cause("the text is stored as UTF-16, two bytes a letter", "save it as plain text: ASCII, or UTF-8 without a byte order mark")
+UTF_16 = Cause(
+    "the text is stored as UTF-16, two bytes a letter",
+    "save it as plain text: ASCII, or UTF-8 without a byte order mark")
 BYTE_ORDER_MARK = Cause(
     "the file begins with a byte order mark, three bytes that some editors put there unseen",
     'save it again without one: as ASCII, or as UTF-8 and not "UTF-8 with BOM"')
@@ -27,8 +31,17 @@ COMMENT = Cause("a comment", "take it away: there are no comments; keep notes in
 SEMICOLON = Cause("a semicolon at the end of the line", "take it away")
 FRACTION_DO = "write a whole number in a smaller unit, as 5 tenths for 0.5"
 
-# characters that look like others: what to type instead
-LOOKALIKES = {"−": "the - of the keyboard", "–": "the - of the keyboard", "—": "the - of the keyboard", "‐": "the - of the keyboard"}
+# characters that look like the minus sign of the keyboard
+MINUS_LIKE = "−–—‐‑"
+
+
+def joined(words):
+    words = [str(word) for word in words]
+    return words[0] if len(words) == 1 else ", ".join(words[:-1]) + " and " + words[-1]
+
+
+def plural(count, one):
+    return "%d %s" % (count, one if count == 1 else one + "s")
 
 
 def quoted(line, most=60):
@@ -55,11 +68,14 @@ def character(line):
         strange = next(c for c in line.decode("utf-8") if ord(c) > 127)
     except UnicodeDecodeError:
         code = next(c for c in line if c > 127)
-        return Cause("a byte above 127 (%d), which is no plain letter" % code, "type the character again on the keyboard; save the file as plain text")
+        return Cause("a byte above 127 (%d), which is no plain letter" % code, "type it again and save the file as plain text")
     name = unicodedata.name(strange, "no name").lower()
-    shown = strange if strange.isprintable() else "unseen"
-    kind = "curly quotation marks have no place here" if "quotation mark" in name else "type the character again on the keyboard"
-    return Cause('a character that is not plain ASCII: %s (%s)' % (shown, name), "type %s" % LOOKALIKES[strange] if strange in LOOKALIKES else kind)
+    do = "take it away, or type it again on the keyboard"
+    if strange in MINUS_LIKE:
+        do = "type the - of the keyboard"
+    elif "quotation mark" in name:
+        do = "take the quotation marks away"
+    return Cause("a character that is not plain ASCII: %s (%s)" % (strange if strange.isprintable() else "unseen", name), do)
 
 
 def of_line(line):
@@ -87,6 +103,10 @@ def of_line(line):
     if body.endswith(b" "):
         return TRAILING
     return None
+
+
+def out_of_range(word):
+    return Cause("a value out of range: %s" % word, "values go from %d to %d" % (LEAST, GREATEST))
 
 
 def of_number(word, digits, minus):

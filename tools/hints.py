@@ -1,7 +1,7 @@
 """Warnings about a plan that load takes: what it does is settled, but hardly what was wanted."""
+from causes import joined
 from events import ANY, NEVER, NONE, clocks, possible, row, sets
 from plans import CALCULATIONS, LAST_STAMP, ONE_ARGUMENT, inputs, reached, readers, reads, sources
-from refused import joined
 
 # a timer that rings no more often than this has an end in sight
 MANY = 1000

@@ -26,13 +26,14 @@ def of_part(key, word):
     wrong = causes.of_number(word, {"s": 3, "v": 19}.get(key, 10), key == "v")
     digits = re.fullmatch(r"-?[1-9][0-9]*", word)
     if re.fullmatch(r"\d{4}-\d\d?-\d\d?.*|\d\d?:\d\d.*|\d\d?\.\d\d?\.\d{2,4}", word):
-        return Cause("a date or a time of day: %s" % word, "a stamp is one whole number, as the seconds since the logger was started")
+        return Cause("a date or a time of day: %s" % word, "a stamp is one whole number, as the seconds since the start")
     if key == "t" and digits and int(word) > LAST_STAMP:
-        return Cause("a stamp above %d, the last one: %s" % (LAST_STAMP, word), "count the stamps from a later beginning, or in larger units")
+        do = "count the stamps from a later beginning, or in larger units"
+        return Cause("a stamp above %d, the last one: %s" % (LAST_STAMP, word), do)
     if key == "v" and digits and not LEAST <= int(word) <= GREATEST:
-        return Cause("a value out of range: %s" % word, "values go from %d to %d" % (LEAST, GREATEST))
+        return causes.out_of_range(word)
     if wrong and key == "s" and digits and len(word) > 3:
-        return Cause("a stream number of more than three digits: %s" % word, "write the number that the input has in plan.txt")
+        return Cause("a stream number of more than three digits: %s" % word, "write the input's number in plan.txt")
     return wrong
 
 
