@@ -35,15 +35,6 @@ FRACTION_DO = "write a whole number in a smaller unit, as 5 tenths for 0.5"
 MINUS_LIKE = "−–—‐‑"
 
 
-def joined(words):
-    words = [str(word) for word in words]
-    return words[0] if len(words) == 1 else ", ".join(words[:-1]) + " and " + words[-1]
-
-
-def plural(count, one):
-    return "%d %s" % (count, one if count == 1 else one + "s")
-
-
 def quoted(line, most=60):
     """A line as it can be shown: unseen bytes by their codes, long lines cut."""
     text = line.rstrip(b"\n").decode("utf-8", "backslashreplace")

@@ -5,6 +5,8 @@ import shlex
 import subprocess
 from collections import namedtuple
 
+from words import joined
+
 TOP = os.path.dirname(os.path.dirname(os.path.realpath(__file__)))
 LAST_STAMP = 4294967295
 HORIZON = LAST_STAMP + 1
@@ -68,6 +70,12 @@ def undelayed(stream):
 
 def inputs(plan):
     return [s for s, stream in enumerate(plan) if stream.op == "in"]
+
+
+def no_input(plan, s):
+    """In words: stream s takes no readings."""
+    what = "there is no stream %d" % s if s >= len(plan) else "stream %d (%s) is no input" % (s, plan[s].op)
+    return what, "the inputs of plan.txt are %s" % joined(inputs(plan)) if inputs(plan) else "the plan has no input"
 
 
 def reached(plan, start, step):

@@ -3,9 +3,10 @@ import difflib
 import re
 
 import causes
-from causes import Cause, joined, plural
+from causes import Cause
 from plans import GREATEST, KEYS, LEAST, NO_ARGUMENT, ONE_ARGUMENT, OPERATORS, STREAMS, TEXT, USE_K
 from plans import fields, lines_of, undelayed
+from words import joined, plural
 
 TABLE = '"From TeSSLa\'s usual operators" in docs/MANUAL.md'
 # TeSSLa's names that the manual's table writes with our operators
@@ -258,8 +259,8 @@ def of_cycle(plan, s):
     steps = ["stream %d (%s) reads %s" % (x, plan[x].op, y if y != x else "itself") for x, y in zip(way, way[1:] + [s])]
     return Cause(
         "a cycle: " + ", ".join(steps),
-        "a stream may be worked out from its own past only: a cycle must pass through the first argument (a) of a last or a delay; "
-        'see "Stamp 0 and the base of a recursion" in docs/MANUAL.md')
+        "a stream may be worked out from its own past only: a cycle must pass through the first argument (a) of a last or a "
+        'delay; see "Stamp 0 and the base of a recursion" in docs/MANUAL.md')
 
 
 def why(text, verdict):
