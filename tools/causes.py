@@ -81,6 +81,8 @@ def of_line(line):
         return BLANK_LINE
     if any(c > 127 for c in body):
         return character(body)
+    if any((c < 32 and c != 9) or c == 127 for c in body):
+        return Cause("an unseen control character", "write the line anew")
     if bare.startswith((b"#", b"//", b"--", b";")) or re.search(rb"#|//|[ \t](--|;)", bare):
         return COMMENT
     if bare.endswith(b";"):
@@ -96,34 +98,42 @@ def of_line(line):
     return None
 
 
+def cut(word):
+    return word if len(word) <= 40 else word[:40] + ".."
+
+
 def out_of_range(word):
-    return Cause("a value out of range: %s" % word, "values go from %d to %d" % (LEAST, GREATEST))
+    """A number that is rightly written and no value; None if it is one."""
+    if not re.fullmatch(r"-?[1-9][0-9]*", word) or (len(word) <= 20 and LEAST <= int(word) <= GREATEST):
+        return None
+    return Cause("a value out of range: %s" % cut(word), "values go from %d to %d" % (LEAST, GREATEST))
 
 
 def of_number(word, digits, minus):
     """What is wrong with how a number is written; `minus` says whether it may have one. None if nothing is."""
+    shown = cut(word)
     if word == "":
         return Cause("the number is missing", "write one; what is not used is 0")
     if word.startswith("+"):
-        return Cause("a plus sign before the number", "write it without, as %s" % (word[1:] or "5"))
+        return Cause("a plus sign before the number", "write it without, as %s" % (shown[1:] or "5"))
     if re.fullmatch(r"-0+", word):
         return Cause("a minus sign before 0", "write 0")
     if word.startswith("-") and not minus:
         return Cause("a minus sign where none may be", "a stream number, a stamp or a bound is never below 0")
     if re.fullmatch(r"-?[0-9]*[.,][0-9]*", word):
-        return Cause("a fraction, or a number with a comma or point in it: %s" % word, FRACTION_DO)
+        return Cause("a fraction, or a number with a comma or point in it: %s" % shown, FRACTION_DO)
     if re.fullmatch(r"-?[0-9][0-9_' ]*", word) and not re.fullmatch(r"-?[0-9]+", word):
-        return Cause("digits in groups: %s" % word, "write the digits without anything between them")
+        return Cause("digits in groups: %s" % shown, "write the digits without anything between them")
     if re.fullmatch(r"-?[0-9]+[eE][+-]?[0-9]+", word):
-        return Cause("a number with an exponent: %s" % word, "write the digits out")
+        return Cause("a number with an exponent: %s" % shown, "write the digits out")
     if re.fullmatch(r"0[xX][0-9a-fA-F]+", word):
-        return Cause("a number in base sixteen: %s" % word, "write it in base ten")
+        return Cause("a number in base sixteen: %s" % shown, "write it in base ten")
     if re.fullmatch(r"-?0[0-9]+", word):
-        return Cause("a leading zero: %s" % word, "write %s" % int(word))
+        return Cause("a leading zero: %s" % shown, "write %s" % cut(re.sub(r"^(-?)0+(?=[0-9])", r"\1", word)))
     if not re.fullmatch(r"-?[0-9]+", word):
-        return Cause("not a whole number: %s" % word, "write a whole number in digits")
+        return Cause("not a whole number: %s" % shown, "write a whole number in digits")
     if len(word.lstrip("-")) > digits:
-        return Cause("more than %s digits: %s" % (NAMES[digits], word), "write at most %s" % NAMES[digits])
+        return Cause("more than %s digits: %s" % (NAMES[digits], shown), "write at most %s" % NAMES[digits])
     return None
 
 

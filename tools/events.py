@@ -69,8 +69,8 @@ def sets(x):
     return x == ANY or (x != NONE and 1 <= x <= LAST_STAMP)
 
 
-def row(stream, s, may):
-    """What stream s may have, from what the streams may have so far."""
+def row(stream, may):
+    """What a stream may have, from what the streams may have so far."""
     if stream.op == "in":
         return May(ANY, ANY)
     if stream.op == "nil":
@@ -89,9 +89,9 @@ def row(stream, s, may):
         # strictly before: nothing at stamp 0
         return May(NONE, NONE if b.later == NONE else either(a.first, a.later))
     if stream.op == "delay":
-        # set where b has an event, or where it has rung itself
+        # the first time it is set where b has an event
         at_first = b.first != NONE and sets(a.first)
-        at_later = (b.later != NONE or may[s].later != NONE) and sets(a.later)
+        at_later = b.later != NONE and sets(a.later)
         return May(NONE, 0 if at_first or at_later else NONE)
     return May(both(stream.op, a.first, b.first), both(stream.op, a.later, b.later))
 
@@ -103,7 +103,7 @@ def possible(plan, given=()):
     while True:
         more = []
         for s, stream in enumerate(plan):
-            found = row(stream, s, may)
+            found = row(stream, may)
             more.append(May(either(may[s].first, found.first), either(may[s].later, found.later)))
         if more == may:
             return may

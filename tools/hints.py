@@ -19,7 +19,7 @@ def without_base(plan, may, s):
     if plan[s].op not in ("last", "delay") or may[a] != NEVER or (a != s and s not in sources(plan, a)):
         return False
     begun = possible(plan, given={a})
-    return row(plan[s], s, begun) != NEVER and row(plan[a], a, begun) != NEVER
+    return row(plan[s], begun) != NEVER and row(plan[a], begun) != NEVER
 
 
 def base_wanted(plan, s):
@@ -139,12 +139,12 @@ def endless(plan, may):
         outputs = [s for s in ahead if plan[s].out and may[s].later != NONE]
         for s in outputs:
             said.setdefault(s, (
-                "an output that ticks without an input: %s sets itself again up to the last stamp and no reading holds it back, "
-                "so that a replay prints for hours. Let a stream that also reads an input read the ticks, and make that the output"
+                "an output that ticks without an input: %s can set itself again up to the last stamp and no reading holds it back, "
+                "so that a replay may print for hours. Let a stream that also reads an input read the ticks, and make that the output"
                 % ("it" if s == d else named(plan, d))))
         if not outputs:
             said[d] = (
-                "a tick that nothing reads: it is worked out to the last stamp all the same, and the first run takes that long. "
+                "a tick that nothing reads: it is worked out up to the last stamp all the same, and the first run may take hours. "
                 "Leave it out, or let a stream that also reads an input read it")
     return list(said.items())
 

@@ -4,7 +4,7 @@ import re
 
 import causes
 from causes import Cause
-from plans import GREATEST, KEYS, LEAST, NO_ARGUMENT, ONE_ARGUMENT, OPERATORS, STREAMS, TEXT, USE_K
+from plans import KEYS, NO_ARGUMENT, ONE_ARGUMENT, OPERATORS, STREAMS, TEXT, USE_K
 from plans import fields, lines_of, undelayed
 from words import joined, plural
 
@@ -97,7 +97,7 @@ def of_key(lines, line, key):
         return Cause("quotation marks", "take them away")
     known = ["plan", "streams"] + KEYS
     if found.lower() not in known:
-        return Cause("%s= is no key of a plan" % found, "the keys are %s" % joined(known))
+        return Cause("%s= is no key of a plan" % causes.cut(found), "the keys are %s" % joined(known))
     if line > 1 and lines[line - 2].startswith(found.encode() + b"="):
         return Cause("%s= a second time, where %s= is due" % (found, key), "delete one of the two")
     order = "each stream has op, a, b, k, out, in this order" if key in KEYS else "a plan begins with plan=1 and streams=N"
@@ -133,11 +133,11 @@ def of_name(name):
     if re.search("[A-Z]", name) and re.fullmatch("[A-Za-z]+", name):
         return Cause("capitals in op=%s" % name, nearest(name))
     if re.fullmatch("[a-z]{6,}", name):
-        return Cause("%s is no operator: names have at most five letters" % name, nearest(name))
+        return Cause("%s is no operator: names have at most five letters" % causes.cut(name), nearest(name))
     several = re.match(r"([a-z]{1,5})[ (]", name)
     if several:
         return Cause("more than a name after op=", "write op=%s, and its arguments on the lines a=, b= and k=" % several[1])
-    return Cause("%s is no name of an operator: names are one to five small letters" % name, nearest(name))
+    return Cause("%s is no name of an operator: names are one to five small letters" % causes.cut(name), nearest(name))
 
 
 # ---- what stands after another key
@@ -151,16 +151,16 @@ def of_value(key, word):
     if re.search(" (op|a|b|k|out|streams)=", " " + word):
         return Cause("more than one key on the line", "write each key=value on a line of its own")
     if key == "plan":
-        return Cause("plan=%s: the first line is always plan=1" % word, "write plan=1; how many streams there are stands below")
+        return Cause("plan=%s: the first line is always plan=1" % causes.cut(word), "write plan=1; how many streams there are stands below")
     if key == "out":
-        return Cause("out=%s: out is 0 or 1" % word, "write out=1 for an output, out=0 otherwise")
+        return Cause("out=%s: out is 0 or 1" % causes.cut(word), "write out=1 for an output, out=0 otherwise")
     if key in ("a", "b") and re.fullmatch("[A-Za-z_][A-Za-z_0-9]*", word):
-        return Cause("a name where a number is due: %s" % word, "streams are named by their numbers, counted from 0")
+        return Cause("a name where a number is due: %s" % causes.cut(word), "streams are named by their numbers, counted from 0")
     if " " in word:
         return Cause("a blank in the line", "take it away")
-    if key == "k" and re.fullmatch(r"-?[1-9][0-9]*", word) and not LEAST <= int(word) <= GREATEST:
-        return causes.out_of_range(word)
-    return causes.of_number(word, 19 if key == "k" else 3, key == "k")
+    if key == "k":
+        return causes.out_of_range(word) or causes.of_number(word, 19, True)
+    return causes.of_number(word, 3, False)
 
 
 # ---- number by number

@@ -30,7 +30,7 @@ def of_part(key, word):
     if key == "t" and digits and int(word) > LAST_STAMP:
         do = "count the stamps from a later beginning, or in larger units"
         return Cause("a stamp above %d, the last one: %s" % (LAST_STAMP, word), do)
-    if key == "v" and digits and not LEAST <= int(word) <= GREATEST:
+    if key == "v" and causes.out_of_range(word):
         return causes.out_of_range(word)
     if wrong and key == "s" and digits and len(word) > 3:
         return Cause("a stream number of more than three digits: %s" % word, "write the input's number in plan.txt")
