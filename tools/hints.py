@@ -33,8 +33,8 @@ def base_wanted(plan, s):
             "a recursion without a base: it looks at %s, so there is never a first value. Add a unit and a merge of stream %d "
             "with it, and let a of stream %d be that merge" % (past, a, s))
     return (
-        "a timer that sets itself without a beginning: it is set from %s. Add a set of a unit to the first time, and a merge of "
-        "stream %d with it, and let a of stream %d be that merge" % (past, a, s))
+        "a timer that sets itself without a beginning: it is set from %s. Add a unit, a set of it with the first time to wait, and a "
+        "merge of stream %d with that set, and let a of stream %d be that merge" % (past, a, s))
 
 
 def silent_argument(plan, may, s):
