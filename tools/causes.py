@@ -23,7 +23,7 @@ ONLY_RETURNS = Cause(
 NO_LINE_END = Cause("the last line does not end with a line feed", "press Enter at the end of the last line and save")
 EMPTY_LINE = Cause("an empty line", "delete it")
 BLANK_LINE = Cause("a line with nothing but blanks", "delete it")
-TAB = Cause("a tab", "take it away: a line has no blanks or tabs")
+TAB = Cause("a tab", "take it away; between the parts of a trace line write one blank")
 LEADING = Cause("a blank at the beginning of the line", "take it away")
 TRAILING = Cause("a blank at the end of the line", "take it away")
 AROUND = Cause("a blank beside the =", "write key and value without blanks, as a=0")
