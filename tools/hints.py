@@ -131,12 +131,13 @@ def ticks(plan, may):
 
 
 def endless(plan, may):
-    """Outputs that tick without an input, and ticks that nothing waits for."""
+    """Outputs that tick without an input, and ticks that go nowhere."""
     said = {}
     after = readers(plan)
+    wait = waiting(plan, may)
     for d in ticks(plan, may):
-        ahead = sorted(reached(plan, d, lambda x: after[x]) | {d})
-        outputs = [s for s in ahead if plan[s].out and may[s].later != NONE]
+        ahead = reached(plan, d, lambda x: after[x]) | {d}
+        outputs = [s for s in sorted(ahead) if plan[s].out and may[s].later != NONE and s not in wait]
         for s in outputs:
             said.setdefault(s, (
                 "an output that ticks without an input: %s can set itself again up to the last stamp and no reading holds it back, "
@@ -144,8 +145,9 @@ def endless(plan, may):
                 % ("it" if s == d else named(plan, d))))
         if not outputs:
             said[d] = (
-                "a tick that nothing reads: it is worked out up to the last stamp all the same, and the first run may take hours. "
-                "Leave it out, or let a stream that also reads an input read it")
+                "a tick that nothing %s: it is worked out up to the last stamp all the same, and the first run may take hours. "
+                "Leave it out, or let a stream that also reads an input read it"
+                % ("reads" if ahead <= sources(plan, d) else "holds back"))
     return list(said.items())
 
 
