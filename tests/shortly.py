@@ -27,8 +27,6 @@ def random_plan(draw, count):
     rows = [None] * count
     for place, s in enumerate(names):
         op = draw.choice(["in"] * 3 + ["unit"] * 2 + list(OPERATORS)) if place else draw.choice(["in", "unit"])
-        while OPERATORS[op] and not place:
-            op = "in"
         a = b = k = 0
         if OPERATORS[op] >= 1:
             a = names[draw.randrange(count if op in ("last", "delay") else place)]
