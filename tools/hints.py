@@ -38,8 +38,9 @@ def base_wanted(plan, s):
 
 
 def silent_argument(plan, may, s):
-    """An argument of stream s that can never have an event, so that s has none."""
-    return next((x for x in reads(plan[s]) if may[x] == NEVER), None)
+    """An argument of stream s that can never have an event, so that s has none; rather one that is not worked out from s."""
+    silent = [x for x in reads(plan[s]) if may[x] == NEVER]
+    return min(silent, key=lambda x: x == s or s in sources(plan, x), default=None)
 
 
 def reason(plan, may, s):
