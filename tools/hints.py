@@ -33,8 +33,8 @@ def base_wanted(plan, s):
             "a recursion without a base: it looks at %s, so there is never a first value. Add a unit and a merge of stream %d "
             "with it, and let a of stream %d be that merge" % (past, a, s))
     return (
-        "a timer that sets itself without a beginning: it is set from %s. Add a unit, a set of it with the first time to wait, and a "
-        "merge of stream %d with that set, and let a of stream %d be that merge" % (past, a, s))
+        "a timer that sets itself without a beginning: it is set from %s. Add a unit, a set of it with the first time to wait, "
+        "and a merge of stream %d with that set, and let a of stream %d be that merge" % (past, a, s))
 
 
 def silent_argument(plan, may, s):
@@ -141,8 +141,9 @@ def endless(plan, may):
         outputs = [s for s in sorted(ahead) if plan[s].out and may[s].later != NONE and s not in wait]
         for s in outputs:
             said.setdefault(s, (
-                "an output that ticks without an input: %s can set itself again up to the last stamp and no reading holds it back, "
-                "so that a replay may print for hours. Let a stream that also reads an input read the ticks, and make that the output"
+                "an output that ticks without an input: %s can set itself again up to the last stamp and no reading holds it "
+                "back, so that a replay may print for hours. Let a stream that also reads an input read the ticks, and make that "
+                "the output"
                 % ("it" if s == d else named(plan, d))))
         if not outputs:
             said[d] = (

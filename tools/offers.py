@@ -121,5 +121,5 @@ class Trace:
                 "answer 9 from here on. ./order writes a trace with the progress lines that prevent it" % self.crowded)
         if self.ringing:
             print(
-                "warning: trace.txt line %d: up to %d stream %d (delay) can ring %d times, and a replay takes long. Write progress "
-                "only to the stamp up to which you want the ticks" % self.ringing)
+                "warning: trace.txt line %d: up to %d stream %d (delay) can ring %d times, and a replay takes long. Write "
+                "progress only to the stamp up to which you want the ticks" % self.ringing)

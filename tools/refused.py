@@ -151,7 +151,8 @@ def of_value(key, word):
     if re.search(" (op|a|b|k|out|streams)=", " " + word):
         return Cause("more than one key on the line", "write each key=value on a line of its own")
     if key == "plan":
-        return Cause("plan=%s: the first line is always plan=1" % causes.cut(word), "write plan=1; how many streams there are stands below")
+        do = "write plan=1; streams= on the next line is the count"
+        return Cause("plan=%s: the first line is always plan=1" % causes.cut(word), do)
     if key == "out":
         return Cause("out=%s: out is 0 or 1" % causes.cut(word), "write out=1 for an output, out=0 otherwise")
     if key in ("a", "b") and re.fullmatch("[A-Za-z_][A-Za-z_0-9]*", word):
