@@ -106,15 +106,15 @@ step-made n Rest s h = made-none s
 -- streams have numbers of 32 bits
 module _ (n : ℕ) (few : n ≤ 2 ^ 32) where
   -- the streams before the next output hand out nothing
-  to-known : (s : List ℕ) (from : ℕ) (busy : Bool) → (busy ≡ false → Still from s) → Known n (toOutput n from busy s) s
-  to-known s from busy h = go (decLt (nextOutput n from s) n)
+  to-known : (s : List ℕ) → Fine s → (from : ℕ) (busy : Bool) → (busy ≡ false → Still from s) → Known n (toOutput n from busy s) s
+  to-known s f from busy h = go (decLt (nextOutput n from s) n)
     where
       more : (k : ℕ) → k ≤ nextOutput n from s → Still from s → Still k s
       more k l x = record { moves = x .moves; waits = λ i m. one i (omega arith) (decLt i from) }
         where
           one : (i : ℕ) → i < nextOutput n from s → Dec (i < from) → reply (collecting i) s .number ≡ 0 → ⊥
           one i m (yes d) = x .waits i d
-          one i m (no d) = no-output s i (next-before n from s i (omega arith) m)
+          one i m (no d) = no-output s f i (next-before n from s i (omega arith) m)
 
       round : (b : Bool) → n ≤ nextOutput n from s → (b ≡ false → Still from s) → Known n (roundAfter b) s
       round true l x = tt
@@ -131,7 +131,7 @@ module _ (n : ℕ) (few : n ≤ 2 ^ 32) where
         go : Dec (reply (running allMoves) s .moves < allMoves) → Known n (ran n (reply (running allMoves) s) .place) (ran n (reply (running allMoves) s) .state)
         go (yes l) =
             rw (ran-rest n (reply (running allMoves) s) l)
-            (to-known (reply (running allMoves) s .buffer) 0 false (λ q. record { moves = run-rests s f allMoves allMoves l; waits = λ i m. absurd (omega arith) }))
+            (to-known (reply (running allMoves) s .buffer) (reply-fine (running allMoves) s) 0 false (λ q. record { moves = run-rests s f allMoves allMoves l; waits = λ i m. absurd (omega arith) }))
         go (no l) = rw (ran-moved n (reply (running allMoves) s) (omega arith)) tt
 
     -- one stream more has nothing to hand out
@@ -147,7 +147,7 @@ module _ (n : ℕ) (few : n ≤ 2 ^ 32) where
       where
         go : Dec (reply (collecting i) s .number ≡ 0) → Known n (collected n i busy (reply (collecting i) s) .place) (collected n i busy (reply (collecting i) s) .state)
         go (yes e) = rw (collected-event n i busy (reply (collecting i) s) e) (h .0, λ q. absurd (true≢false q))
-        go (no d) = rw (collected-none n i busy (reply (collecting i) s) d, collect-same s f i d) (to-known s (i + 1) busy (λ q. next-still i d (h .1 q)))
+        go (no d) = rw (collected-none n i busy (reply (collecting i) s) d, collect-same s f i d) (to-known s f (i + 1) busy (λ q. next-still i d (h .1 q)))
 
     step-known : (p : Place) → Known n p s → Known n (step n p s .place) (step n p s .state)
     unfolding step

@@ -1,27 +1,28 @@
 -- The search for the next output, and that only an output hands out an event.
-use Prim.Native.Nat.{ℕ, zero, suc, _+_, _*_, _-_, _<_, _≤_}
-use mathlib.Core.Path.{_≡_, refl, sym, ap, _∙_}
-use mathlib.Core.Logic.{_⊎_}
+use Prim.Native.Nat.{ℕ, _+_, _*_, _-_, _<_, _≤_}
+use mathlib.Core.Path.{_≡_, refl, sym, ap, _∙_, subst}
+use mathlib.Core.Logic.{_⊎_, inl, inr}
 use mathlib.Core.Bool.{Bool, true, false, not}
-use mathlib.Core.List.{List, [], _∷_, map}
+use mathlib.Core.List.{List}
 use native.Mathlib.Omega.{arith}
 use native.Mathlib.Decide.{ℕ-discrete}
-use lib.Dec.{T, T-not}
-use lib.ListN.{length, getD}
-use Rattle.le.specs.Bytes.{part}
+use lib.Dec.{T, T-not, eqb}
+use Rattle.le.specs.Bytes.{Bytes, part}
 use Rattle.machine.specs.State.{State, cellAt}
 use Rattle.machine.specs.Calls.{collecting, unless, oldest, handOut, collect, call}
 use Rattle.machine.proofs.Search.{least-ge, least-before, least-is}
 use Rattle.machine.proofs.Frame.{output-there}
-use Rattle.layout.specs.Record.{Raw, noRaw, decRaw, decode}
-use Rattle.layout.proofs.Laws.{row-at, rows-many}
-use Rattle.encoding.specs.Back.{toCell, stateOf}
+use Rattle.layout.specs.Record.{Raw, Raws, num, outF, decRaw, rowAt}
+use Rattle.layout.proofs.Laws.{row-at}
+use Rattle.encoding.specs.View.{flag, ofCell, rawsOf}
 use Rattle.valid.specs.Valid.{count, valid}
 use Rattle.roundtrip.specs.In.{stateIn}
-use Rattle.roundtrip.proofs.Whole.{state-length}
+use Rattle.roundtrip.proofs.Whole.{state-length, decoded}
+use Rattle.refine.proofs.Whole.{row-of}
 use Rattle.engine.specs.Reply.{reply}
 use Rattle.engine.proofs.Replies.{reply-outcome, reply-none}
 use Rattle.replaying.specs.Replay.{isOutput, nextOutput}
+use Rattle.replaying.proofs.Bytes.{Fine}
 
 -- ## The search
 
@@ -46,23 +47,18 @@ passed s from i before e j h k = go (ℕ-discrete j i)
     go (yes q) = rw (q, e) tt
     go (no d) = before j h (omega arith)
 
--- ## The byte `out` says what the plan says
+-- ## In bytes that are a state the byte `out` says what the plan says
 
-map-at : (l : List Raw) (i : ℕ) → i < length l → cellAt (map toCell l) i ≡ toCell (getD l i noRaw)
-map-at [] i h = absurd (omega arith)
-map-at (r ∷ l) zero h = refl
-map-at (r ∷ l) (suc i) h = map-at l i (omega arith)
+flag-out : (b : Bool) → not (eqb (flag b) 0) ≡ b
+flag-out true = refl
+flag-out false = refl
 
-module _ (s : List ℕ) where
-  cell-at : (i : ℕ) → i < count s → cellAt (stateIn s) i ≡ toCell (decRaw (part s (i * 256) 256))
-  unfolding stateOf
-  cell-at i h = map-at (decode (count s) s .rows) i (rw (rows-many (count s) s) h) ∙ ap toCell (row-at (count s) s i h)
-
-  out-is : (i : ℕ) → T (cellAt (stateIn s) i .out) → T (isOutput s i)
-  unfolding toCell
-  out-is i o =
-      let h = output-there (stateIn s) i o in
-      rw (cell-at i (omega (arith, h, state-length (count s) s))) at o
+pub out-is : (s : List ℕ) → Bytes s → valid s ≡ true → (i : ℕ) → i < count s → isOutput s i ≡ cellAt (stateIn s) i .out
+unfolding rawsOf ofCell
+out-is s b ok i h =
+    let is : decRaw (part s (i * 256) 256) ≡ ofCell (cellAt (stateIn s) i) =
+    sym (row-at (count s) s i h) ∙ ap (λ (r : Raws). rowAt r i) (decoded s b ok) ∙ row-of (stateIn s) i (rw (state-length (count s) s) h) in
+    ap (λ (r : Raw). not (eqb (num outF r) 0)) is ∙ flag-out (cellAt (stateIn s) i .out)
 
 -- ## Only an output hands out an event
 
@@ -74,9 +70,15 @@ collect-output i M e = by (cellAt M i .out) e
     by true q = tt
     by false q = absurd (omega arith)
 
-pub no-output : (s : List ℕ) (i : ℕ) → T (not (isOutput s i)) → reply (collecting i) s .number ≡ 0 → ⊥
-no-output s i n e = go (valid s) refl e
+pub no-output : (s : List ℕ) → Fine s → (i : ℕ) → T (not (isOutput s i)) → reply (collecting i) s .number ≡ 0 → ⊥
+no-output s f i n e = go (valid s) refl f e
   where
-    go : (v : Bool) → valid s ≡ v → reply (collecting i) s .number ≡ 0 → ⊥
-    go true q = rw (reply-outcome (collecting i) s q) (λ z. T-not (isOutput s i) n (out-is s i (collect-output i (stateIn s) z)))
-    go false q = rw (reply-none (collecting i) s q) (λ z. omega arith)
+    go : (v : Bool) → valid s ≡ v → Fine s → reply (collecting i) s .number ≡ 0 → ⊥
+    go true q (inl b) =
+        rw (reply-outcome (collecting i) s q)
+        (λ z.
+        let o = collect-output i (stateIn s) z in
+        let h : i < count s = omega (arith, output-there (stateIn s) i o, state-length (count s) s) in
+        T-not (isOutput s i) n (subst T (sym (out-is s b q i h)) o))
+    go true q (inr r) = rw (reply-none (collecting i) s r) (λ z. omega arith)
+    go false q g = rw (reply-none (collecting i) s q) (λ z. omega arith)
