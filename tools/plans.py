@@ -1,7 +1,6 @@
 """Plans for ./check and ./order: the operators, what load answers to a text, and the streams of a text that it takes."""
 import os
 import re
-import shlex
 import subprocess
 from collections import namedtuple
 
@@ -28,19 +27,15 @@ Verdict = namedtuple("Verdict", "number line stream")
 
 
 class NoVerdict(Exception):
-    """The program that judges plan texts could not be run; says why."""
+    """The program that judges plan texts gave no answer; it says itself why."""
 
 
 def verdict(text):
-    """What load answers to a text, and where: by the proved program, or the one that VERDICT names."""
-    command = shlex.split(os.environ.get("VERDICT", "")) or ["tools/program", "verdict"]
-    try:
-        done = subprocess.run(command, input=text[:TEXT + 1], stdout=subprocess.PIPE, stderr=subprocess.PIPE, cwd=TOP)
-    except OSError as error:
-        raise NoVerdict("%s: %s" % (" ".join(command), error.strerror)) from None
+    """What load answers to a text, and where, by the proved program; while that is being proved it says how far it is."""
+    done = subprocess.run([os.path.join(TOP, "tools", "program"), "verdict"], input=text[:TEXT + 1], stdout=subprocess.PIPE)
     found = re.fullmatch(rb"number=(\d+) line=(\d+) stream=(\d+)\n", done.stdout)
     if not found:
-        raise NoVerdict("%s: %s" % (" ".join(command), done.stderr.decode(errors="replace").strip() or "no answer"))
+        raise NoVerdict
     return Verdict(*map(int, found.groups()))
 
 

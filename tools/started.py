@@ -1,4 +1,5 @@
-"""How ./check and ./order start and end: what goes wrong outside of plans and readings is said in one line, with status 1."""
+"""How ./check and ./order start and end: what goes wrong outside of plans and readings is said in one line. The status is then
+1, and 2 where plans could not be judged."""
 import os
 import sys
 
@@ -13,8 +14,9 @@ def start(main, say):
     try:
         status = main(sys.argv[1:])
         sys.stdout.flush()
-    except NoVerdict as problem:
-        say("plan.txt: cannot be judged: %s" % problem)
+    except NoVerdict:
+        say("plan.txt: cannot be judged")
+        status = 2
     except BrokenPipeError:
         # nobody reads on, as before `head`
         os.dup2(os.open(os.devnull, os.O_WRONLY), sys.stdout.fileno())
