@@ -62,6 +62,8 @@ END {
     while ((getline row < trace) > 0) rest++
     printf "replay: it ends at line %d%s\n", bad, rest ? "; " rest " further " (rest == 1 ? "line was" : "lines were") " not read" : ""
   }
+  # nobody reads on, as before `head`
+  if (status == 141) exit 141
   if (status != 0) { print "replay: the program ended with status " status; exit 2 }
   exit refused || missing == 1
 }
