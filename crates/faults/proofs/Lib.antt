@@ -9,3 +9,4 @@ pub mod Once
 pub mod Begins
 pub mod Located
 pub mod CasesHold
+pub mod Further
