@@ -15,7 +15,6 @@ use Rattle.lines.specs.declared.Word.the-variants.{Past, Absent}
 use Rattle.lines.specs.declared.Numeral.{Numeral}
 use Rattle.lines.specs.declared.Numeral.the-variants.{Number, Fault}
 use Rattle.lines.specs.Form.{skip, field, valueLine}
-use Rattle.text.specs.declared.Name.the-variants as Name
 use Rattle.text.specs.declared.Fields.{Fields}
 use Rattle.text.specs.declared.Lines.{Lines}
 use Rattle.text.specs.declared.Lines.the-variants as Lines

@@ -8,5 +8,5 @@ pub mod Number
 pub mod Once
 pub mod Begins
 pub mod Located
-pub mod CasesHold
 pub mod Further
+pub mod CasesHold
