@@ -20,6 +20,7 @@ abbrev pub notedForm : ℕ → ℕ → Form → List ℕ → List ℕ
 notedForm n i (refused r) g = g
 notedForm n i (formed fs end) g = notedAll n i fs g
 
+-- the lowest of them that leads to itself, or n
 abbrev pub LowestIn : ℕ → Form → ℕ → Type 0
 LowestIn n (refused q) r = Unit {0}
 LowestIn n (formed fs end) r = LowestTo n (planFrom fs) r

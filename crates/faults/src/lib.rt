@@ -1,6 +1,6 @@
 // Where a plan text is wrong: its number, the line and the stream.
 ghost use mathlib.Core.Path.{_≡_};
-ghost use Prim.Native.Nat.{_+_, _*_, _<_, _≤_};
+ghost use Prim.Native.Nat.{_*_, _<_, _≤_};
 ghost use lib.ListN.{length};
 ghost use Rattle.lines.specs.Form.{skip};
 ghost use Rattle.text.specs.declared.Head.the-variants as Head;
@@ -8,7 +8,7 @@ ghost use Rattle.text.specs.Grammar.{planLine, head};
 ghost use Rattle.operators.specs.Limits.{mostStreams};
 ghost use Rattle.operators.specs.Rules.{argOk, valueOk};
 ghost use Rattle.plan.specs.Rules.{streams, number};
-ghost use Rattle.faults.specs.Faults.{fault, inStream, headLine, fieldLine, streamLine, formFault, fieldBroken, ruleFault, Found};
+ghost use Rattle.faults.specs.Faults.{inStream, headLine, fieldLine, streamLine, formFault, fieldBroken, ruleFault, Found};
 ghost use Rattle.faults.specs.Search.{Kept, notedForm, LowestIn, FoundAfter};
 use cycle::GRAPH;
 use lines::Numeral;
