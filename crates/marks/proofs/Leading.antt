@@ -1,4 +1,9 @@
 -- The marks of a search say which streams undelayed arguments lead to.
+--
+-- From stream s the first marks are its arguments, and a turn marks only arguments of a marked stream: so s leads to every
+-- marked one. When a pass changes nothing, the arguments of every marked stream are marked: so every stream on a way from s
+-- is marked, by induction on the way. How long a way is does not matter, nor how many passes there were; that they end is
+-- shown apart, since a pass that marks something leaves fewer to mark.
 use Prim.Native.Nat.{ℕ, zero, suc, _+_, _*_, _<_, _≤_}
 use mathlib.Core.Path.{_≡_, refl, sym, ap, _∙_, subst}
 use mathlib.Core.Logic.{_⊎_, inl, inr, ⊎-elim}
