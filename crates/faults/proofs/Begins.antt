@@ -26,7 +26,7 @@ use Rattle.render.specs.Render.{bitText, line}
 use Rattle.render.proofs.Ranges.{fields-case, stream-case}
 use Rattle.render.proofs.Back.{skip-read, field-read, value-read, out-read, op-read}
 use Rattle.render.proofs.Heads.{head-case}
-use Rattle.faults.specs.Lines.{Unended, none, more, Begins, LineIn, op, a, b, k, out, StreamIn, first, next, LineAt, top, count, inside}
+use Rattle.faults.specs.Lines.{Unended, none, more, Begins, LineIn, op, a, b, k, out, StreamIn, first, next, LineAt, top, count, inside, beyond}
 
 -- ## No key and no value has a byte 10
 
@@ -128,4 +128,5 @@ module _ (s : List ℕ) where
   pub line-begins : (cap : ℕ) {l q : ℕ} → LineAt cap s l q → Begins s l q
   line-begins cap top = top-begins
   line-begins cap (count e) = count-begins e
-  line-begins cap (inside h w v) = line-in (stream-in (head-begins cap h) w) v
+  line-begins cap (inside h l w v) = line-in (stream-in (head-begins cap h) w) v
+  line-begins cap (beyond h w) = stream-in (head-begins cap h) w

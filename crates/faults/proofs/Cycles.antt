@@ -21,8 +21,9 @@ use Rattle.text.specs.declared.Fields.{Fields}
 use Rattle.plan.specs.Rules.{allKeep, Form, refused, formed, streams, planFrom}
 use Rattle.plan.specs.Pass.{notedAll}
 use Rattle.plan.proofs.Noted.{read-sound, noted-graph, all-below, plan-length}
-use Rattle.faults.specs.Marks.{Back, LowestBack, Kept, notedForm, LowestTo, LowestIn}
-use Rattle.faults.proofs.Leading.{back-leads, back-none}
+use Rattle.marks.specs.Marks.{LowestBack, LowestTo}
+use Rattle.faults.specs.Search.{Kept, notedForm, LowestIn}
+use Rattle.marks.proofs.Leading.{lowest-leads}
 
 -- a stream that the plan does not have has no arguments
 no-arguments : (plan : Plan) (s a : ℕ) → length plan ≤ s → List·Memᴰ a (undelayed (eqnAt plan s)) → ⊥
@@ -57,14 +58,7 @@ module _ (s : List ℕ) (n at : ℕ) (fs : List Fields) (end : ℕ) (e : streams
         subst (λ (x : List ℕ). Tied plan x (λ y. false)) (sym (noted-graph n 0 fs (t .0) k [] g refl (omega (arith, t .1, length-replicate {A = ℕ} graphLength 0)))) (graph-tied plan (drop (3 * length fs) g))
 
     found : LowestBack (notedAll n 0 fs (replicate graphLength 0)) n r → LowestTo n plan r
-    found b =
-        let g = notedAll n 0 fs (replicate graphLength 0) in
-        let q = size in
-        record {
-          few = b .few;
-          itself = λ l. back-leads plan g tied within (omega arith) r (omega arith) (subst (λ (x : ℕ). Back g x r true) (sym q) (b .itself l));
-          below = λ x l. let w = b .few in back-none plan g tied within (omega arith) x (omega arith) (subst (λ (y : ℕ). Back g y x false) (sym q) (b .below x l));
-        }
+    found b = lowest-leads plan (notedAll n 0 fs (replicate graphLength 0)) tied within (omega (arith, size)) n size r b
 
   -- no such stream: rule 6 is kept
   module _ (cap : ℕ) (room : n ≤ cap) (r : ℕ) (w : LowestTo n plan r) where

@@ -33,8 +33,7 @@ use Rattle.plan.proofs.Forms.{clash}
 use Rattle.plan.proofs.Noted.{read-sound, plan-length}
 use Rattle.faults.specs.declared.Fault as declared
 use Rattle.faults.specs.Faults.{fault, none, inStream, orNext, headLine, lineOr, fieldLine, lineAfter, streamLine, streamOr, formFault, fieldBroken, ruleFault, Lowest, cycleFault, planOf, faultOfHead, faultWith, Found}
-use Rattle.faults.specs.Lines.{Begins, LineIn, op, a, b, k, out, StreamIn, first, next, LineAt, top, count, inside}
-use Rattle.faults.proofs.Begins.{line-begins}
+use Rattle.faults.specs.Lines.{LineIn, op, a, b, k, out, StreamIn, first, next, LineAt, top, count, inside, beyond}
 use Rattle.faults.proofs.Says.{FormSays, form-says}
 use Rattle.faults.proofs.Cycles.{no-way}
 use Rattle.faults.proofs.Number.{plan-read}
@@ -90,34 +89,36 @@ module _ (s : List ℕ) where
     abbrev Read : ℕ → Type 0
     Read l = Somewhere (LineAt cap s l)
 
-    read-in : {i p j : ℕ} → StreamIn s at i p → Somewhere (LineIn s p j) → Read (3 + 5 * i + j)
-    read-in w l = (l .0, inside h w (l .1))
+    read-in : {i p j : ℕ} → i < n → StreamIn s at i p → Somewhere (LineIn s p j) → Read (3 + 5 * i + j)
+    read-in u w l = (l .0, inside h u w (l .1))
 
-    form-read : (m i p : ℕ) → StreamIn s at i p → 0 < formFault s i p m .line → Read (formFault s i p m .line)
+    form-read : (m i p : ℕ) → i + m ≡ n → StreamIn s at i p → 0 < formFault s i p m .line → Read (formFault s i p m .line)
     unfolding formFault
-    form-read zero i p w l = by (eqb p (length s)) l
+    form-read zero i p u w l = by (eqb p (length s)) l
       where
         by : (t : Bool) → 0 < cond t none (fault 2 (3 + 5 * i) 0) .line → Read (cond t none (fault 2 (3 + 5 * i) 0) .line)
         by true l = absurd (omega arith)
-        by false l = let z : 3 + 5 * i + 0 ≡ 3 + 5 * i = omega arith in subst Read z (read-in w (p, op))
-    form-read (suc m) i p w l = by (stream s p) refl l (λ f e. form-read m (i + 1) (f .next) (next w e))
+        by false l =
+            let z : n ≡ i = omega arith in
+            subst (λ (x : ℕ). Read (3 + 5 * x)) z (p, beyond h (subst (λ (x : ℕ). StreamIn s at x p) (sym z) w))
+    form-read (suc m) i p u w l = by (stream s p) refl l (λ f e. form-read m (i + 1) (f .next) (omega arith) (next w e))
       where
         by : (x : Lines) → stream s p ≡ x → 0 < streamOr x (λ r. inStream r i (streamLine s p)) (λ f. formFault s (i + 1) (f .next) m) .line
             → ((f : Fields) → stream s p ≡ Lines.Stream f → 0 < formFault s (i + 1) (f .next) m .line → Read (formFault s (i + 1) (f .next) m .line))
             → Read (streamOr x (λ r. inStream r i (streamLine s p)) (λ f. formFault s (i + 1) (f .next) m) .line)
         by (Lines.Stream f) e l ih = ih f e l
-        by (Lines.Refused r) e l ih = read-in w (stream-line-in p)
+        by (Lines.Refused r) e l ih = read-in (omega arith) w (stream-line-in p)
 
-    rule-read : (m i p : ℕ) → StreamIn s at i p → 0 < ruleFault s n i p m .line → Read (ruleFault s n i p m .line)
+    rule-read : (m i p : ℕ) → i + m ≡ n → StreamIn s at i p → 0 < ruleFault s n i p m .line → Read (ruleFault s n i p m .line)
     unfolding ruleFault
-    rule-read zero i p w l = absurd (omega arith)
-    rule-read (suc m) i p w l = by (stream s p) refl l (λ f e. rule-read m (i + 1) (f .next) (next w e))
+    rule-read zero i p u w l = absurd (omega arith)
+    rule-read (suc m) i p u w l = by (stream s p) refl l (λ f e. rule-read m (i + 1) (f .next) (omega arith) (next w e))
       where
         by-test : (t : Bool) (f : Fields) → stream s p ≡ Lines.Stream f → 0 < cond t (ruleFault s n (i + 1) (f .next) m) (inStream 5 i (fieldBroken n f)) .line
             → (0 < ruleFault s n (i + 1) (f .next) m .line → Read (ruleFault s n (i + 1) (f .next) m .line))
             → Read (cond t (ruleFault s n (i + 1) (f .next) m) (inStream 5 i (fieldBroken n f)) .line)
         by-test true f e l ih = ih l
-        by-test false f e l ih = read-in w (broken-line-in n p f e)
+        by-test false f e l ih = read-in (omega arith) w (broken-line-in n p f e)
 
         by : (x : Lines) → stream s p ≡ x → 0 < streamOr x (λ r. none) (λ f. cond (keeps n f) (ruleFault s n (i + 1) (f .next) m) (inStream 5 i (fieldBroken n f))) .line
             → ((f : Fields) → stream s p ≡ Lines.Stream f → 0 < ruleFault s n (i + 1) (f .next) m .line → Read (ruleFault s n (i + 1) (f .next) m .line))
@@ -160,7 +161,7 @@ module _ (cap : ℕ) (s : List ℕ) (f : declared.Fault) (l : 0 < f .line) where
         same-line (inStream 6 c 0) e (λ z. by c w q (decLt c n))
       where
         by : (c : ℕ) → Leads (planFrom fs) c c → length (planFrom fs) ≡ n → Dec (c < n) → Somewhere (LineAt cap s (3 + 5 * c + 0))
-        by c w q (yes d) = let p = stream-read s cap n at h n 0 at fs end first r c (omega arith) (omega arith) in (p .0, inside h (p .1) op)
+        by c w q (yes d) = let p = stream-read s cap n at h n 0 at fs end first r c (omega arith) (omega arith) in (p .0, inside h d (p .1) op)
         by c w q (no d) = absurd (no-way (planFrom fs) c (omega arith) w)
 
     after-form : (n at : ℕ) → head cap s ≡ Head.Streams n at → (x : Form) → streams s at n ≡ x → FormSays s (0 + n) x (formFault s 0 at n) → formFault s 0 at n .line ≡ 0 → f ≡ cycleFault cap (planOf cap s) (f .stream) → Told
@@ -172,11 +173,11 @@ module _ (cap : ℕ) (s : List ℕ) (f : declared.Fault) (l : 0 < f .line) where
       where
         by-rule : formFault s 0 at n .line ≡ 0 → (t : Bool) → f ≡ cond t (cycleFault cap (planOf cap s) (f .stream)) (ruleFault s n 0 at n) → Told
         by-rule z true e = after-form n at h (streams s at n) refl (form-says s n 0 at) z e
-        by-rule z false e = same-line (ruleFault s n 0 at n) e (rule-read s cap n at h n 0 at first)
+        by-rule z false e = same-line (ruleFault s n 0 at n) e (rule-read s cap n at h n 0 at (omega arith) first)
 
         by-form : (t : Bool) → eqb (formFault s 0 at n .line) 0 ≡ t → f ≡ cond t (orNext (ruleFault s n 0 at n) (cycleFault cap (planOf cap s) (f .stream))) (formFault s 0 at n) → Told
         by-form true z e = by-rule (eqb-true (formFault s 0 at n .line) 0 z) (eqb (ruleFault s n 0 at n .line) 0) e
-        by-form false z e = same-line (formFault s 0 at n) e (form-read s cap n at h n 0 at first)
+        by-form false z e = same-line (formFault s 0 at n) e (form-read s cap n at h n 0 at (omega arith) first)
 
     at-head : (x : Head) → head cap s ≡ x → f ≡ faultOfHead cap s (f .stream) x → Told
     at-head (Head.Streams n at) h e = at-streams n at h e
@@ -186,14 +187,10 @@ module _ (cap : ℕ) (s : List ℕ) (f : declared.Fault) (l : 0 < f .line) where
         by (Past p) q = (p, count q)
         by Absent q = (0, top)
 
-  told : Found cap s f → Told
+  pub fault-read : Found cap s f → Told
   unfolding faultWith
-  told w = by (ltb textLimit (length s)) (w .place)
+  fault-read w = by (ltb textLimit (length s)) (w .place)
     where
       by : (t : Bool) → f ≡ cond t (fault 1 0 0) (faultOfHead cap s (f .stream) (head cap s)) → Told
       by true e = same-line (fault 1 0 0) e (λ z. absurd (omega arith))
       by false e = at-head (w .lowest) (head cap s) refl e
-
-  -- The line of a fault is read at a position that has one whole line fewer before it: its number is what an editor shows.
-  pub fault-line : Found cap s f → (q : ℕ) × LineAt cap s (f .line) q × Begins s (f .line) q
-  fault-line w = let t = told w in (t .0, t .1, line-begins s cap (t .1))

@@ -17,7 +17,7 @@ use Rattle.text.specs.Grammar.{stream}
 use Rattle.plan.specs.Rules.{keeps, allKeep, Form, refused, formed, put, others, streams}
 use Rattle.plan.specs.Pass.{notedAll}
 use Rattle.plan.proofs.Pass.{turn-streams, noted-kept}
-use Rattle.faults.specs.Marks.{Kept, notedForm}
+use Rattle.faults.specs.Search.{Kept, notedForm}
 
 -- arguments of a stream that keeps rule 5 fit a byte
 module _ (n : ℕ) (f : Fields) (h : n ≤ 256) (e : keeps n f ≡ true) where

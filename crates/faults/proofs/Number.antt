@@ -19,7 +19,8 @@ use Rattle.plan.specs.Rules.{allKeep, Form, refused, formed, streams, planFrom,
 use Rattle.plan.proofs.Rendered.{same-plan}
 use Rattle.faults.specs.declared.Fault.{Fault}
 use Rattle.faults.specs.Faults.{fault, none, inStream, orNext, headLine, formFault, ruleFault, Lowest, cycleFault, planOf, faultOfHead, faultWith, Found}
-use Rattle.faults.specs.Marks.{Kept, LowestTo, LowestIn, FoundAfter}
+use Rattle.marks.specs.Marks.{LowestTo}
+use Rattle.faults.specs.Search.{Kept, LowestIn, FoundAfter}
 use Rattle.faults.proofs.Says.{head-low, form-low, FormSays, form-says, rule-low, Judged, RuleSays, rule-says}
 use Rattle.faults.proofs.Cycles.{none-passes, one-fails}
 

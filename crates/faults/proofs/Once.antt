@@ -15,7 +15,7 @@ use Rattle.text.specs.declared.Head.{Head}
 use Rattle.text.specs.declared.Head.the-variants as Head
 use Rattle.text.specs.Grammar.{head}
 use Rattle.faults.specs.declared.Fault.{Fault}
-use Rattle.faults.specs.Faults.{fault, none, inStream, formFault, ruleFault, Lowest, cycleFault, planOf, faultOfHead, faultWith, Found}
+use Rattle.faults.specs.Faults.{fault, none, inStream, formFault, ruleFault, Lowest, planOf, faultOfHead, faultWith, Found}
 use Rattle.faults.proofs.Number.{found-number}
 
 -- the lowest stream that leads to itself is one

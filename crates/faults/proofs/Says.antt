@@ -23,7 +23,7 @@ use Rattle.text.specs.Grammar.{planLine, streamsKey, firstKey, secondKey, opLin
 use Rattle.plan.specs.Rules.{keeps, allKeep, Form, refused, formed, put, others, streams}
 use Rattle.faults.specs.declared.Fault as declared
 use Rattle.faults.specs.Faults.{fault, none, inStream, streamLine, streamOr, formFault, fieldBroken, ruleFault}
-use Rattle.faults.specs.Marks.{Kept}
+use Rattle.faults.specs.Search.{Kept}
 
 -- ## A faulty line is refused by 2, 3 or 4
 

@@ -25,7 +25,7 @@ alone s = string._++_ "plan=1\nstreams=1\n" s
 abbrev pair : string.String → string.String
 pair s = string._++_ "plan=1\nstreams=2\n" s
 
-abbrev pub three : string.String → string.String
+abbrev three : string.String → string.String
 three s = string._++_ "plan=1\nstreams=3\n" s
 
 -- stream 0 reads a cycle of streams 1 and 2 and is not on it

@@ -50,11 +50,12 @@ abbrev pub headLine : Word → ℕ
 headLine Absent = 1
 headLine (Past p) = 2
 
--- the line j, if it has a fault, or one after it
+-- line j, if it is faulty, or one after it
 abbrev pub lineOr : ℕ → Numeral → (ℕ → ℕ) → ℕ
 lineOr j (Numeral.Number v p) after = after p
 lineOr j Numeral.Fault after = j
 
+-- a, b, k, or else out
 unfoldable pub fieldLine : List ℕ → ℕ → ℕ
 fieldLine s at = lineOr 1 (field s at firstKey 3) (λ p. lineOr 2 (field s p secondKey 3) (λ q. lineOr 3 (valueLine s q) (λ t. 4)))
 
@@ -78,6 +79,7 @@ formFault s i at (suc n) = streamOr (stream s at) (λ r. inStream r i (streamLin
 
 -- ## "Then 5": the first stream that breaks the rule, and of its fields the first that does
 
+-- a, b, k, or else out
 abbrev pub fieldBroken : ℕ → Fields → ℕ
 fieldBroken n f = cond (argOk (usesA (f .op)) n (f .a)) (cond (argOk (usesB (f .op)) n (f .b)) (cond (valueOk (usesK (f .op)) (f .k)) 4 3) 2) 1
 
@@ -106,11 +108,11 @@ abbrev pub faultOfHead : ℕ → List ℕ → ℕ → Head → Fault
 faultOfHead cap s c (Head.Refused r) = fault r (headLine (skip s 0 planLine)) 0
 faultOfHead cap s c (Head.Streams n at) = orNext (formFault s 0 at n) (orNext (ruleFault s n 0 at n) (cycleFault cap (planOf cap s) c))
 
--- with a stream c for 6; of a text that is too long no line is wrong
+-- c is the stream that 6 tells; of a text that is too long no line is told
 unfoldable pub faultWith : ℕ → List ℕ → ℕ → Fault
 faultWith cap s c = cond (ltb textLimit (length s)) (fault 1 0 0) (faultOfHead cap s c (head cap s))
 
--- the fault of a text, for a state with room for so many streams
+-- the fault of a text, for a state with room for so many streams: 6 tells the lowest stream
 pub record Found (cap : ℕ) (s : List ℕ) (f : Fault) : Type 0 where
   pub place : f ≡ faultWith cap s (f .stream)
   pub lowest : f .number ≡ 6 → Lowest (planOf cap s) (f .stream)

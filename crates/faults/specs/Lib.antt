@@ -1,4 +1,4 @@
 pub mod Faults
 pub mod Lines
-pub mod Marks
+pub mod Search
 pub mod Cases

@@ -1,5 +1,5 @@
 -- Believe: the lines of a text as an editor counts them, and where the grammar reads each.
-use Prim.Native.Nat.{ℕ, _+_, _*_}
+use Prim.Native.Nat.{ℕ, _+_, _*_, _<_, _≤_}
 use mathlib.Core.Path.{_≡_}
 use mathlib.Core.List.{List, [], _∷_, _++_}
 use lib.ListN.{drop}
@@ -10,6 +10,7 @@ use Rattle.text.specs.declared.Name.the-variants as Name
 use Rattle.text.specs.declared.Fields.{Fields}
 use Rattle.text.specs.declared.Lines.the-variants as Lines
 use Rattle.text.specs.declared.Head.the-variants as Head
+use Rattle.faults.specs.declared.Fault.{Fault}
 use Rattle.text.specs.Grammar.{planLine, firstKey, secondKey, opLine, stream, head}
 
 -- ## As an editor counts them
@@ -42,13 +43,24 @@ pub data LineIn (s : List ℕ) (at : ℕ) : ℕ → ℕ → Type 0 where
   k : {v p q : ℕ} → LineIn s at 2 p → field s p secondKey 3 ≡ Number v q → LineIn s at 3 q
   out : {v p q : ℕ} → LineIn s at 3 p → valueLine s p ≡ Number v q → LineIn s at 4 q
 
--- stream i, with the first at a position; past the last stream, what is left over
+-- stream i, with the first at a position
 pub data StreamIn (s : List ℕ) (at : ℕ) : ℕ → ℕ → Type 0 where
   first : StreamIn s at 0 at
   next : {i p : ℕ} {f : Fields} → StreamIn s at i p → stream s p ≡ Lines.Stream f → StreamIn s at (i + 1) (f .next)
 
--- a line of a text
+-- a line of a text that announces n streams, and where the text should end
 pub data LineAt (cap : ℕ) (s : List ℕ) : ℕ → ℕ → Type 0 where
   top : LineAt cap s 1 0
   count : {p : ℕ} → skip s 0 planLine ≡ Past p → LineAt cap s 2 p
-  inside : {n at i p j q : ℕ} → head cap s ≡ Head.Streams n at → StreamIn s at i p → LineIn s p j q → LineAt cap s (3 + 5 * i + j) q
+  inside : {n at i p j q : ℕ} → head cap s ≡ Head.Streams n at → i < n → StreamIn s at i p → LineIn s p j q → LineAt cap s (3 + 5 * i + j) q
+  beyond : {n at p : ℕ} → head cap s ≡ Head.Streams n at → StreamIn s at n p → LineAt cap s (3 + 5 * n) p
+
+-- ## The line of a fault
+
+pub record Shown (cap : ℕ) (s : List ℕ) (f : Fault) : Type 0 where
+  pub at : ℕ
+  -- the grammar reads the line there, and an editor shows it there
+  pub read : LineAt cap s (f .line) at
+  pub begins : Begins s (f .line) at
+  -- of 2, 3 and 4: the grammar gets to no later line
+  pub last : f .number ≤ 4 → (m q : ℕ) → LineAt cap s m q → m ≤ f .line

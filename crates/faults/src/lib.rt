@@ -1,7 +1,6 @@
 // Where a plan text is wrong: its number, the line and the stream.
 ghost use mathlib.Core.Path.{_≡_};
-ghost use mathlib.Core.Bool.{_||_};
-ghost use Prim.Native.Nat.{_+_, _*_, _<_, _≤_};
+ghost use Prim.Native.Nat.{_*_, _<_, _≤_};
 ghost use lib.ListN.{length};
 ghost use Rattle.lines.specs.Form.{skip};
 ghost use Rattle.text.specs.declared.Head.the-variants as Head;
@@ -9,9 +8,8 @@ ghost use Rattle.text.specs.Grammar.{planLine, head};
 ghost use Rattle.operators.specs.Limits.{mostStreams};
 ghost use Rattle.operators.specs.Rules.{argOk, valueOk};
 ghost use Rattle.plan.specs.Rules.{streams, number};
-ghost use Rattle.faults.specs.Faults.{fault, inStream, headLine, fieldLine, streamLine, formFault, fieldBroken, ruleFault, Found};
-ghost use Rattle.faults.specs.Marks.{marked, argsMarked, turned, passed, Grown, Spread, Back, LowestBack, Kept, notedForm, LowestIn, FoundAfter};
-use cycle::BARE;
+ghost use Rattle.faults.specs.Faults.{inStream, headLine, fieldLine, streamLine, formFault, fieldBroken, ruleFault, Found};
+ghost use Rattle.faults.specs.Search.{Kept, notedForm, LowestIn, FoundAfter};
 use cycle::GRAPH;
 use lines::Numeral;
 use lines::Word;
@@ -165,111 +163,6 @@ fn rule_fault(text: &[u8], at: usize, n: usize) -> Fault
     }
 }
 
-// Marks a stream, and answers whether that was new.
-fn mark(marks: &mut [u8], x: u8) -> bool
-    ensures { λ r. ⌜ now (marks .exit) ≡ marked x (now (marks .entry)) ⌝ }
-    ensures { λ r. ⌜ Grown (now (marks .entry)) (now (marks .exit)) r ⌝ }
-{
-    let i = x as usize;
-    if marks.len() <= i {
-        return false;
-    }
-    if marks[i] != 0 {
-        return false;
-    }
-    marks[i] = 1;
-    true
-}
-
-fn either(x: bool, y: bool) -> bool
-    ensures { λ r. ⌜ r ≡ (x || y) ⌝ }
-{
-    if x { true } else { y }
-}
-
-// Marks the undelayed arguments of stream i, and answers whether one was new.
-fn mark_arguments(graph: &[u8; GRAPH], i: usize, marks: &mut [u8]) -> bool
-    requires { ⌜ i < mostStreams ⌝ }
-    ensures { λ r. ⌜ now (marks .exit) ≡ argsMarked (now (graph .entry)) i (now (marks .entry)) ⌝ }
-    ensures { λ r. ⌜ Grown (now (marks .entry)) (now (marks .exit)) r ⌝ }
-{
-    let at = 3 * i;
-    if graph[at] == BARE {
-        return false;
-    }
-    let a = graph[at + 1];
-    let b = graph[at + 2];
-    let first = mark(marks, a);
-    let second = mark(marks, b);
-    either(first, second)
-}
-
-// The same, if stream i is marked.
-fn turn(graph: &[u8; GRAPH], i: usize, marks: &mut [u8]) -> bool
-    requires { ⌜ (i < mostStreams) × (i < length (now marks)) ⌝ }
-    ensures { λ r. ⌜ now (marks .exit) ≡ turned (now (graph .entry)) i (now (marks .entry)) ⌝ }
-    ensures { λ r. ⌜ Grown (now (marks .entry)) (now (marks .exit)) r ⌝ }
-{
-    if marks[i] == 0 {
-        return false;
-    }
-    mark_arguments(graph, i, marks)
-}
-
-// The same for n streams, one after the other.
-fn pass(graph: &[u8; GRAPH], n: usize, marks: &mut [u8]) -> bool
-    requires { ⌜ (n ≤ mostStreams) × (n ≤ length (now marks)) ⌝ }
-    ensures { λ r. ⌜ now (marks .exit) ≡ passed (now (graph .entry)) 0 n (now (marks .entry)) ⌝ }
-    ensures { λ r. ⌜ Grown (now (marks .entry)) (now (marks .exit)) r ⌝ }
-{
-    let mut new = false;
-    let mut i = 0;
-    while i < n {
-        let more = turn(graph, i, marks);
-        new = either(new, more);
-        i += 1;
-    }
-    new
-}
-
-// Passes until nothing is new.
-fn spread(graph: &[u8; GRAPH], n: usize, marks: &mut [u8])
-    requires { ⌜ (n ≤ mostStreams) × (n ≤ length (now marks)) ⌝ }
-    ensures { λ _. ⌜ Spread (now (graph .entry)) n (now (marks .entry)) (now (marks .exit)) ⌝ }
-{
-    loop {
-        if !pass(graph, n, marks) {
-            return;
-        }
-    }
-}
-
-// Whether undelayed arguments lead from stream s to itself.
-fn leads_back(graph: &[u8; GRAPH], n: usize, s: usize) -> bool
-    requires { ⌜ (n ≤ mostStreams) × (s < mostStreams) ⌝ }
-    ensures { λ r. ⌜ Back (now (graph .entry)) n s r ⌝ }
-{
-    let mut marks = [0u8; Plan::MOST];
-    mark_arguments(graph, s, &mut marks);
-    spread(graph, n, &mut marks);
-    0 < marks[s]
-}
-
-// The lowest stream below n that leads to itself, or n.
-fn lowest(graph: &[u8; GRAPH], n: usize) -> usize
-    requires { ⌜ n ≤ mostStreams ⌝ }
-    ensures { λ r. ⌜ LowestBack (now (graph .entry)) n r ⌝ }
-{
-    let mut s = 0;
-    while s < n {
-        if leads_back(graph, n, s) {
-            return s;
-        }
-        s += 1;
-    }
-    s
-}
-
 // Notes the undelayed arguments of n streams that keep rule 5.
 fn note_all(text: &[u8], at: usize, n: usize, graph: &mut [u8])
     requires { ⌜ (n ≤ mostStreams) × (3 * n ≤ length (now graph)) × Kept n (streams (now text) at n) ⌝ }
@@ -294,7 +187,7 @@ fn on_cycle(text: &[u8], at: usize, n: usize) -> usize
 {
     let mut graph = [0u8; GRAPH];
     note_all(text, at, n, &mut graph);
-    lowest(&graph, n)
+    marks::lowest(&graph, n)
 }
 
 // The fault of a text whose first two lines announce n streams, the first of them at a position.

@@ -5,7 +5,7 @@ use Prim.Native.Nat.{_≤_, _-_}
 use native.Mathlib.Nat.{sub-zero}
 use lib.ListN.{length}
 use Rattle.plan.specs.Rules.{streams}
-use Rattle.faults.specs.Marks.{Kept, notedForm}
+use Rattle.faults.specs.Search.{Kept, notedForm}
 use Rattle.faults.proofs.Noting.{first-small, second-small, kept-stream, kept-here, kept-next, noted-next, noted-end}
 use borrow.Author.Needs.{needs}
 use native.Mathlib.Omega.{arith}

@@ -3,7 +3,7 @@ use mathlib.Core.Path.{sym, ap, _∙_, subst}
 use lib.Dec.{lit<}
 use denote.Ref.{now}
 use Rattle.faults.specs.declared.Fault.{Fault}
-use Rattle.faults.specs.Marks.{FoundAfter}
+use Rattle.faults.specs.Search.{FoundAfter}
 use Rattle.faults.proofs.Says.{both-none}
 use Rattle.faults.proofs.Number.{found-form, found-rule, found-none, found-cycle, stream-few}
 use borrow.Author.Needs.{needs}

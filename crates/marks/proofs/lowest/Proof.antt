@@ -1,13 +1,13 @@
--- `faults::lowest` meets its contract.
+-- `marks::lowest` meets its contract.
 use Prim.Native.Nat.{ℕ, _≤_, _<_, _-_}
 use mathlib.Core.Path.{subst}
 use mathlib.Core.Bool.{false}
 use denote.Ref.{now}
 use borrow.Author.Count.{below-more}
-use Rattle.faults.specs.Marks.{Back}
+use Rattle.marks.specs.Marks.{Back}
 use native.Mathlib.Omega.{arith}
-use Rattle.faults.proofs.lowest.Statement.{statement}
-use Rattle.faults.proofs.lowest.Tie as tie
+use Rattle.marks.proofs.lowest.Statement.{statement}
+use Rattle.marks.proofs.lowest.Tie as tie
 
 abbrev Inv-loop : tie.InvT-loop
 Inv-loop graph n s₀ s = (s ≤ n) × ((x : ℕ) → x < s → Back graph n x false)

@@ -1,12 +1,12 @@
--- `faults::spread` meets its contract.
+-- `marks::spread` meets its contract.
 use mathlib.Core.Path.{_≡_, refl, _∙_}
 use denote.Ref.{now}
 use lib.ListN.{length}
-use Rattle.faults.specs.Marks.{unmarked, Passes, start}
-use Rattle.faults.proofs.Grown.{spread-more, spread-still, spread-fewer}
+use Rattle.marks.specs.Marks.{unmarked, Passes, start}
+use Rattle.marks.proofs.Grown.{spread-more, spread-still, spread-fewer}
 use native.Mathlib.Omega.{arith}
-use Rattle.faults.proofs.spread.Statement.{statement}
-use Rattle.faults.proofs.spread.Tie as tie
+use Rattle.marks.proofs.spread.Statement.{statement}
+use Rattle.marks.proofs.spread.Tie as tie
 
 abbrev Inv-loop : tie.InvT-loop
 Inv-loop graph n marks₀ marks = Passes graph n marks₀ marks × (length marks ≡ length marks₀)

@@ -1,12 +1,12 @@
--- `faults::leads_back` meets its contract.
+-- `marks::leads_back` meets its contract.
 use Prim.Native.Nat.{ℕ}
 use mathlib.Core.Path.{refl, subst}
 use mathlib.Core.List.{List}
 use denote.Ref.{now}
-use Rattle.faults.specs.Marks.{Spread}
+use Rattle.marks.specs.Marks.{Spread}
 use borrow.Author.Needs.{needs}
-use Rattle.faults.proofs.leads_back.Statement.{statement}
-use Rattle.faults.proofs.leads_back.Tie as tie
+use Rattle.marks.proofs.leads_back.Statement.{statement}
+use Rattle.marks.proofs.leads_back.Tie as tie
 
 slice-aggregate-mark-arguments : tie.Need-slice-aggregate-mark-arguments
 slice-aggregate-mark-arguments c = search needs

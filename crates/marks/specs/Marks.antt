@@ -8,11 +8,6 @@ use lib.ListN.{getD, set, replicate}
 use Rattle.meaning.specs.Plan.{Plan}
 use Rattle.meaning.specs.Cycle.{Leads}
 use Rattle.operators.specs.Limits.{mostStreams}
-use Rattle.plan.specs.Rules.{allKeep, Form, refused, formed, planFrom}
-use Rattle.plan.specs.Pass.{notedAll}
-use Rattle.text.specs.declared.Head.the-variants as Head
-use Rattle.faults.specs.declared.Fault.{Fault}
-use Rattle.faults.specs.Faults.{Lowest, planOf, faultOfHead}
 
 -- ## Marks: a byte for each stream, 0 if it is not marked
 
@@ -67,27 +62,8 @@ pub record LowestBack (g : List ℕ) (n r : ℕ) : Type 0 where
 
 -- ## The same of the plan
 
--- all streams of a text that was read keep rule 5
-abbrev pub Kept : ℕ → Form → Type 0
-Kept n (refused r) = ⊥
-Kept n (formed fs end) = allKeep n fs ≡ true
-
--- their graph, from stream i on
-abbrev pub notedForm : ℕ → ℕ → Form → List ℕ → List ℕ
-notedForm n i (refused r) g = g
-notedForm n i (formed fs end) g = notedAll n i fs g
-
 -- the lowest stream below n that leads to itself, or n
 pub record LowestTo (n : ℕ) (plan : Plan) (r : ℕ) : Type 0 where
   pub few : r ≤ n
   pub itself : r < n → Leads plan r r
   pub below : (x : ℕ) → x < r → Leads plan x x → ⊥
-
-abbrev pub LowestIn : ℕ → Form → ℕ → Type 0
-LowestIn n (refused q) r = Unit {0}
-LowestIn n (formed fs end) r = LowestTo n (planFrom fs) r
-
--- the fault of a text whose first two lines announce n streams
-pub record FoundAfter (cap : ℕ) (s : List ℕ) (n at : ℕ) (f : Fault) : Type 0 where
-  pub place : f ≡ faultOfHead cap s (f .stream) (Head.Streams n at)
-  pub lowest : f .number ≡ 6 → Lowest (planOf cap s) (f .stream)

@@ -1,10 +1,10 @@
--- `faults::mark` meets its contract.
+-- `marks::mark` meets its contract.
 use denote.Ref.{now}
-use Rattle.faults.proofs.Grown.{marked-out, marked-seen, marked-new, grown-none, grown-new}
+use Rattle.marks.proofs.Grown.{marked-out, marked-seen, marked-new, grown-none, grown-new}
 use borrow.Author.Needs.{needs}
 use native.Mathlib.Omega.{arith}
-use Rattle.faults.proofs.mark.Statement.{statement}
-use Rattle.faults.proofs.mark.Tie as tie
+use Rattle.marks.proofs.mark.Statement.{statement}
+use Rattle.marks.proofs.mark.Tie as tie
 
 returns : tie.Need-returns
 returns c = (marked-out (c .before .args .x) (now (c .before .args .marks)) (omega arith), grown-none (now (c .before .args .marks)))

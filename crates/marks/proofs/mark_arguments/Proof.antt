@@ -1,13 +1,13 @@
--- `faults::mark_arguments` meets its contract.
+-- `marks::mark_arguments` meets its contract.
 use mathlib.Core.Path.{sym, ap, _∙_, subst}
 use denote.Ref.{now}
 use Prim.Native.Nat.{_+_, _*_}
-use Rattle.faults.specs.Marks.{marked, Grown}
+use Rattle.marks.specs.Marks.{marked, Grown}
 use lib.ListN.{getD}
-use Rattle.faults.proofs.Grown.{grown-none, grown-both, args-none, args-both}
+use Rattle.marks.proofs.Grown.{grown-none, grown-both, args-none, args-both}
 use borrow.Author.Needs.{needs}
-use Rattle.faults.proofs.mark_arguments.Statement.{statement}
-use Rattle.faults.proofs.mark_arguments.Tie as tie
+use Rattle.marks.proofs.mark_arguments.Statement.{statement}
+use Rattle.marks.proofs.mark_arguments.Tie as tie
 
 mul-at : tie.Need-mul-at
 mul-at c = search needs

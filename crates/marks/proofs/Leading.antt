@@ -1,4 +1,9 @@
 -- The marks of a search say which streams undelayed arguments lead to.
+--
+-- From stream s the first marks are its arguments, and a turn marks only arguments of a marked stream: so s leads to every
+-- marked one. When a pass changes nothing, the arguments of every marked stream are marked: so every stream on a way from s
+-- is marked, by induction on the way. How long a way is does not matter, nor how many passes there were; that they end is
+-- shown apart, since a pass that marks something leaves fewer to mark.
 use Prim.Native.Nat.{ℕ, zero, suc, _+_, _*_, _<_, _≤_}
 use mathlib.Core.Path.{_≡_, refl, sym, ap, _∙_, subst}
 use mathlib.Core.Logic.{_⊎_, inl, inr, ⊎-elim}
@@ -16,8 +21,8 @@ use Rattle.meaning.proofs.Ways.{leads-on}
 use Rattle.meaning.proofs.Within.{Within}
 use Rattle.operators.specs.Limits.{mostStreams}
 use Rattle.cycle.proofs.Tied.{howOf, Args, argsAt, Tied}
-use Rattle.faults.specs.Marks.{marked, argsMarked, turned, passed, Passes, start, pass, Spread, Back}
-use Rattle.faults.proofs.Grown.{args-none, args-both}
+use Rattle.marks.specs.Marks.{marked, argsMarked, turned, passed, Passes, start, pass, Spread, Back, LowestBack, LowestTo}
+use Rattle.marks.proofs.Grown.{args-none, args-both}
 
 -- stream z is marked
 abbrev pub On : List ℕ → ℕ → Type 0
@@ -251,11 +256,19 @@ module _ (plan : Plan) (g : List ℕ) (tied : Tied plan g (λ s. false)) (within
 
   -- a search that comes back to the stream it began at, and one that does not
   module _ (few : n ≤ mostStreams) (s : ℕ) (l : s < n) where
-    pub back-leads : Back g n s true → Leads plan s s
+    back-leads : Back g n s true → Leads plan s s
     back-leads b = marked-leads few s l (b .marks) (b .spread) s (ltb-true 0 (getD (b .marks) s 0) (sym (b .told)))
 
-    pub back-none : Back g n s false → Leads plan s s → ⊥
+    back-none : Back g n s false → Leads plan s s → ⊥
     back-none b w =
         let o = leads-marked few s l (b .marks) (b .spread) w in
         let k = ltb-false 0 (getD (b .marks) s 0) (sym (b .told)) in
         omega arith
+
+  -- the lowest stream that a search comes back to is the lowest that leads to itself
+  pub lowest-leads : n ≤ mostStreams → (m : ℕ) → n ≡ m → (r : ℕ) → LowestBack g m r → LowestTo m plan r
+  lowest-leads few m q r b = record {
+    few = b .few;
+    itself = λ l. back-leads few r (omega arith) (subst (λ (x : ℕ). Back g x r true) (sym q) (b .itself l));
+    below = λ x l. let w = b .few in back-none few x (omega arith) (subst (λ (y : ℕ). Back g y x false) (sym q) (b .below x l));
+  }

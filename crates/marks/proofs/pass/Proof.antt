@@ -1,15 +1,15 @@
--- `faults::pass` meets its contract.
+-- `marks::pass` meets its contract.
 use mathlib.Core.Path.{_≡_, refl, sym, _∙_, subst}
 use denote.Ref.{now}
 use Prim.Native.Nat.{_≤_, _-_}
 use native.Mathlib.Nat.{sub-zero}
 use lib.ListN.{length}
-use Rattle.faults.specs.Marks.{passed, Grown}
-use Rattle.faults.proofs.Grown.{grown-none, grown-both, passed-go, passed-end}
+use Rattle.marks.specs.Marks.{passed, Grown}
+use Rattle.marks.proofs.Grown.{grown-none, grown-both, passed-go, passed-end}
 use borrow.Author.Needs.{needs}
 use native.Mathlib.Omega.{arith}
-use Rattle.faults.proofs.pass.Statement.{statement}
-use Rattle.faults.proofs.pass.Tie as tie
+use Rattle.marks.proofs.pass.Statement.{statement}
+use Rattle.marks.proofs.pass.Tie as tie
 
 abbrev Inv-loop : tie.InvT-loop
 Inv-loop graph n marks₀ new₀ i₀ marks new i = (i ≤ n) × ((passed graph i (n - i) marks ≡ passed graph 0 n marks₀) × (Grown marks₀ marks new × (length marks ≡ length marks₀)))

@@ -8,7 +8,7 @@ use lib.Dec.{eqb}
 use lib.ListN.{length, getD, set, List·getD-eq-default}
 use lib.Seq.{set-out}
 use borrow.Author.Tests.{eq-eqb, ne-eqb, not-true, not-false}
-use Rattle.faults.specs.Marks.{marked, argsMarked, turned, passed, unmarked, Grown, Passes, pass, Spread}
+use Rattle.marks.specs.Marks.{marked, argsMarked, turned, passed, unmarked, Grown, Passes, pass, Spread}
 
 -- ## One stream
 

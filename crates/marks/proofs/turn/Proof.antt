@@ -1,10 +1,10 @@
--- `faults::turn` meets its contract.
+-- `marks::turn` meets its contract.
 use mathlib.Core.Path.{_∙_}
 use denote.Ref.{now}
-use Rattle.faults.proofs.Grown.{grown-none, turned-none, turned-on}
+use Rattle.marks.proofs.Grown.{grown-none, turned-none, turned-on}
 use borrow.Author.Needs.{needs}
-use Rattle.faults.proofs.turn.Statement.{statement}
-use Rattle.faults.proofs.turn.Tie as tie
+use Rattle.marks.proofs.turn.Statement.{statement}
+use Rattle.marks.proofs.turn.Tie as tie
 
 slice-read-if1 : tie.Need-slice-read-if1
 slice-read-if1 c = search needs
