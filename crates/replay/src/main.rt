@@ -4,7 +4,7 @@ ghost use Prim.Native.Nat.{ℕ, _*_, _-_, _<_, _≤_};
 ghost use mathlib.Core.Path.{_≡_};
 ghost use mathlib.Core.Bool.{true, false};
 ghost use mathlib.Core.List.{List};
-ghost use lib.ListN.{length, take, drop};
+ghost use lib.ListN.{length, take};
 ghost use Rattle.operators.specs.Limits.{capacity};
 ghost use Rattle.engine.specs.Load.{loadReply};
 ghost use Rattle.trace.specs.Trace.{line};
