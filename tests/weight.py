@@ -32,11 +32,23 @@ def results(stamp):
     return temperature, weighing(stamp) - cut(temperature, 100)
 
 
+def printed(stamps):
+    """What comes out together: all of stream 5, then all of stream 8."""
+    return ["s=5 t=%d v=%d\n" % (t, results(t)[0]) for t in stamps] + ["s=8 t=%d v=%d\n" % (t, results(t)[1]) for t in stamps]
+
+
 def expected():
-    """A weighing comes out when the thermometer is known past it, each alone: at the progress to the next minute, at its own
-    reading of the full hour, the last one at the end of the record. Stream 5 comes before stream 8."""
-    day = [(t, *results(t)) for t in range(0, DAY, MINUTE)]
-    return [line for t, temperature, weight in day for line in ("s=5 t=%d v=%d\n" % (t, temperature), "s=8 t=%d v=%d\n" % (t, weight))]
+    """A weighing comes out when the thermometer is known past it: at the progress to the next minute, or at its own reading
+    of the full hour, together with the weighing of that hour; the last one at the end of the record."""
+    lines, waiting = [], []
+    for stamp in range(0, DAY, MINUTE):
+        if stamp % HOUR == 0:
+            lines += printed(waiting + [stamp])
+            waiting = []
+        else:
+            lines += printed(waiting)
+            waiting = [stamp]
+    return lines + printed(waiting)
 
 
 FILES = {
