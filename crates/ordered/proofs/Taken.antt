@@ -44,7 +44,7 @@ use Rattle.replaying.proofs.True.{lines-typed}
 use Rattle.replaying.proofs.Once.{lines-once}
 use Rattle.visits.proofs.Quiet.{seen-append}
 use Rattle.ordered.specs.Ordered as Spec
-use Rattle.ordered.specs.Ordered.{raised, Near, Ordered, InOrder, readingsOf, boundFrom, DoneIn, OffersDone, Taken}
+use Rattle.ordered.specs.Ordered.{raised, Near, Ordered, InOrder, readingsOf, boundFrom, DoneIn, OffersDone, EventLines, Taken}
 use Rattle.ordered.proofs.Space.{near-space}
 use Rattle.ordered.proofs.Lists.{done-append, quiet-done, done-accepted, done-known, bound-more, done-lines}
 
@@ -161,3 +161,56 @@ module _ (ds : List Declared) (f : List ℕ) (n : ℕ) (most : n ≤ 2 ^ 32) (fe
       let d = progress-taken (z .0) (z .1) to is s t i l m in
       let k = goes-on y o (λ j. bound-more 0 j os c ∙ ap (boundOf j c) (is j)) (h .1) (offers (z .0) c (h .0) d) (reply-fine c t₀) in
       (joined os c (map callOf rs) w w₀ (refusal (reply c t₀ .number)) v₀ (k .0), k .1)
+
+  -- the whole list
+  taken-whole : (rs : List Record) {w u : List ℕ} → Replays n f rs w u → InOrder ds rs → AllTyped (map callOf rs) → Fine f → Taken ds rs w
+  taken-whole rs p o h g =
+      let z = goes-on p o (λ i. refl) h begun g in
+      let x = z .0 in
+      let K = holds (x .calls) (x .typed) in
+      let same = K .logged in
+      record {
+        told = record {
+          calls = x .calls;
+          typed = x .typed;
+          offers = x .offered;
+          lines = x .lines ∙ ap printedOf same;
+          claim = K .claim;
+          rest = rest x (z .1);
+        };
+        done = subst OffersDone same (x .taken);
+        readings = λ i. ap (accepted i) (sym same) ∙ done-accepted i f (x .calls) (x .taken) ∙ ap (readingsOf i) (x .offered);
+        bounds = λ i. ap (known i) (sym same) ∙ done-known 0 i f (x .calls) (x .taken) ∙ ap (boundFrom 0 i) (x .offered);
+        lines = subst EventLines (sym (x .lines)) (done-lines (seenBy f (x .calls)) (x .taken));
+      }
+
+-- ## The whole
+
+-- Of every plan that load takes, on every buffer: a list of records in order is taken whole.
+pub replay-taken : (plan s : List ℕ) → loadReply plan s .number ≡ 0 → (rs : List Record) → AllTyped (map callOf rs) → InOrder (declared (capacity (length s)) plan) rs
+    → {w t : List ℕ} → Replays (capacity (length s)) (loadReply plan s .buffer) rs w t → Taken (declared (capacity (length s)) plan) rs w
+unfolding seenBy leftBy
+replay-taken plan s e rs h o p = taken-whole (declared (capacity (length s)) plan) (loadReply plan s .buffer) (capacity (length s)) (omega (arith, capacity-few (length s))) few holds rs p o h (inl fine)
+  where
+    l : capacity (length (loadReply plan s .buffer)) ≡ capacity (length s)
+    l = ap capacity (load-length plan s)
+
+    holds : (cs : List Call) → AllTyped cs → Inside (declared (capacity (length s)) plan) cs (seenBy (loadReply plan s .buffer) cs) (leftBy (loadReply plan s .buffer) cs)
+    holds cs k = subst (λ (c : ℕ). Inside (declared c plan) cs (seenBy (loadReply plan s .buffer) cs) (leftBy (loadReply plan s .buffer) cs)) l (load-then plan s e cs k)
+
+    fresh : Inside (declared (capacity (length s)) plan) [] [] (loadReply plan s .buffer)
+    fresh = holds [] tt
+
+    few : length (declared (capacity (length s)) plan) ≤ capacity (length s)
+    few = omega (arith, fresh .rules .few, l)
+
+    fine : Bytes (loadReply plan s .buffer)
+    fine = rw (fresh .bytes) (state-bytes (length (loadReply plan s .buffer)) (final (declared (capacity (length s)) plan) []))
+
+-- And of its text, that has these lines and no others: no line of it is refused, and what is printed are events alone.
+pub ordered-printed : {plan trace s w t : List ℕ} → loadReply plan s .number ≡ 0 → (rs : List Record) → Lines trace rs [] → InOrder (declared (capacity (length s)) plan) rs → Printed plan trace s w t → Taken (declared (capacity (length s)) plan) rs w
+ordered-printed e rs l o (refused q) = let z : _≡_ {A = ℕ} 0 1 = cc in absurd (omega arith)
+ordered-printed {plan} {s = s} e rs l o (played {w = w} {t = t} q m p x) =
+    let g = lines-once m x l end in
+    subst (Taken (declared (capacity (length s)) plan) rs) (sym (append-nil w) ∙ ap (λ (v : List ℕ). w ++ v) (sym (g .1)))
+    (replay-taken plan s e rs (lines-typed l) o (subst (λ (k : List Record). Replays (capacity (length s)) (loadReply plan s .buffer) k w t) (g .0) p))
