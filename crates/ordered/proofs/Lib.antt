@@ -1,3 +1,4 @@
 pub mod Space
 pub mod Lists
 pub mod Taken
+pub mod CasesHold

@@ -43,8 +43,7 @@ use Rattle.replaying.proofs.Told.{still-rest}
 use Rattle.replaying.proofs.True.{lines-typed}
 use Rattle.replaying.proofs.Once.{lines-once}
 use Rattle.visits.proofs.Quiet.{seen-append}
-use Rattle.ordered.specs.Ordered as Spec
-use Rattle.ordered.specs.Ordered.{raised, Near, Ordered, InOrder, readingsOf, boundFrom, DoneIn, OffersDone, EventLines, Taken}
+use Rattle.ordered.specs.Ordered.{Near, Ordered, InOrder, readingsOf, boundFrom, DoneIn, OffersDone, EventLines, Taken}
 use Rattle.ordered.proofs.Space.{near-space}
 use Rattle.ordered.proofs.Lists.{done-append, quiet-done, done-accepted, done-known, bound-more, done-lines}
 
@@ -146,20 +145,20 @@ module _ (ds : List Declared) (f : List ℕ) (n : ℕ) (most : n ≤ 2 ^ 32) (fe
   -- record by record
   goes-on : {os : List Call} {w b : List ℕ} {rs : List Record} {v u : List ℕ} {to : ℕ → ℕ} → Replays n b rs v u → Ordered ds to rs → ((i : ℕ) → boundFrom 0 i os ≡ to i) → AllTyped (map callOf rs) → Played os w b → Fine b
       → Played (os ++ map callOf rs) (w ++ v) u × Still n u
-  goes-on {os} {w} {v = v} {u = u} (ends p) Spec.end is h x g =
+  goes-on {os} {w} {v = v} {u = u} (ends p) o is h x g =
       let z = settled x g p in
       (subst (λ (l : List Call). Played l (w ++ v) u) (sym (append-nil os)) (z .0), z .1)
-  goes-on {os} {w} {to = to} (goes {w = w₀} {t = t₀} {rs = rs} {v = v₀} {u = u} p y) (Spec.reads {s = s} {t = t} {v = v} i l near o) is h x g =
+  goes-on {os} {w} {to = to} (goes {w = w₀} {t = t₀} {r = Reading s t v} {rs = rs} {v = v₀} p y) o is h x g =
       let z = settled x g p in
       let c = reading s t v in
-      let d = reading-taken (z .0) (z .1) to is s t v i l near in
-      let k = goes-on y o (λ j. bound-more 0 j os c ∙ ap (boundOf j c) (is j)) (h .1) (offers (z .0) c (h .0) d) (reply-fine c t₀) in
+      let d = reading-taken (z .0) (z .1) to is s t v (o .0) (o .1) (o .2) in
+      let k = goes-on y (o .3) (λ j. bound-more 0 j os c ∙ ap (boundOf j c) (is j)) (h .1) (offers (z .0) c (h .0) d) (reply-fine c t₀) in
       (joined os c (map callOf rs) w w₀ (refusal (reply c t₀ .number)) v₀ (k .0), k .1)
-  goes-on {os} {w} {to = to} (goes {w = w₀} {t = t₀} {rs = rs} {v = v₀} {u = u} p y) (Spec.goes {s = s} {y = t} i l m o) is h x g =
+  goes-on {os} {w} {to = to} (goes {w = w₀} {t = t₀} {r = Progress s t} {rs = rs} {v = v₀} p y) o is h x g =
       let z = settled x g p in
       let c = progress s t in
-      let d = progress-taken (z .0) (z .1) to is s t i l m in
-      let k = goes-on y o (λ j. bound-more 0 j os c ∙ ap (boundOf j c) (is j)) (h .1) (offers (z .0) c (h .0) d) (reply-fine c t₀) in
+      let d = progress-taken (z .0) (z .1) to is s t (o .0) (o .1) (o .2) in
+      let k = goes-on y (o .3) (λ j. bound-more 0 j os c ∙ ap (boundOf j c) (is j)) (h .1) (offers (z .0) c (h .0) d) (reply-fine c t₀) in
       (joined os c (map callOf rs) w w₀ (refusal (reply c t₀ .number)) v₀ (k .0), k .1)
 
   -- the whole list

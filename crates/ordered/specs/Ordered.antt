@@ -27,12 +27,12 @@ raised to s y i = cond (eqb s i) y (to i)
 abbrev pub Near : List Declared → (ℕ → ℕ) → ℕ → Type 0
 Near ds to s = (j : ℕ) → IsInput ds j → to s < to j + room
 
-pub data Ordered (ds : List Declared) : (ℕ → ℕ) → List Record → Type 0 where
-  end : {to : ℕ → ℕ} → Ordered ds to []
-  -- a reading comes no earlier than its input is known to, and with all other inputs near
-  reads : {to : ℕ → ℕ} {s t : ℕ} {v : ℤ} {rs : List Record} → IsInput ds s → to s ≤ t → Near ds to s → Ordered ds (raised to s (suc t)) rs → Ordered ds to (Reading s t v ∷ rs)
-  -- progress does not go back, nor past the horizon
-  goes : {to : ℕ → ℕ} {s y : ℕ} {rs : List Record} → IsInput ds s → to s ≤ y → y ≤ horizon → Ordered ds (raised to s y) rs → Ordered ds to (Progress s y ∷ rs)
+abbrev pub Ordered : List Declared → (ℕ → ℕ) → List Record → Type 0
+Ordered ds to [] = Unit {0}
+-- a reading comes no earlier than its input is known to, and with all other inputs near
+Ordered ds to (Reading s t v ∷ rs) = IsInput ds s × (to s ≤ t) × Near ds to s × Ordered ds (raised to s (suc t)) rs
+-- progress does not go back, nor past the horizon
+Ordered ds to (Progress s y ∷ rs) = IsInput ds s × (to s ≤ y) × (y ≤ horizon) × Ordered ds (raised to s y) rs
 
 -- from the first line on: nothing is known
 abbrev pub InOrder : List Declared → List Record → Type 0
