@@ -38,20 +38,50 @@ both P p q (suc (suc (suc j))) h = absurd (h .1)
 -- ## In order
 
 pub records-ordered : InOrder Cases.streams Cases.records
-records-ordered =
-    (input-1, omega arith, omega arith,
-    (input-0, omega arith, both _ (omega arith) (omega arith),
-    (input-0, omega arith, both _ (omega arith) (omega arith),
-    (input-1, omega arith, both _ (omega arith) (omega arith),
-    (input-0, omega arith, omega arith,
-    (input-1, omega arith, both _ (omega arith) (omega arith),
-    (input-0, omega arith, omega arith, tt)))))))
+records-ordered = (
+  input-1,
+  omega arith,
+  omega arith,
+  (
+    input-0,
+    omega arith,
+    both _ (omega arith) (omega arith),
+    (
+      input-0,
+      omega arith,
+      both _ (omega arith) (omega arith),
+      (
+        input-1,
+        omega arith,
+        both _ (omega arith) (omega arith),
+        (
+          input-0,
+          omega arith,
+          omega arith,
+          (
+            input-1,
+            omega arith,
+            both _ (omega arith) (omega arith),
+            (input-0, omega arith, omega arith, tt),
+          ),
+        ),
+      ),
+    ),
+  ),
+)
 
 pub ahead-ordered : InOrder Cases.streams Cases.ahead
-ahead-ordered =
-    (input-0, omega arith, both _ (omega arith) (omega arith),
-    (input-0, omega arith, both _ (omega arith) (omega arith),
-    (input-0, omega arith, omega arith, tt)))
+ahead-ordered = (
+  input-0,
+  omega arith,
+  both _ (omega arith) (omega arith),
+  (
+    input-0,
+    omega arith,
+    both _ (omega arith) (omega arith),
+    (input-0, omega arith, omega arith, tt),
+  ),
+)
 
 pub too-far : InOrder Cases.streams Cases.tooFar → ⊥
 too-far o = let z = o .3 .2 1 input-1 in omega arith

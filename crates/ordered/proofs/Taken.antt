@@ -1,11 +1,11 @@
 -- A trace that is in order is taken whole: before each record the replay is at rest, so its offer is done.
-use Prim.Native.Nat.{ℕ, suc, _+_, _^_, _≤_, _<_}
+use Prim.Native.Nat.{ℕ, suc, _^_, _≤_}
 use mathlib.Core.Path.{_≡_, refl, sym, ap, ap₂, _∙_, subst}
 use mathlib.Core.Logic.{inl}
-use mathlib.Core.Bool.{Bool, true, false, not}
+use mathlib.Core.Bool.{Bool, true, false}
 use mathlib.Core.List.{List, [], _∷_, _++_, map, append-nil, append-assoc}
 use native.Mathlib.Omega.{arith}
-use lib.Dec.{T, leb}
+use lib.Dec.{leb}
 use lib.IntN.{ℤ}
 use lib.ListN.{length}
 use borrow.Author.Tests.{le-ltb}
@@ -19,7 +19,6 @@ use Rattle.machine.specs.Calls.{Call, reading, progress, arrivals, done, unless
 use Rattle.runs.specs.Seen.{boundOf, Typed, AllTyped, accepted, known}
 use Rattle.runs.specs.Demand3.{IsInput, AtRest}
 use Rattle.runs.specs.Claim.{Keeps, final, seen, nextNumber}
-use Rattle.runs.proofs.World.{Shape}
 use Rattle.runs.proofs.Claimed.{shape, known-is}
 use Rattle.operators.specs.Limits.{capacity}
 use Rattle.operators.proofs.Sizes.{capacity-few}

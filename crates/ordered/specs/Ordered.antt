@@ -6,7 +6,7 @@ use mathlib.Core.List.{List, [], _∷_, _++_, map}
 use lib.Dec.{eqb}
 use lib.IntN.{ℤ}
 use Rattle.meaning.specs.Events.{Event, horizon}
-use Rattle.machine.specs.State.{Declared, room, loaded}
+use Rattle.machine.specs.State.{Declared, room}
 use Rattle.machine.specs.Calls.{Call, reading, progress, moving, running, collecting}
 use Rattle.runs.specs.Seen.{Seen, readingOf, boundOf, accepted, known}
 use Rattle.runs.specs.Demand3.{IsInput}
@@ -23,7 +23,7 @@ use Rattle.replaying.specs.Session.{Told}
 abbrev pub raised : (ℕ → ℕ) → (s y : ℕ) → ℕ → ℕ
 raised to s y i = cond (eqb s i) y (to i)
 
--- no input is so many stamps behind s that s could hold 16 events: it holds none that every input is known past
+-- no input is 16 stamps or more behind s: at rest s holds only events that some input is not known past, so fewer than 16
 abbrev pub Near : List Declared → (ℕ → ℕ) → ℕ → Type 0
 Near ds to s = (j : ℕ) → IsInput ds j → to s < to j + room
 
