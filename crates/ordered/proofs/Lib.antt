@@ -2,3 +2,4 @@ pub mod Space
 pub mod Lists
 pub mod Taken
 pub mod CasesHold
+pub mod Order

@@ -1,2 +1,3 @@
 pub mod Ordered
+pub mod Order
 pub mod Cases

@@ -1,0 +1,58 @@
+-- Believe: the trace that `./order` makes of readings: by rising stamp and then by input.
+use Prim.Native.Nat.{ℕ, zero, suc}
+use mathlib.Core.Bool.{Bool, not, cond, _&&_}
+use mathlib.Core.Option.{Option, none, some}
+use mathlib.Core.List.{List, [], _∷_, _++_}
+use lib.Dec.{ltb}
+use lib.IntN.{ℤ}
+use lib.ListN.{length}
+use Rattle.meaning.specs.Plan.{eqnAt, isInput}
+use Rattle.meaning.specs.Events.{Streams, has}
+use Rattle.machine.specs.State.{Declared, declaredPlan}
+use Rattle.trace.specs.declared.Record.{Record}
+use Rattle.trace.specs.declared.Record.the-variants.{Reading, Progress}
+use Rattle.ordered.specs.Ordered.{raised}
+
+-- how far each input is known after some records
+abbrev pub knownAfter : (ℕ → ℕ) → List Record → ℕ → ℕ
+knownAfter to [] = to
+knownAfter to (Reading s t v ∷ rs) = knownAfter (raised to s (suc t)) rs
+knownAfter to (Progress s y ∷ rs) = knownAfter (raised to s y) rs
+
+abbrev pub isIn : List Declared → ℕ → Bool
+isIn ds s = isInput (eqnAt (declaredPlan ds) s)
+
+-- a reading, if there is one
+abbrev pub given : (s t : ℕ) → Option ℤ → List Record
+given s t none = []
+given s t (some v) = Reading s t v ∷ []
+
+-- progress first, if there are readings
+abbrev pub behind : List Record → List Record → List Record
+behind progress [] = []
+behind progress (r ∷ rs) = progress ++ (r ∷ rs)
+
+-- of the streams ds of a plan, with the readings rd of each input, at most one at each stamp
+module _ (ds : List Declared) (rd : Streams) where
+  -- the readings at stamp t, of n streams from s on
+  abbrev pub readingsAt : (t s n : ℕ) → List Record
+  readingsAt t s zero = []
+  readingsAt t s (suc n) = cond (isIn ds s) (given s t (rd s t)) [] ++ readingsAt t (suc s) n
+
+  -- progress to t, of those that have none there and are not known so far
+  abbrev pub progressAt : (ℕ → ℕ) → (t s n : ℕ) → List Record
+  progressAt to t s zero = []
+  progressAt to t s (suc n) = cond (isIn ds s && (not (has (rd s t)) && ltb (to s) t)) (Progress s t ∷ progressAt (raised to s t) t (suc s) n) (progressAt to t (suc s) n)
+
+  -- "before the readings of a stamp, progress of the other inputs to it"
+  abbrev pub stampAt : (ℕ → ℕ) → ℕ → List Record
+  stampAt to t = behind (progressAt to t 0 (length ds)) (readingsAt t 0 (length ds))
+
+  -- "by rising stamp and then by input": the readings below stamp t
+  unfoldable pub traceTo : ℕ → List Record
+  traceTo zero = []
+  traceTo (suc t) = traceTo t ++ stampAt (knownAfter (λ i. 0) (traceTo t)) t
+
+-- "at the end progress of all inputs" to y
+abbrev pub orderOf : List Declared → Streams → (n y : ℕ) → List Record
+orderOf ds rd n y = traceTo ds rd n ++ progressAt ds (λ s t. none) (knownAfter (λ i. 0) (traceTo ds rd n)) y 0 (length ds)
