@@ -13,6 +13,7 @@ use lib.ListN.{length}
 use borrow.Author.Tests.{ltb-false, eq-eqb, ne-eqb}
 use Rattle.meaning.specs.Events.{Streams, has, horizon}
 use Rattle.machine.specs.State.{Declared}
+use Rattle.meaning.proofs.Tests.{Is, yes!, no!, look}
 use Rattle.runs.specs.Demand3.{IsInput}
 use Rattle.trace.specs.declared.Record.{Record}
 use Rattle.trace.specs.declared.Record.the-variants.{Reading, Progress}
@@ -155,3 +156,71 @@ module _ (ds : List Declared) (rd : Streams) where
       go true f (some v) g (no d) x y = x (omega arith)
       go true f none g (no d) x y = y (omega arith)
       go false f o g (no d) x y = y (omega arith)
+
+  -- ## A stamp
+
+  -- before stamp t: no input is more than one stamp ahead of another, and none is known past t
+  record Even (to : ℕ → ℕ) (t : ℕ) : Type 0 where
+    least : ℕ
+    low : (j : ℕ) → IsInput ds j → least ≤ to j
+    high : (j : ℕ) → IsInput ds j → to j ≤ suc least
+    past : (j : ℕ) → IsInput ds j → to j ≤ t
+
+  -- after the progress
+  module _ (to : ℕ → ℕ) (t : ℕ) (x : Even to t) where
+    abbrev mid : ℕ → ℕ
+    mid = knownAfter to (progressAt ds rd to t 0 (length ds))
+
+    mid-low : (j : ℕ) → IsInput ds j → x .least ≤ mid j
+    mid-low j i = let a = x .low j i in progress-each (λ k. x .least ≤ k) to t 0 (length ds) j (λ e l. omega arith) a
+
+    mid-past : (j : ℕ) → IsInput ds j → mid j ≤ t
+    mid-past j i = progress-each (λ k. k ≤ t) to t 0 (length ds) j (λ e l. omega arith) (x .past j i)
+
+    mid-high : (j : ℕ) → IsInput ds j → T (has (rd j t)) → mid j ≤ suc (x .least)
+    mid-high j i h = progress-each (λ k. k ≤ suc (x .least)) to t 0 (length ds) j (λ e l. absurd (rw e at h)) (x .high j i)
+
+    both-ordered : t ≤ horizon → Ordered ds to (progressAt ds rd to t 0 (length ds) ++ readingsAt ds rd t 0 (length ds))
+    both-ordered h =
+        ordered-append ds to (progressAt ds rd to t 0 (length ds)) (readingsAt ds rd t 0 (length ds)) (progress-ordered to t 0 (length ds) h (omega arith))
+        (readings-ordered mid (x .least) t 0 (length ds) (omega arith) mid-low (λ j k i e. (mid-high j i e, mid-past j i)))
+
+    both-even : Even (knownAfter to (progressAt ds rd to t 0 (length ds) ++ readingsAt ds rd t 0 (length ds))) (suc t)
+    both-even = rw (known-append to (progressAt ds rd to t 0 (length ds)) (readingsAt ds rd t 0 (length ds))) (record { least = t; low = above; high = below; past = below })
+      where
+        below : (j : ℕ) → IsInput ds j → knownAfter mid (readingsAt ds rd t 0 (length ds)) j ≤ suc t
+        below j i = readings-each (λ k. k ≤ suc t) mid t 0 (length ds) j (omega arith) (omega (arith, mid-past j i))
+
+        above : (j : ℕ) → IsInput ds j → t ≤ knownAfter mid (readingsAt ds rd t 0 (length ds)) j
+        above j i = go (look (has (rd j t)))
+          where
+            go : Is (has (rd j t)) → t ≤ knownAfter mid (readingsAt ds rd t 0 (length ds)) j
+            go (yes! e h) = let l = i .0 in readings-told mid t 0 (length ds) j (omega arith) (omega arith) (i .1) h
+            go (no! e h) =
+                let l = i .0 in
+                readings-each (λ k. t ≤ k) mid t 0 (length ds) j (omega arith) (progress-told to t 0 (length ds) j (omega arith) (omega arith) (i .1) e)
+
+    stamp-even : t ≤ horizon → Ordered ds to (stampAt ds rd to t) × Even (knownAfter to (stampAt ds rd to t)) (suc t)
+    stamp-even h = go (readingsAt ds rd t 0 (length ds)) (both-ordered h) both-even
+      where
+        go : (rs : List Record) → Ordered ds to (progressAt ds rd to t 0 (length ds) ++ rs) → Even (knownAfter to (progressAt ds rd to t 0 (length ds) ++ rs)) (suc t)
+            → Ordered ds to (behind (progressAt ds rd to t 0 (length ds)) rs) × Even (knownAfter to (behind (progressAt ds rd to t 0 (length ds)) rs)) (suc t)
+        go [] o e = (tt, record { least = x .least; low = x .low; high = x .high; past = λ j i. omega (arith, x .past j i) })
+        go (r ∷ rs) o e = (o, e)
+
+  -- ## The whole trace
+
+  trace-even : (n : ℕ) → n ≤ horizon → InOrder ds (traceTo ds rd n) × Even (knownAfter (λ i. 0) (traceTo ds rd n)) n
+  unfolding traceTo
+  trace-even zero h = (tt, record { least = 0; low = λ j i. omega arith; high = λ j i. omega arith; past = λ j i. omega arith })
+  trace-even (suc t) h =
+      let x = trace-even t (omega arith) in
+      let to = knownAfter (λ i. 0) (traceTo ds rd t) in
+      let y = stamp-even to t (x .1) (omega arith) in
+      (ordered-append ds (λ i. 0) (traceTo ds rd t) (stampAt ds rd to t) (x .0) (y .0), rw (known-append (λ i. 0) (traceTo ds rd t) (stampAt ds rd to t)) (y .1))
+
+-- whatever the plan and the readings
+pub order-ordered : (ds : List Declared) (rd : Streams) (n y : ℕ) → n ≤ horizon → y ≤ horizon → InOrder ds (orderOf ds rd n y)
+order-ordered ds rd n y h k =
+    let to = knownAfter (λ i. 0) (traceTo ds rd n) in
+    ordered-append ds (λ i. 0) (traceTo ds rd n) (progressAt ds (λ s t. none) to y 0 (length ds)) (trace-even ds rd n h .0) (progress-ordered ds (λ s t. none) to y 0 (length ds) k (omega arith))
