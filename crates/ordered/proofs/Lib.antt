@@ -3,3 +3,4 @@ pub mod Lists
 pub mod Taken
 pub mod CasesHold
 pub mod Order
+pub mod Lossless

@@ -27,7 +27,7 @@ ordered-append ds to [] qs h k = k
 ordered-append ds to (Reading s t v ∷ rs) qs h k = (h .0, h .1, h .2, ordered-append ds (raised to s (suc t)) rs qs (h .3) k)
 ordered-append ds to (Progress s y ∷ rs) qs h k = (h .0, h .1, h .2, ordered-append ds (raised to s y) rs qs (h .3) k)
 
-known-append : (to : ℕ → ℕ) (rs qs : List Record) → knownAfter to (rs ++ qs) ≡ knownAfter (knownAfter to rs) qs
+pub known-append : (to : ℕ → ℕ) (rs qs : List Record) → knownAfter to (rs ++ qs) ≡ knownAfter (knownAfter to rs) qs
 known-append to [] qs = refl
 known-append to (Reading s t v ∷ rs) qs = known-append (raised to s (suc t)) rs qs
 known-append to (Progress s y ∷ rs) qs = known-append (raised to s y) rs qs
@@ -100,7 +100,7 @@ module _ (ds : List Declared) (rd : Streams) where
       go false u w x y = y
 
   -- one that is silent there is then known to it
-  progress-told : (to : ℕ → ℕ) (t s n j : ℕ) → s ≤ j → j < s + n → T (isIn ds j) → has (rd j t) ≡ false → t ≤ knownAfter to (progressAt ds rd to t s n) j
+  pub progress-told : (to : ℕ → ℕ) (t s n j : ℕ) → s ≤ j → j < s + n → T (isIn ds j) → has (rd j t) ≡ false → t ≤ knownAfter to (progressAt ds rd to t s n) j
   progress-told to t s zero j l m i e = absurd (omega arith)
   progress-told to t s (suc n) j l m i e =
       go (Told to t s) (λ q z. ltb-false (to s) t (told-not (isIn ds s) (has (rd s t)) (ltb (to s) t) (rw q i) (rw q e) z)) (ℕ-discrete s j)

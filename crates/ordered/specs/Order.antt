@@ -1,5 +1,6 @@
 -- Believe: the trace that `./order` makes of readings: by rising stamp and then by input.
-use Prim.Native.Nat.{ℕ, zero, suc}
+use Prim.Native.Nat.{ℕ, zero, suc, _≤_}
+use mathlib.Core.Path.{_≡_}
 use mathlib.Core.Bool.{Bool, not, cond, _&&_}
 use mathlib.Core.Option.{Option, none, some}
 use mathlib.Core.List.{List, [], _∷_, _++_}
@@ -7,11 +8,14 @@ use lib.Dec.{ltb}
 use lib.IntN.{ℤ}
 use lib.ListN.{length}
 use Rattle.meaning.specs.Plan.{eqnAt, isInput}
-use Rattle.meaning.specs.Events.{Streams, has}
+use Rattle.meaning.specs.Events.{Streams, events, has}
 use Rattle.machine.specs.State.{Declared, declaredPlan}
+use Rattle.runs.specs.Seen.{accepted, known}
+use Rattle.runs.specs.Demand3.{IsInput}
+use Rattle.runs.specs.Claim.{seen}
 use Rattle.trace.specs.declared.Record.{Record}
 use Rattle.trace.specs.declared.Record.the-variants.{Reading, Progress}
-use Rattle.ordered.specs.Ordered.{raised}
+use Rattle.ordered.specs.Ordered.{raised, Taken}
 
 -- how far each input is known after some records
 abbrev pub knownAfter : (ℕ → ℕ) → List Record → ℕ → ℕ
@@ -56,3 +60,11 @@ module _ (ds : List Declared) (rd : Streams) where
 -- "at the end progress of all inputs" to y
 abbrev pub orderOf : List Declared → Streams → (n y : ℕ) → List Record
 orderOf ds rd n y = traceTo ds rd n ++ progressAt ds (λ s t. none) (knownAfter (λ i. 0) (traceTo ds rd n)) y 0 (length ds)
+
+-- what is printed of that trace comes from a replay that loses nothing
+pub record Lossless (ds : List Declared) (rd : Streams) (n y : ℕ) (printed : List ℕ) : Type 1 where
+  -- no line is refused
+  pub taken : Taken ds (orderOf ds rd n y) printed
+  -- the accepted readings of each input are all its readings below n, and it is known to y at least
+  pub readings : (i : ℕ) → IsInput ds i → accepted i (seen ds (taken .told .calls)) ≡ events (rd i) n
+  pub bounds : (i : ℕ) → IsInput ds i → y ≤ known i (seen ds (taken .told .calls))
