@@ -1,4 +1,4 @@
--- The premises are met: what `./order` makes of some readings is in order, so its replay is taken whole; and the edges.
+-- The premises are met: what `./order` printed of some readings is the trace of the definition, and its replay loses nothing.
 use Prim.Native.Nat.{ℕ, zero, suc}
 use mathlib.Core.Path.{_≡_, refl, sym, ap, _∙_, subst}
 use mathlib.Core.List.{List, []}
@@ -14,11 +14,13 @@ use Rattle.plan.specs.Rules.{allKeep, streams, planFrom, numberAfter, number, d
 use Rattle.machine.specs.State.{Declared}
 use Rattle.runs.specs.Demand3.{IsInput}
 use Rattle.engine.specs.Load.{loadReply}
+use Rattle.trace.specs.declared.Record.{Record}
 use Rattle.trace.specs.Trace.{valueAfter, stampAfter, boundAfter, inputAfter, line}
 use Rattle.replaying.specs.Whole.{Lines, none, more, Printed}
-use Rattle.ordered.specs.Ordered.{InOrder, Taken}
+use Rattle.ordered.specs.Ordered.{InOrder}
+use Rattle.ordered.specs.Order.{traceTo, orderOf, Lossless}
 use Rattle.ordered.specs.Cases as Cases
-use Rattle.ordered.proofs.Taken.{ordered-printed}
+use Rattle.ordered.proofs.Lossless.{order-lossless}
 
 -- ## The inputs
 
@@ -35,40 +37,7 @@ both P p q (suc zero) h = q
 both P p q (suc (suc zero)) h = absurd (h .1)
 both P p q (suc (suc (suc j))) h = absurd (h .1)
 
--- ## In order
-
-pub records-ordered : InOrder Cases.streams Cases.records
-records-ordered = (
-  input-1,
-  omega arith,
-  omega arith,
-  (
-    input-0,
-    omega arith,
-    both _ (omega arith) (omega arith),
-    (
-      input-0,
-      omega arith,
-      both _ (omega arith) (omega arith),
-      (
-        input-1,
-        omega arith,
-        both _ (omega arith) (omega arith),
-        (
-          input-0,
-          omega arith,
-          omega arith,
-          (
-            input-1,
-            omega arith,
-            both _ (omega arith) (omega arith),
-            (input-0, omega arith, omega arith, tt),
-          ),
-        ),
-      ),
-    ),
-  ),
-)
+-- ## How far ahead a reading may be
 
 pub ahead-ordered : InOrder Cases.streams Cases.ahead
 ahead-ordered = (
@@ -100,9 +69,15 @@ case-lines : Lines Cases.trace Cases.records []
 unfolding line inputAfter stampAfter boundAfter valueAfter signed whole scan skip
 case-lines = more refl (more refl (more refl (more refl (more refl (more refl (more refl none))))))
 
--- on a buffer with room for 32 streams the trace is taken whole
-pub case-taken : (s : List ℕ) → length s ≡ stateLength → {w t : List ℕ} → Printed Cases.plan Cases.trace s w t → Taken Cases.streams Cases.records w
-case-taken s size {w} p = subst (λ (ds : List Declared). Taken ds Cases.records w) is (ordered-printed loads Cases.records case-lines (subst (λ (ds : List Declared). InOrder ds Cases.records) (sym is) records-ordered) p)
+case-order : orderOf Cases.streams Cases.readings 10 10 ≡ Cases.records
+unfolding traceTo
+case-order = refl
+
+-- on a buffer with room for 32 streams its replay loses nothing
+pub case-lossless : (s : List ℕ) → length s ≡ stateLength → {w t : List ℕ} → Printed Cases.plan Cases.trace s w t → Lossless Cases.streams Cases.readings 10 10 w
+case-lossless s size {w} p =
+    subst (λ (ds : List Declared). Lossless ds Cases.readings 10 10 w) is
+    (order-lossless loads Cases.readings 10 10 (omega arith) (omega arith) (subst (λ (rs : List Record). Lines Cases.trace rs []) (sym case-order ∙ ap (λ (ds : List Declared). orderOf ds Cases.readings 10 10) (sym is)) case-lines) p)
   where
     room-32 : capacity (length s) ≡ 32
     room-32 = unfold capacity in rw size

@@ -6,13 +6,13 @@ use mathlib.Core.Option.{Option, none, some}
 use mathlib.Core.List.{List, [], _∷_, _++_, map, append-nil, append-assoc}
 use native.Mathlib.Omega.{arith}
 use native.Mathlib.Decide.{ℕ-discrete}
-use lib.Dec.{T, eqb, ltb}
+use lib.Dec.{T, ltb}
 use lib.IntN.{ℤ}
 use lib.ListN.{length}
 use borrow.Author.Tests.{eq-eqb, ne-eqb}
-use Rattle.meaning.specs.Events.{Event, ev, here, Streams, events, has, horizon}
+use Rattle.meaning.specs.Events.{Event, here, Streams, events, has, horizon}
 use Rattle.machine.specs.State.{Declared}
-use Rattle.runs.specs.Seen.{boundOf, readingOf}
+use Rattle.runs.specs.Seen.{readingOf}
 use Rattle.runs.specs.Demand3.{IsInput}
 use Rattle.operators.specs.Limits.{capacity}
 use Rattle.plan.specs.Rules.{declared}
@@ -22,7 +22,7 @@ use Rattle.trace.specs.declared.Record.the-variants.{Reading, Progress}
 use Rattle.replaying.specs.Replay.{callOf}
 use Rattle.replaying.specs.Whole.{Lines, Printed}
 use Rattle.ordered.specs.Ordered.{raised, readingsOf, boundFrom}
-use Rattle.ordered.specs.Order.{knownAfter, isIn, given, behind, readingsAt, progressAt, stampAt, traceTo, orderOf, Lossless}
+use Rattle.ordered.specs.Order.{knownAfter, isIn, given, led, readingsAt, progressAt, stampAt, traceTo, orderOf, Lossless}
 use Rattle.ordered.proofs.Taken.{ordered-printed}
 use Rattle.ordered.proofs.Order.{known-append, progress-told, order-ordered}
 
@@ -80,7 +80,7 @@ module _ (ds : List Declared) (rd : Streams) (i : ℕ) where
   stamp-brings : (to : ℕ → ℕ) (t : ℕ) → IsInput ds i → brought i (stampAt ds rd to t) ≡ here t (rd i t)
   stamp-brings to t h = let l = h .0 in go (readingsAt ds rd t 0 (length ds)) ∙ readings-here t 0 (length ds) (omega arith) (omega arith) (h .1)
     where
-      go : (rs : List Record) → brought i (behind (progressAt ds rd to t 0 (length ds)) rs) ≡ brought i rs
+      go : (rs : List Record) → brought i (led (progressAt ds rd to t 0 (length ds)) rs) ≡ brought i rs
       go [] = refl
       go (r ∷ rs) = brought-append i (progressAt ds rd to t 0 (length ds)) (r ∷ rs) ∙ ap (λ (l : List Event). l ++ brought i (r ∷ rs)) (progress-none to t 0 (length ds))
 

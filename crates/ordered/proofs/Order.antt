@@ -1,13 +1,13 @@
 -- What `./order` makes of readings is in order: after each stamp every input is known to it or one past it, so none is more
 -- than one stamp behind another.
 use Prim.Native.Nat.{ℕ, zero, suc, _+_, _≤_, _<_}
-use mathlib.Core.Path.{_≡_, refl, sym, ap, _∙_, subst}
+use mathlib.Core.Path.{_≡_, refl, sym, subst}
 use mathlib.Core.Bool.{Bool, true, false, not, cond, _&&_}
 use mathlib.Core.Option.{Option, none, some}
 use mathlib.Core.List.{List, [], _∷_, _++_}
 use native.Mathlib.Omega.{arith}
 use native.Mathlib.Decide.{ℕ-discrete}
-use lib.Dec.{T, ltb, eqb, ltb→lt}
+use lib.Dec.{T, ltb, ltb→lt}
 use lib.IntN.{ℤ}
 use lib.ListN.{length}
 use borrow.Author.Tests.{ltb-false, eq-eqb, ne-eqb}
@@ -18,7 +18,7 @@ use Rattle.runs.specs.Demand3.{IsInput}
 use Rattle.trace.specs.declared.Record.{Record}
 use Rattle.trace.specs.declared.Record.the-variants.{Reading, Progress}
 use Rattle.ordered.specs.Ordered.{raised, Ordered, InOrder}
-use Rattle.ordered.specs.Order.{knownAfter, given, behind, isIn, readingsAt, progressAt, stampAt, traceTo, orderOf}
+use Rattle.ordered.specs.Order.{knownAfter, given, led, isIn, readingsAt, progressAt, stampAt, traceTo, orderOf}
 
 -- ## One list after another
 
@@ -204,7 +204,7 @@ module _ (ds : List Declared) (rd : Streams) where
     stamp-even h = go (readingsAt ds rd t 0 (length ds)) (both-ordered h) both-even
       where
         go : (rs : List Record) → Ordered ds to (progressAt ds rd to t 0 (length ds) ++ rs) → Even (knownAfter to (progressAt ds rd to t 0 (length ds) ++ rs)) (suc t)
-            → Ordered ds to (behind (progressAt ds rd to t 0 (length ds)) rs) × Even (knownAfter to (behind (progressAt ds rd to t 0 (length ds)) rs)) (suc t)
+            → Ordered ds to (led (progressAt ds rd to t 0 (length ds)) rs) × Even (knownAfter to (led (progressAt ds rd to t 0 (length ds)) rs)) (suc t)
         go [] o e = (tt, record { least = x .least; low = x .low; high = x .high; past = λ j i. omega (arith, x .past j i) })
         go (r ∷ rs) o e = (o, e)
 

@@ -1,9 +1,10 @@
--- Cases: traces of a plan with two inputs that are in order, and one that is not.
-use Prim.Native.Nat.{ℕ}
+-- Cases: a plan with two inputs, what `./order` makes of some readings, and how far ahead a reading may be.
+use Prim.Native.Nat.{ℕ, zero, suc}
 use mathlib.Core.Bool.{true, false}
 use mathlib.Core.List.{List, [], _∷_}
 use lib.IntN.{pos}
 use Rattle.meaning.specs.Plan.{add, calc, input, two}
+use Rattle.meaning.specs.Events.{ev, Streams, found}
 use Rattle.machine.specs.State.{Declared}
 use Rattle.trace.specs.declared.Record.{Record}
 use Rattle.trace.specs.declared.Record.the-variants.{Reading, Progress}
@@ -16,7 +17,12 @@ plan = bytes "plan=1\nstreams=3\nop=in\na=0\nb=0\nk=0\nout=0\nop=in\na=0\nb=0\nk
 abbrev pub streams : List Declared
 streams = record { eqn = input; out = false } ∷ record { eqn = input; out = false } ∷ record { eqn = two (calc add) 0 1; out = true } ∷ []
 
--- what `./order` prints of readings of input 0 at 2 and 5, and of input 1 at 5 and 9
+-- input 0 has readings at 2 and 5, input 1 at 5 and 9
+abbrev pub readings : Streams
+readings zero = found (ev 2 (pos 7) ∷ ev 5 (pos 8) ∷ [])
+readings (suc i) = found (ev 5 (pos 4) ∷ ev 9 (pos 1) ∷ [])
+
+-- what `./order` prints of them, and its records
 abbrev pub trace : List ℕ
 trace = bytes "s=1 p=2\ns=0 t=2 v=7\ns=0 t=5 v=8\ns=1 t=5 v=4\ns=0 p=9\ns=1 t=9 v=1\ns=0 p=10\n"
 

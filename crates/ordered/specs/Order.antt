@@ -1,4 +1,4 @@
--- Believe: the trace that `./order` makes of readings: by rising stamp and then by input.
+-- Believe: the trace that `./order` makes of readings, by rising stamp and then by input, and that its replay loses nothing.
 use Prim.Native.Nat.{ℕ, zero, suc, _≤_}
 use mathlib.Core.Path.{_≡_}
 use mathlib.Core.Bool.{Bool, not, cond, _&&_}
@@ -31,40 +31,40 @@ abbrev pub given : (s t : ℕ) → Option ℤ → List Record
 given s t none = []
 given s t (some v) = Reading s t v ∷ []
 
--- progress first, if there are readings
-abbrev pub behind : List Record → List Record → List Record
-behind progress [] = []
-behind progress (r ∷ rs) = progress ++ (r ∷ rs)
+-- readings with progress before them, if there are any
+abbrev pub led : (progress readings : List Record) → List Record
+led progress [] = []
+led progress (r ∷ rs) = progress ++ (r ∷ rs)
 
--- of the streams ds of a plan, with the readings rd of each input, at most one at each stamp
+-- of the streams ds of a plan, with the readings rd of its inputs, at most one at each stamp
 module _ (ds : List Declared) (rd : Streams) where
-  -- the readings at stamp t, of n streams from s on
+  -- the readings at stamp t, of the n streams from s on
   abbrev pub readingsAt : (t s n : ℕ) → List Record
   readingsAt t s zero = []
   readingsAt t s (suc n) = cond (isIn ds s) (given s t (rd s t)) [] ++ readingsAt t (suc s) n
 
-  -- progress to t, of those that have none there and are not known so far
+  -- progress to t, of those of them that have none there and are not known so far
   abbrev pub progressAt : (ℕ → ℕ) → (t s n : ℕ) → List Record
   progressAt to t s zero = []
   progressAt to t s (suc n) = cond (isIn ds s && (not (has (rd s t)) && ltb (to s) t)) (Progress s t ∷ progressAt (raised to s t) t (suc s) n) (progressAt to t (suc s) n)
 
-  -- "before the readings of a stamp, progress of the other inputs to it"
+  -- the lines of a stamp: first progress of the other inputs to it
   abbrev pub stampAt : (ℕ → ℕ) → ℕ → List Record
-  stampAt to t = behind (progressAt to t 0 (length ds)) (readingsAt t 0 (length ds))
+  stampAt to t = led (progressAt to t 0 (length ds)) (readingsAt t 0 (length ds))
 
-  -- "by rising stamp and then by input": the readings below stamp t
+  -- the lines of all stamps below t
   unfoldable pub traceTo : ℕ → List Record
   traceTo zero = []
   traceTo (suc t) = traceTo t ++ stampAt (knownAfter (λ i. 0) (traceTo t)) t
 
--- "at the end progress of all inputs" to y
+-- the trace of the readings below stamp n, with progress of all inputs to y at the end
 abbrev pub orderOf : List Declared → Streams → (n y : ℕ) → List Record
 orderOf ds rd n y = traceTo ds rd n ++ progressAt ds (λ s t. none) (knownAfter (λ i. 0) (traceTo ds rd n)) y 0 (length ds)
 
--- what is printed of that trace comes from a replay that loses nothing
+-- what is printed of it comes from a replay that loses nothing
 pub record Lossless (ds : List Declared) (rd : Streams) (n y : ℕ) (printed : List ℕ) : Type 1 where
   -- no line is refused
   pub taken : Taken ds (orderOf ds rd n y) printed
-  -- the accepted readings of each input are all its readings below n, and it is known to y at least
+  -- each input's accepted readings are all its readings below n, and it is known to y or further
   pub readings : (i : ℕ) → IsInput ds i → accepted i (seen ds (taken .told .calls)) ≡ events (rd i) n
   pub bounds : (i : ℕ) → IsInput ds i → y ≤ known i (seen ds (taken .told .calls))
