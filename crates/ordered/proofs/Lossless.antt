@@ -1,16 +1,16 @@
 -- The trace that `./order` makes brings each input just its readings, and all of it is taken.
 use Prim.Native.Nat.{ℕ, zero, suc, _+_, _≤_, _<_}
 use mathlib.Core.Path.{_≡_, refl, sym, ap, ap₂, _∙_}
-use mathlib.Core.Bool.{Bool, true, false, not, cond, _&&_}
+use mathlib.Core.Bool.{Bool, true, false, cond}
 use mathlib.Core.Option.{Option, none, some}
 use mathlib.Core.List.{List, [], _∷_, _++_, map, append-nil, append-assoc}
 use native.Mathlib.Omega.{arith}
 use native.Mathlib.Decide.{ℕ-discrete}
-use lib.Dec.{T, ltb}
+use lib.Dec.{T}
 use lib.IntN.{ℤ}
 use lib.ListN.{length}
 use borrow.Author.Tests.{eq-eqb, ne-eqb}
-use Rattle.meaning.specs.Events.{Event, here, Streams, events, has, horizon}
+use Rattle.meaning.specs.Events.{Event, here, Streams, events, horizon}
 use Rattle.machine.specs.State.{Declared}
 use Rattle.runs.specs.Seen.{readingOf}
 use Rattle.runs.specs.Demand3.{IsInput}
@@ -22,7 +22,7 @@ use Rattle.trace.specs.declared.Record.the-variants.{Reading, Progress}
 use Rattle.replaying.specs.Replay.{callOf}
 use Rattle.replaying.specs.Whole.{Lines, Printed}
 use Rattle.ordered.specs.Ordered.{raised, readingsOf, boundFrom}
-use Rattle.ordered.specs.Order.{knownAfter, isIn, given, led, readingsAt, progressAt, stampAt, traceTo, orderOf, Lossless}
+use Rattle.ordered.specs.Order.{knownAfter, isIn, given, led, readingsAt, lacks, progressAt, stampAt, traceTo, orderOf, Lossless}
 use Rattle.ordered.proofs.Taken.{ordered-printed}
 use Rattle.ordered.proofs.Order.{known-append, progress-told, order-ordered}
 
@@ -43,7 +43,7 @@ bound-known to i (Progress s y ∷ rs) = bound-known (raised to s y) i rs
 module _ (ds : List Declared) (rd : Streams) (i : ℕ) where
   progress-none : (to : ℕ → ℕ) (t s n : ℕ) → brought i (progressAt ds rd to t s n) ≡ []
   progress-none to t s zero = refl
-  progress-none to t s (suc n) = go (isIn ds s && (not (has (rd s t)) && ltb (to s) t)) (progress-none (raised to s t) t (suc s) n) (progress-none to t (suc s) n)
+  progress-none to t s (suc n) = go (lacks ds rd to t s) (progress-none (raised to s t) t (suc s) n) (progress-none to t (suc s) n)
     where
       go : (b : Bool) → brought i (progressAt ds rd (raised to s t) t (suc s) n) ≡ [] → brought i (progressAt ds rd to t (suc s) n) ≡ []
           → brought i (cond b (Progress s t ∷ progressAt ds rd (raised to s t) t (suc s) n) (progressAt ds rd to t (suc s) n)) ≡ []

@@ -18,7 +18,7 @@ use Rattle.runs.specs.Demand3.{IsInput}
 use Rattle.trace.specs.declared.Record.{Record}
 use Rattle.trace.specs.declared.Record.the-variants.{Reading, Progress}
 use Rattle.ordered.specs.Ordered.{raised, Ordered, InOrder}
-use Rattle.ordered.specs.Order.{knownAfter, given, led, isIn, readingsAt, progressAt, stampAt, traceTo, orderOf}
+use Rattle.ordered.specs.Order.{knownAfter, isIn, given, led, readingsAt, lacks, progressAt, stampAt, traceTo, orderOf}
 
 -- ## One list after another
 
@@ -51,33 +51,29 @@ raised-each P to s y j f p = go (ℕ-discrete s j)
 module _ (ds : List Declared) (rd : Streams) where
   -- ## Progress to a stamp
 
-  -- who is told of it
-  abbrev Told : (ℕ → ℕ) → ℕ → ℕ → Bool
-  Told to t s = isIn ds s && (not (has (rd s t)) && ltb (to s) t)
+  lacks-input : (a b c : Bool) → T (a && (not b && c)) → T a
+  lacks-input true b c h = tt
+  lacks-input false b c h = h
 
-  told-input : (a b c : Bool) → T (a && (not b && c)) → T a
-  told-input true b c h = tt
-  told-input false b c h = h
+  lacks-reading : (a b c : Bool) → T (a && (not b && c)) → b ≡ false
+  lacks-reading true true c h = absurd h
+  lacks-reading true false c h = refl
+  lacks-reading false b c h = absurd h
 
-  told-silent : (a b c : Bool) → T (a && (not b && c)) → b ≡ false
-  told-silent true true c h = absurd h
-  told-silent true false c h = refl
-  told-silent false b c h = absurd h
+  lacks-bound : (a b c : Bool) → T (a && (not b && c)) → T c
+  lacks-bound true true c h = absurd h
+  lacks-bound true false c h = h
+  lacks-bound false b c h = absurd h
 
-  told-below : (a b c : Bool) → T (a && (not b && c)) → T c
-  told-below true true c h = absurd h
-  told-below true false c h = h
-  told-below false b c h = absurd h
-
-  told-not : (a b c : Bool) → T a → b ≡ false → (a && (not b && c)) ≡ false → c ≡ false
-  told-not true true c h e z = let q : _≡_ {A = ℕ} 0 1 = cc in absurd (omega arith)
-  told-not true false c h e z = z
-  told-not false b c h e z = absurd h
+  lacks-not : (a b c : Bool) → T a → b ≡ false → (a && (not b && c)) ≡ false → c ≡ false
+  lacks-not true true c h e z = let q : _≡_ {A = ℕ} 0 1 = cc in absurd (omega arith)
+  lacks-not true false c h e z = z
+  lacks-not false b c h e z = absurd h
 
   progress-ordered : (to : ℕ → ℕ) (t s n : ℕ) → t ≤ horizon → s + n ≤ length ds → Ordered ds to (progressAt ds rd to t s n)
   progress-ordered to t s zero h l = tt
   progress-ordered to t s (suc n) h l =
-      go (Told to t s) (told-input (isIn ds s) (has (rd s t)) (ltb (to s) t)) (λ x. ltb→lt (to s) t (told-below (isIn ds s) (has (rd s t)) (ltb (to s) t) x))
+      go (lacks ds rd to t s) (lacks-input (isIn ds s) (has (rd s t)) (ltb (to s) t)) (λ x. ltb→lt (to s) t (lacks-bound (isIn ds s) (has (rd s t)) (ltb (to s) t) x))
       (progress-ordered (raised to s t) t (suc s) n h (omega arith)) (progress-ordered to t (suc s) n h (omega arith))
     where
       go : (b : Bool) → (T b → T (isIn ds s)) → (T b → to s < t) → Ordered ds (raised to s t) (progressAt ds rd (raised to s t) t (suc s) n) → Ordered ds to (progressAt ds rd to t (suc s) n)
@@ -89,7 +85,7 @@ module _ (ds : List Declared) (rd : Streams) where
   progress-each : (P : ℕ → Type 0) (to : ℕ → ℕ) (t s n j : ℕ) → (has (rd j t) ≡ false → to j < t → P t) → P (to j) → P (knownAfter to (progressAt ds rd to t s n) j)
   progress-each P to t s zero j f p = p
   progress-each P to t s (suc n) j f p =
-      go (Told to t s) (told-silent (isIn ds s) (has (rd s t)) (ltb (to s) t)) (λ x. ltb→lt (to s) t (told-below (isIn ds s) (has (rd s t)) (ltb (to s) t) x))
+      go (lacks ds rd to t s) (lacks-reading (isIn ds s) (has (rd s t)) (ltb (to s) t)) (λ x. ltb→lt (to s) t (lacks-bound (isIn ds s) (has (rd s t)) (ltb (to s) t) x))
       (progress-each P (raised to s t) t (suc s) n j) (progress-each P to t (suc s) n j f p)
     where
       go : (b : Bool) → (T b → has (rd s t) ≡ false) → (T b → to s < t) → ((has (rd j t) ≡ false → raised to s t j < t → P t) → P (raised to s t j) → P (knownAfter (raised to s t) (progressAt ds rd (raised to s t) t (suc s) n) j))
@@ -103,7 +99,7 @@ module _ (ds : List Declared) (rd : Streams) where
   pub progress-told : (to : ℕ → ℕ) (t s n j : ℕ) → s ≤ j → j < s + n → T (isIn ds j) → has (rd j t) ≡ false → t ≤ knownAfter to (progressAt ds rd to t s n) j
   progress-told to t s zero j l m i e = absurd (omega arith)
   progress-told to t s (suc n) j l m i e =
-      go (Told to t s) (λ q z. ltb-false (to s) t (told-not (isIn ds s) (has (rd s t)) (ltb (to s) t) (rw q i) (rw q e) z)) (ℕ-discrete s j)
+      go (lacks ds rd to t s) (λ q z. ltb-false (to s) t (lacks-not (isIn ds s) (has (rd s t)) (ltb (to s) t) (rw q i) (rw q e) z)) (ℕ-discrete s j)
       (λ d. progress-told (raised to s t) t (suc s) n j d (omega arith) i e) (λ d. progress-told to t (suc s) n j d (omega arith) i e)
     where
       go : (b : Bool) → (s ≡ j → b ≡ false → t ≤ to s) → Dec (s ≡ j) → (suc s ≤ j → t ≤ knownAfter (raised to s t) (progressAt ds rd (raised to s t) t (suc s) n) j) → (suc s ≤ j → t ≤ knownAfter to (progressAt ds rd to t (suc s) n) j)

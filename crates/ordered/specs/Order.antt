@@ -44,9 +44,12 @@ module _ (ds : List Declared) (rd : Streams) where
   readingsAt t s (suc n) = cond (isIn ds s) (given s t (rd s t)) [] ++ readingsAt t (suc s) n
 
   -- progress to t, of those of them that have none there and are not known so far
+  abbrev pub lacks : (ℕ → ℕ) → (t s : ℕ) → Bool
+  lacks to t s = isIn ds s && (not (has (rd s t)) && ltb (to s) t)
+
   abbrev pub progressAt : (ℕ → ℕ) → (t s n : ℕ) → List Record
   progressAt to t s zero = []
-  progressAt to t s (suc n) = cond (isIn ds s && (not (has (rd s t)) && ltb (to s) t)) (Progress s t ∷ progressAt (raised to s t) t (suc s) n) (progressAt to t (suc s) n)
+  progressAt to t s (suc n) = cond (lacks to t s) (Progress s t ∷ progressAt (raised to s t) t (suc s) n) (progressAt to t (suc s) n)
 
   -- the lines of a stamp: first progress of the other inputs to it
   abbrev pub stampAt : (ℕ → ℕ) → ℕ → List Record
