@@ -38,7 +38,7 @@ printed-append s (c ∷ cs) ds =
     let l = lineIn c (seenIn c (reply c s)) in let t = reply c s .buffer in
     ap (λ (x : List ℕ). l ++ x) (printed-append t cs ds) ∙ sym (append-assoc l (printedOf (seenBy t cs)) (printedOf (seenBy (leftBy t cs) ds)))
 
-offers-append : (cs ds : List Call) → othersOf (cs ++ ds) ≡ othersOf cs ++ othersOf ds
+pub offers-append : (cs ds : List Call) → othersOf (cs ++ ds) ≡ othersOf cs ++ othersOf ds
 unfolding othersOf
 offers-append [] ds = refl
 offers-append (c ∷ cs) ds = ap (λ (x : List Call). otherIn c ++ x) (offers-append cs ds) ∙ sym (append-assoc (otherIn c) (othersOf cs) (othersOf ds))
@@ -59,7 +59,7 @@ made-none : (s : List ℕ) → Made s [] [] s
 unfolding seenBy leftBy printedOf othersOf
 made-none s = record { calls = []; typed = tt; offered = refl; lines = refl; buffer = refl }
 
-made-one : (s : List ℕ) (c : Call) → Typed c → Made s (otherIn c) (lineIn c (seenIn c (reply c s))) (reply c s .buffer)
+unfoldable pub made-one : (s : List ℕ) (c : Call) → Typed c → Made s (otherIn c) (lineIn c (seenIn c (reply c s))) (reply c s .buffer)
 unfolding seenBy leftBy printedOf othersOf
 made-one s c h =
     record { calls = c ∷ []; typed = (h, tt); offered = append-nil (otherIn c); lines = sym (append-nil (lineIn c (seenIn c (reply c s)))); buffer = refl }
