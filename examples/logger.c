@@ -1,79 +1,205 @@
 /*
- * A logger in small: loads a plan, offers readings of three sensors as the radio delivers them, runs, collects, saves the
- * state and goes on from the copy.
+ * A logger in small. Three sensors report by radio, in any order; the plan of logger_plan.h counts visits and corrects
+ * weights.
+ *
+ *   receive    takes a reading from the radio. It waits in the line of its sensor until the engine takes it: none is lost.
+ *   schedule   each minute: says how far every sensor is known, a silent or dead one above all.
+ *   work       runs and collects until nothing moves or waits.
+ *   save, restore   the state in two places of the flash, in turn (saving.c).
+ *
+ * On a computer it prints to the standard output; firmware/main.c is this file on the board.
  */
+#ifndef BOARD_H
 #include <stdio.h>
+static void put(const char *text) { fputs(text, stdout); }
+#endif
 #include <string.h>
 
+#define TESSLA_TEXTS
 #include "tessla.h"
 #include "logger_plan.h"
+#include "saving.h"
 
-/* the one buffer of the engine, and a page of flash */
+/*
+ * The logger's own numbers. BUDGET: the moves of one run; 16 take some 4 ms on the logger, and the watchdog is fed between.
+ * DELAY: the radio delivers a reading at most so many seconds late. LINE: what a sensor reports between two schedules.
+ */
+enum { SENSORS = 3, BUDGET = 16, DELAY = 10, LINE = 32 };
+
+/* the one buffer of the engine */
 static uint8_t state[TESSLA_STATE_LENGTH];
-static uint8_t flash[TESSLA_STATE_LENGTH];
 
-static void collect(uint32_t stream, const char *name) {
+/* ---- the flash: here two pieces of memory that start as flash does */
+static uint8_t flash[PLACES][PLACE_LENGTH];
+const uint8_t *flash_at(uint32_t place) { return flash[place]; }
+void flash_erase(uint32_t place) { memset(flash[place], 0xFF, PLACE_LENGTH); }
+void flash_write(uint32_t place, uint32_t at, const uint8_t word[WORD]) { memcpy(flash[place] + at, word, WORD); }
+
+/* ---- text */
+static void put_number(const char *before, int64_t x, const char *after) {
+    char b[24];
+    int i = 23;
+    uint64_t u = x < 0 ? 0 - (uint64_t)x : (uint64_t)x;
+    b[i] = 0;
+    do b[--i] = (char)('0' + u % 10);
+    while (u /= 10);
+    if (x < 0) b[--i] = '-';
+    put(before);
+    put(b + i);
+    put(after);
+}
+
+/* ---- what comes out */
+
+/* hands out what waits of one output, and answers how many events that were */
+static uint32_t collect(uint32_t stream) {
+    uint32_t stamp, events = 0;
+    int64_t value;
+    while (tessla_collect(state, sizeof state, stream, &stamp, &value) == TESSLA_DONE) {
+        put(stream == VISITS ? "visits" : "weight");
+        put_number(" t=", stamp, "");
+        put_number(" v=", value, "\n");
+        events++;
+    }
+    return events;
+}
+
+/* of all outputs; to ask first which streams are outputs costs nothing, to collect from all 32 costs 30 ms more */
+static uint32_t collect_all(void) {
+    uint32_t events = 0;
+    for (uint32_t stream = 0; stream < TESSLA_STREAM_LIMIT; stream++)
+        if (tessla_is_output(state, stream)) events += collect(stream);
+    return events;
+}
+
+/*
+ * Until nothing moves or waits. That a run made no move is not enough: with an output full nothing moves, and the collection
+ * after it makes room for more. The watchdog would be fed here, after each run.
+ */
+static void work(void) {
+    uint32_t moves, events;
+    do {
+        if (tessla_run(state, sizeof state, BUDGET, &moves) != TESSLA_DONE) return;
+        events = collect_all();
+    } while (moves != 0 || events != 0);
+}
+
+/* ---- what comes in */
+
+struct reading {
     uint32_t stamp;
     int64_t value;
-    while (tessla_collect(state, sizeof state, stream, &stamp, &value) == TESSLA_DONE)
-        printf("%s t=%lu v=%lld\n", name, (unsigned long)stamp, (long long)value);
+};
+
+/* the readings of a sensor that the engine has not taken yet, the oldest first */
+static struct line {
+    struct reading readings[LINE];
+    uint32_t count;
+} lines[SENSORS];
+
+static void say_refused(uint32_t sensor, uint32_t stamp, uint32_t number) {
+    put_number("sensor ", sensor, "");
+    put_number(" t=", stamp, "");
+    put_number(" refused=", number, ": ");
+    put(tessla_text(number));
+    put("\n");
 }
 
-/* runs and collects until nothing moves; n is small, so that a call is short and a watchdog can be fed between */
-static void work(void) {
-    uint32_t moves, idle = 0;
-    while (!idle) {
-        if (tessla_run(state, sizeof state, 32, &moves) != TESSLA_DONE) return;
-        idle = moves == 0;
-        collect(VISITS, "visits");
-        collect(WEIGHT, "weight");
+/* offers the readings of a line until one is refused 9: that one is kept, and those behind it. Answers how many went. */
+static uint32_t offer_line(uint32_t sensor) {
+    struct line *line = &lines[sensor];
+    uint32_t gone = 0;
+    while (gone < line->count) {
+        const struct reading *r = &line->readings[gone];
+        uint32_t number = tessla_offer_reading(state, sizeof state, sensor, r->stamp, r->value);
+        if (number == TESSLA_FULL) break;
+        if (number != TESSLA_DONE) say_refused(sensor, r->stamp, number);
+        gone++;
     }
+    line->count -= gone;
+    memmove(line->readings, line->readings + gone, line->count * sizeof *line->readings);
+    return gone;
 }
 
-static void reading(uint32_t sensor, uint32_t stamp, int64_t value) {
-    uint32_t number = tessla_offer_reading(state, sizeof state, sensor, stamp, value);
-    if (number == TESSLA_FULL) {
+/* works, and offers again what was kept, as long as some of it goes */
+static void settle(void) {
+    uint32_t gone;
+    do {
         work();
-        number = tessla_offer_reading(state, sizeof state, sensor, stamp, value);
-    }
-    if (number != TESSLA_DONE)
-        printf("sensor %lu t=%lu refused=%lu\n", (unsigned long)sensor, (unsigned long)stamp, (unsigned long)number);
+        gone = 0;
+        for (uint32_t sensor = 0; sensor < SENSORS; sensor++) gone += offer_line(sensor);
+    } while (gone != 0);
 }
 
-/* what the radio delivers after the copy */
+/* a reading from the radio; an interrupt would only put it into the line, and the main loop do the rest */
+static void receive(uint32_t sensor, uint32_t stamp, int64_t value) {
+    struct line *line = &lines[sensor];
+    if (line->count == LINE) {
+        say_refused(sensor, stamp, TESSLA_FULL);
+        return;
+    }
+    line->readings[line->count++] = (struct reading){ stamp, value };
+    settle();
+}
+
+/*
+ * By the clock: no sensor has a reading below now less DELAY any more, but for those that are still kept. Number 8 says that
+ * the sensor is known further already.
+ */
+static void schedule(uint32_t now) {
+    for (uint32_t sensor = 0; sensor < SENSORS; sensor++) {
+        uint32_t bound = now < DELAY ? 0 : now - DELAY;
+        if (lines[sensor].count != 0 && lines[sensor].readings[0].stamp < bound) bound = lines[sensor].readings[0].stamp;
+        tessla_offer_progress(state, sizeof state, sensor, bound);
+    }
+    settle();
+}
+
+/* ---- a day */
+
+static void morning(void) {
+    receive(THERMOMETER, 10, 200);
+    receive(BALANCE, 12, 312);
+    receive(RING, 11, 7041);
+    receive(BALANCE, 30, 318);
+    /* the thermometer's battery is empty; the balance goes on, more readings than an input holds */
+    for (uint32_t stamp = 32; stamp <= 70; stamp += 2) receive(BALANCE, stamp, 320);
+    put_number("kept ", lines[BALANCE].count, "\n");
+    schedule(80);
+    schedule(90);
+}
+
+/* what the radio delivers after the state was saved */
 static void evening(void) {
-    reading(THERMOMETER, 25, -100);
-    reading(RING, 29, 7041);
-    reading(THERMOMETER, 20, 50); /* late: the thermometer is known past 20 */
-    work();
-    tessla_offer_progress(state, sizeof state, THERMOMETER, 60);
-    work();
+    receive(THERMOMETER, 95, -100);
+    receive(RING, 99, 7041);
+    receive(THERMOMETER, 20, 50); /* late: the thermometer is known past 20 */
+    receive(BALANCE, 97, 318);
+    schedule(120);
 }
 
 int main(void) {
     uint32_t number = tessla_load(state, sizeof state, (const uint8_t *)PLAN, sizeof PLAN - 1);
     if (number != TESSLA_DONE) {
-        printf("plan refused=%lu\n", (unsigned long)number);
+        put_number("plan refused=", number, ": ");
+        put(tessla_text(number));
+        put("\n");
         return 1;
     }
+    put("morning\n");
+    morning();
 
-    puts("morning");
-    reading(THERMOMETER, 10, 200);
-    reading(BALANCE, 12, 312);
-    reading(RING, 11, 7041);
-    reading(BALANCE, 30, 318);
-    work();
-
-    memcpy(flash, state, sizeof state);
-    puts("saved");
+    /* between two calls, and with nothing kept in the lines: what is kept there is not in the state */
+    save(state);
+    put("saved\n");
     evening();
 
     /* the power failed; the copy goes on as if nothing had been offered or collected since */
     memset(state, 0xFF, sizeof state);
     uint32_t moves;
-    printf("lost refused=%lu\n", (unsigned long)tessla_run(state, sizeof state, 1, &moves));
-    memcpy(state, flash, sizeof state);
-    puts("put back");
+    put_number("lost refused=", tessla_run(state, sizeof state, 1, &moves), "\n");
+    if (!restore(state)) return 1;
+    put("put back\n");
     evening();
     return 0;
 }

@@ -74,12 +74,21 @@ static uint32_t to_rest(uint32_t input, uint32_t t, int64_t v) {
     return moves;
 }
 
-static uint32_t collect_all(const struct row *rows, uint32_t n) {
+static uint32_t collect_all(void) {
     uint32_t stamp, events = 0;
     int64_t value;
-    for (uint32_t i = 0; i < n; i++)
-        if (rows[i].out)
+    for (uint32_t i = 0; i < TESSLA_STREAM_LIMIT; i++)
+        if (tessla_is_output(state, i))
             while (tessla_collect(S, i, &stamp, &value) == 0) events++;
+    return events;
+}
+
+/* the same without asking which streams are outputs */
+static uint32_t collect_every(void) {
+    uint32_t stamp, events = 0;
+    int64_t value;
+    for (uint32_t i = 0; i < TESSLA_STREAM_LIMIT; i++)
+        while (tessla_collect(S, i, &stamp, &value) == 0) events++;
     return events;
 }
 
@@ -89,7 +98,7 @@ static void others_known(const struct row *rows, uint32_t n, uint64_t bound) {
     for (uint32_t i = 1; i < n; i++)
         if (rows[i].op == IN) tessla_offer_progress(S, i, bound);
     do tessla_run(S, 100000, &moves);
-    while (collect_all(rows, n) != 0 || moves != 0);
+    while (collect_all() != 0 || moves != 0);
 }
 
 static void measure(const char *name, const struct row *rows, uint32_t n) {
@@ -100,7 +109,7 @@ static void measure(const char *name, const struct row *rows, uint32_t n) {
     for (uint32_t t = 10; t < 50; t += 10) {
         others_known(rows, n, t + 1);
         to_rest(0, t, 5);
-        collect_all(rows, n);
+        collect_all();
     }
     others_known(rows, n, 200);
     MEASURE_CALL("validation", tessla_move(S, 99));
@@ -122,6 +131,10 @@ static void measure(const char *name, const struct row *rows, uint32_t n) {
     while (output < n && tessla_collect(S, output, &stamp, &value) != 0) output++;
     memcpy(state, copy, sizeof state);
     MEASURE_CALL("collect", tessla_collect(S, output, &stamp, &value));
+    memcpy(state, copy, sizeof state);
+    MEASURE("collecting the outputs", collect_all());
+    memcpy(state, copy, sizeof state);
+    MEASURE("collecting every stream", collect_every());
 }
 
 /* every stream holds 16 events that nobody collects */
@@ -134,7 +147,7 @@ static void full(const struct row *rows, uint32_t n) {
     MEASURE_CALL("run at rest", tessla_run(S, 100000, &moves));
     MEASURE("a reading to rest", to_rest(0, 70, 7));
     MEASURE_CALL("run, all wait", tessla_run(S, 100000, &moves));
-    MEASURE("collecting all", collect_all(rows, n));
+    MEASURE("collecting all", collect_all());
 }
 
 /* the visits of one nest box, six streams from s on */

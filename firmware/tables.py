@@ -60,6 +60,17 @@ c = names[0]
 print('%s, milliseconds at %d MHz: at one cycle an instruction / by the cycles of the manual:' % (CORES[c], MHZ))
 print()
 table(c, lambda zone: '%s / %s' % (ms(zone[1]), ms(zone[2])))
+print('%s, by the cycles of the manual: what a run takes besides the check of the state, and a collection after a reading:' % CORES[c])
+print()
+print('| plan | moves of a reading | ms of these moves | moves a millisecond | ms to collect the outputs | ms to collect every stream |')
+print('|---|---:|---:|---:|---:|---:|')
+for plan in plans:
+    zone = lambda call: zones[c][plan, call]
+    moves = int(zone('a reading to rest')[0])
+    cycles = int(zone('run to rest')[2]) - int(zone('validation')[2])
+    print('| %s | %d | %s | %.1f | %s | %s |' % (plan, moves, ms(cycles), moves * MHZ * 1000 / cycles,
+          ms(zone('collecting the outputs')[2]), ms(zone('collecting every stream')[2])))
+print()
 print('Where the cycles of a reading to rest go (%s):' % CORES[c])
 print()
 print('| plan | functions |')

@@ -17,11 +17,35 @@
  * Every length is a uint64_t, on a 32-bit controller too. Include this header; do not write the prototypes again: with
  * size_t in place of uint64_t a program for a 32-bit machine still links, and every call answers wrongly.
  *
- * A copy of the state. The buffer may be copied anywhere, to flash say, and put back later, at any address. A state put
- * back has had the calls made up to its copy: what was accepted or handed out after the copy does not count for it.
- * Readings offered after the copy are to be offered again, and events collected after the copy are handed out again. A
- * copy damaged in storage is refused 15 where its contents are no state; where they happen to be one, no call can know
- * that it is not the one that was saved. A checksum beside the copy is the firmware's business.
+ * What a logger does with the calls; examples/logger.c does all of it:
+ *
+ * Progress. An output is known only as far as the inputs that it is worked out from, and an input holds 16 readings that
+ * somebody waits for. So every sensor needs offers of progress, on a schedule, and a silent or dead one above all: without
+ * them the outputs that need it wait for ever, and the readings of the others are refused 9 after the 16th. If the radio
+ * delivers a reading at most d seconds late, offer each input, each minute say, progress to the clock less d, but not past a
+ * reading that the firmware still keeps. A reading that comes later than that is refused 8, and can't be taken any more.
+ *
+ * Number 9 is no loss. Keep the reading, run, collect, and offer it again; the later readings of the same sensor wait behind
+ * it, since they would make it too early. If it stays 9, another sensor is behind: offer its progress.
+ *
+ * Work is to be done until nothing moves or waits: run and collect, again and again, until a run made no move and nothing was
+ * collected after it. A run that made no move is not enough: a collection makes room, and then there is more to do.
+ *
+ * Interrupts. No call may interrupt a call on the same state; calls on different states do not know of each other. Let the
+ * interrupt put a reading into a line, and the main loop offer it. A call itself may be interrupted at any time, for as long
+ * as you like; a state is to be copied between calls only.
+ *
+ * The budget of a run. On a Cortex-M0+ at 48 MHz every call but load first looks at the whole state, 1.0 to 1.3 ms by the
+ * manual's cycles; a move in a run then takes 0.1 to 0.2 ms. A run of n moves takes at most 1.3 ms and a millisecond for each
+ * five moves, if the outputs are collected; a move can take 1.1 ms where 31 outputs are full. Few calls with much work in each
+ * cost least (docs/PERFORMANCE.md, "On the controller").
+ *
+ * A copy of the state. The buffer may be copied anywhere, to flash say, and put back later, at any address. Only the records
+ * of the plan's streams are used, tessla_used_length bytes; all behind them is 0 and need not be saved. A state put back has
+ * had the calls made up to its copy: what was accepted or handed out after the copy does not count for it. Readings offered
+ * after the copy are to be offered again, and events collected after the copy are handed out again. A copy damaged in storage
+ * is refused 15 where its contents are no state; where they happen to be one, no call can know that it is not the one that was
+ * saved. So save to two places in turn, each with a checksum: examples/saving.c does, and loses no copy to a power cut.
  */
 #ifndef TESSLA_H
 #define TESSLA_H
@@ -31,6 +55,14 @@
 #ifdef __cplusplus
 extern "C" {
 #endif
+
+/*
+ * The version of the calls and of the state's layout. The first part changes when a program that works today would not; the
+ * second grows with everything new. A state saved under a version is read by every later one.
+ */
+#define TESSLA_VERSION_MAJOR 1
+#define TESSLA_VERSION_MINOR 1
+#define TESSLA_VERSION "1.1"
 
 /* The length of the state in bytes. Any other length is refused 15. */
 #define TESSLA_STATE_LENGTH 12288
@@ -109,6 +141,61 @@ uint32_t tessla_run(uint8_t *state, uint64_t state_length, uint32_t n, uint32_t 
  * Numbers: 15, 13, 14. Done: *stamp and *value are the event.
  */
 uint32_t tessla_collect(uint8_t *state, uint64_t state_length, uint32_t stream, uint32_t *stamp, int64_t *value);
+
+/*
+ * What the state's bytes say without a call, by the layout in docs/LAYOUT.md, of a state that load and the calls left: stream
+ * i has the record of TESSLA_RECORD bytes at i * TESSLA_RECORD; its first byte is 0 if there is no such stream, its byte 3 is 1
+ * if it is an output.
+ */
+#define TESSLA_RECORD 256
+
+/* Whether a stream is an output. To ask before a collect costs nothing; a collect that is refused 13 costs a millisecond. */
+static inline int tessla_is_output(const uint8_t *state, uint32_t stream) {
+    return stream < TESSLA_STREAM_LIMIT && state[stream * TESSLA_RECORD + 3] == 1;
+}
+
+/* How many streams the plan has. */
+static inline uint32_t tessla_streams(const uint8_t *state) {
+    uint32_t n = 0;
+    while (n < TESSLA_STREAM_LIMIT && state[n * TESSLA_RECORD] != 0) n++;
+    return n;
+}
+
+/* How many bytes of the state are used; all behind them is 0. */
+static inline uint32_t tessla_used_length(const uint8_t *state) {
+    return tessla_streams(state) * TESSLA_RECORD;
+}
+
+#ifdef TESSLA_TEXTS
+/* The numbers in words, for a log or a screen: define TESSLA_TEXTS before the header is included. */
+#define TESSLA_EACH_TEXT(X) \
+    X(0, "done") \
+    X(1, "the plan text is longer than 2048 bytes") \
+    X(2, "a line of the plan has the wrong key or form, is missing, or bytes are left over") \
+    X(3, "streams is 0 or above 32") \
+    X(4, "no operator has this name") \
+    X(5, "an unused field is not 0, an argument names a stream that is not there, or an input is marked out=1") \
+    X(6, "a cycle without the first argument of a last or a delay") \
+    X(7, "the stream is not there, or is no input") \
+    X(8, "too early: the input is already known past this stamp") \
+    X(9, "the input holds 16 events that somebody waits for") \
+    X(10, "progress past 4294967296") \
+    X(11, "move: no such stream, or it is an input") \
+    X(12, "move: the equation cannot move now") \
+    X(13, "collect: no such stream, or it is no output") \
+    X(14, "collect: nothing waits") \
+    X(15, "the buffer is no state of this engine")
+
+static inline const char *tessla_text(uint32_t number) {
+    switch (number) {
+#define TESSLA_CASE(n, text) \
+    case n: return text;
+        TESSLA_EACH_TEXT(TESSLA_CASE)
+#undef TESSLA_CASE
+    default: return "no number of this engine";
+    }
+}
+#endif
 
 #ifdef __cplusplus
 }

@@ -1,17 +1,14 @@
 -- Load takes just the texts of the plans that keep the written rules.
 use Prim.Native.Nat.{ℕ, _<_}
 use mathlib.Core.Path.{_≡_, sym, ap, _∙_}
-use mathlib.Core.Logic.{_↔_}
 use mathlib.Core.List.{List}
 use native.Mathlib.Omega.{arith}
 use lib.ListN.{length}
 use borrow.Author.Tests.{lt-ltb}
-use Rattle.machine.specs.State.{Declared}
 use Rattle.operators.specs.Limits.{capacity}
 use Rattle.operators.proofs.Sizes.{capacity-few}
 use Rattle.render.specs.Render.{render}
 use Rattle.plan.specs.Rules.{number}
-use Rattle.plan.specs.Taken.{KeepsRules}
 use Rattle.plan.proofs.Taken.{taken-exactly}
 use Rattle.plan.proofs.Rendered.{render-taken}
 use Rattle.engine.specs.Load.{loadReply}

@@ -82,13 +82,13 @@ noted-graph n i (f ∷ fs) h e pre r l k =
     (noted-graph n (i + 1) fs (h .1) (right (keeps n f) (allKeep n fs) e) (pre ++ v) (drop 3 r) (rw (length-append pre v, entry-length (f .op) (f .a) (f .b)) (omega arith)) (rw (length-drop 3 r) (omega arith))
     ∙ rw (z, append-assoc pre v (graphOf (planFrom fs) ++ drop (3 * length fs) (drop 3 r)), drop-drop (3 * length fs) 3 r, ← same-entry n f (h .0) kept, append-assoc v (graphOf (planFrom fs)) (drop (3 + 3 * length fs) r)))
 
-all-below : (n : ℕ) (fs : List Fields) → All Sound fs → allKeep n fs ≡ true → (i : ℕ) → i < length fs → AllBelow n (argsAt (planFrom fs) i)
+pub all-below : (n : ℕ) (fs : List Fields) → All Sound fs → allKeep n fs ≡ true → (i : ℕ) → i < length fs → AllBelow n (argsAt (planFrom fs) i)
 unfolding allKeep planFrom
 all-below n [] h e i l = absurd (omega arith)
 all-below n (f ∷ fs) h e zero l = below n f (h .0) (left (keeps n f) (allKeep n fs) e)
 all-below n (f ∷ fs) h e (suc i) l = all-below n fs (h .1) (right (keeps n f) (allKeep n fs) e) i (omega arith)
 
-plan-length : (fs : List Fields) → length (planFrom fs) ≡ length fs
+pub plan-length : (fs : List Fields) → length (planFrom fs) ≡ length fs
 unfolding planFrom
 plan-length fs = length-map fs eqnFrom
 

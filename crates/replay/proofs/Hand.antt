@@ -1,12 +1,12 @@
 -- Going through a trace a part of it at a time is going through the whole: what is in hand reads the lines of the trace, and one
 -- part after another leaves out none.
-use Prim.Native.Nat.{ℕ, _+_, _-_, _<_, _≤_}
+use Prim.Native.Nat.{ℕ, _+_, _-_, _^_, _<_, _≤_}
 use mathlib.Core.Path.{_≡_, refl, sym, ap, _∙_, subst}
 use mathlib.Core.Logic.{_⊎_, inl, inr}
 use mathlib.Core.Bool.{Bool, true, false, true≢false}
 use mathlib.Core.List.{List, [], _∷_, _++_, append-nil, append-assoc}
 use native.Mathlib.Omega.{arith}
-use lib.ListN.{length, take, drop, length-drop, take-append-drop}
+use lib.ListN.{length, take, drop, length-append, length-drop, take-append-drop}
 use lib.Seq.{drop-cons, drop-append-le, drop-drop, drop-length, take-take, length-take-le}
 use Rattle.le.proofs.RoundTrip.{drop-take}
 use Rattle.engine.specs.Reply.{reply}
@@ -21,7 +21,7 @@ use Rattle.replaying.specs.Whole.{lineNumber, Lines, none, more, Stops, end, ba
 use Rattle.replay.specs.declared.Stop.the-variants.{Before, Bad}
 use Rattle.replay.specs.Played as played
 use Rattle.replay.specs.Played.{Settles, Offered, Trailed}
-use Rattle.replay.specs.Hand.{hand, Follow, Between, Through, Onward, Ended}
+use Rattle.replay.specs.Hand.{hand, lineAfter, Follow, Between, Through, Onward, Ended}
 
 -- ## One after another
 
@@ -33,10 +33,15 @@ offered-then : {n : ℕ} {s : List ℕ} {rs : List Record} {t : List ℕ} {qs : 
 offered-then {n} {s} {rs} {t} x played.none = subst (λ (l : List Record). Offered n s l t) (sym (append-nil rs)) x
 offered-then {n} {s} {rs} {u = u} x (played.more {rs = qs} r y z) = subst (λ (l : List Record). Offered n s l u) (append-assoc rs qs (r ∷ [])) (played.more r (offered-then x y) z)
 
+-- ## The count of the lines
+
+counted-then : (first mid line : ℕ) (rs qs : List Record) → mid ≡ lineAfter first (length rs) → line ≡ lineAfter mid (length qs) → line ≡ lineAfter first (length (rs ++ qs))
+counted-then first mid line rs qs e f = omega (arith, length-append rs qs)
+
 -- ## Within the text in hand
 
-pub between-none : (n : ℕ) (text : List ℕ) (at : ℕ) (last : Bool) (s : List ℕ) → Between n text at last s at s
-between-none n text at last s = record { records = []; offered = played.none; lines = λ rest f. none }
+pub between-none : (n : ℕ) (text : List ℕ) (at : ℕ) (last : Bool) (first : ℕ) (s : List ℕ) → first < 2 ^ 64 → Between n text at last first s at first s
+between-none n text at last first s h = record { records = []; counted = omega arith; offered = played.none; lines = λ rest f. none }
 
 -- the text has a whole line from the position on, or is the last
 abbrev pub Whole : List ℕ → ℕ → Bool → Type 0
@@ -51,10 +56,10 @@ either f g (inl a) = f a
 either f g (inr b) = g b
 
 -- one line more
-pub between-more : {n : ℕ} {text : List ℕ} {at : ℕ} {last : Bool} {s : List ℕ} {p : ℕ} {t u : List ℕ} → p ≤ length text → Whole text p last → Between n text at last s p t
-    → (r : Record) (next : ℕ) → line text p ≡ found.Read r next → next ≤ length text → Settles n (reply (callOf r) t .buffer) u → Between n text at last s next u
-between-more {text = text} {at} {last} {p = p} inside whole x r next e fits z =
-    record { records = x .records ++ r ∷ []; offered = played.more r (x .offered) z; lines = λ rest f. lines-then (x .lines rest f) (one rest f) }
+pub between-more : {n : ℕ} {text : List ℕ} {at : ℕ} {last : Bool} {first : ℕ} {s : List ℕ} {p l m : ℕ} {t u : List ℕ} → p ≤ length text → Whole text p last → Between n text at last first s p l t
+    → (r : Record) (next : ℕ) → line text p ≡ found.Read r next → next ≤ length text → m ≡ lineAfter l 1 → Settles n (reply (callOf r) t .buffer) u → Between n text at last first s next m u
+between-more {text = text} {at} {last} {first} {p = p} {l} {m} inside whole x r next e fits c z =
+    record { records = x .records ++ r ∷ []; counted = counted-then first l m (x .records) (r ∷ []) (x .counted) c; offered = played.more r (x .offered) z; lines = λ rest f. lines-then (x .lines rest f) (one rest f) }
   where
     one : (rest : List ℕ) → Follow last rest → Lines (drop p text ++ rest) (r ∷ []) (drop next text ++ rest)
     one rest f =
@@ -65,10 +70,10 @@ between-more {text = text} {at} {last} {p = p} inside whole x r next e fits z =
         more (w .2) (subst (λ (l : List ℕ). Lines l [] (drop next text ++ rest)) (sym behind) none)
 
 -- a bad line
-pub between-bad : {n : ℕ} {text : List ℕ} {at : ℕ} {last : Bool} {s : List ℕ} {p : ℕ} {t u : List ℕ} → p < length text → Whole text p last → Between n text at last s p t
-    → line text p ≡ found.Bad → u ≡ t → Through n text at last s Bad u
-between-bad {n} {text} {at} {last} {s} {p} inside whole x e z =
-    (p, inside, subst (Between n text at last s p) (sym z) x, λ rest f. (refusedText (lineNumber found.Bad), stops rest (window-bad text p rest (omega arith) (enough text p whole f) e)))
+pub between-bad : {n : ℕ} {text : List ℕ} {at : ℕ} {last : Bool} {first : ℕ} {s : List ℕ} {p l : ℕ} {t u : List ℕ} → p < length text → Whole text p last → Between n text at last first s p l t
+    → line text p ≡ found.Bad → u ≡ t → Through n text at last first s Bad u
+between-bad {n} {text} {at} {last} {first} {s} {p} {l} inside whole x e z =
+    (p, l, inside, subst (Between n text at last first s p l) (sym z) x, λ rest f. (refusedText (lineNumber found.Bad), stops rest (window-bad text p rest (omega arith) (enough text p whole f) e)))
   where
     stops : (rest : List ℕ) → line (drop p text ++ rest) 0 ≡ found.Bad → Stops (drop p text ++ rest) (refusedText (lineNumber found.Bad))
     stops rest = rw (drop-cons text p 0 inside) (λ q. bad q)
@@ -83,7 +88,7 @@ module _ (old buffer : List ℕ) (left filled : ℕ) (order : left ≤ filled) (
   size : length (take filled buffer) ≡ filled
   size = length-take-le filled buffer inside
 
-  pub part-onward : {n : ℕ} {s : List ℕ} {last : Bool} {p : ℕ} {t : List ℕ} → last ≡ false → Through n (take filled buffer) 0 last s (Before p) t → (p ≤ filled) × (filled ≤ length buffer) × (o : Onward n old s (hand buffer p filled) t) × (take filled buffer ≡ old ++ o .brought)
+  pub part-onward : {n : ℕ} {s : List ℕ} {last : Bool} {p first line : ℕ} {t : List ℕ} → last ≡ false → Through n (take filled buffer) 0 last first s (Before p line) t → (p ≤ filled) × (filled ≤ length buffer) × (o : Onward n first old s (hand buffer p filled) line t) × (take filled buffer ≡ old ++ o .brought)
   part-onward {p = p} no-last x =
       let h : p ≤ filled = let k = x .0 in omega (arith, size) in
       let b = x .3 in
@@ -94,6 +99,7 @@ module _ (old buffer : List ℕ) (left filled : ℕ) (order : left ≤ filled) (
         record {
           brought = drop left (take filled buffer);
           records = b .records;
+          counted = b .counted;
           offered = b .offered;
           lines = λ rest.
               subst (λ (l : List ℕ). Lines l (b .records) (hand buffer p filled ++ rest)) (ap (λ (l : List ℕ). l ++ rest) is ∙ append-assoc old (drop left (take filled buffer)) rest)
@@ -103,7 +109,7 @@ module _ (old buffer : List ℕ) (left filled : ℕ) (order : left ≤ filled) (
       )
 
   -- nothing follows
-  ended : {n : ℕ} {s : List ℕ} {last : Bool} {p : ℕ} {t v : List ℕ} → Between n (take filled buffer) 0 last s p t → Stops (drop p (take filled buffer) ++ []) v
+  ended : {n : ℕ} {s : List ℕ} {last : Bool} {first p l : ℕ} {t v : List ℕ} → Between n (take filled buffer) 0 last first s p l t → Stops (drop p (take filled buffer) ++ []) v
       → (drop p (take filled buffer) ++ [] ≡ [] → filled < length buffer) → Ended n old s buffer t
   ended {p = p} {v = v} b x short =
       record {
@@ -117,25 +123,26 @@ module _ (old buffer : List ℕ) (left filled : ℕ) (order : left ≤ filled) (
         short = λ q. let h = short q in omega (arith, ap length is, size);
       }
 
-  pub bad-ended : {n : ℕ} {s : List ℕ} {last : Bool} {t : List ℕ} → Through n (take filled buffer) 0 last s Bad t → Ended n old s buffer t
+  pub bad-ended : {n : ℕ} {s : List ℕ} {last : Bool} {first : ℕ} {t : List ℕ} → Through n (take filled buffer) 0 last first s Bad t → Ended n old s buffer t
   bad-ended x =
-      let l = x .1 in
-      ended (x .2) (x .3 [] (λ q. refl) .1)
+      let l = x .2 in
+      ended (x .3) (x .4 [] (λ q. refl) .1)
       (λ q. absurd (omega (arith, ap length (sym (append-nil (drop (x .0) (take filled buffer))) ∙ q), length-drop (x .0) (take filled buffer))))
 
-  pub last-ended : {n : ℕ} {s : List ℕ} {last : Bool} {p : ℕ} {t : List ℕ} → last ≡ true → filled < length buffer → Through n (take filled buffer) 0 last s (Before p) t → Ended n old s buffer t
+  pub last-ended : {n : ℕ} {s : List ℕ} {last : Bool} {p first line : ℕ} {t : List ℕ} → last ≡ true → filled < length buffer → Through n (take filled buffer) 0 last first s (Before p line) t → Ended n old s buffer t
   last-ended {p = p} q short x =
       let e : drop p (take filled buffer) ++ [] ≡ [] = append-nil (drop p (take filled buffer)) ∙ ap (λ (k : ℕ). drop k (take filled buffer)) (x .1 q) ∙ drop-length (take filled buffer) in
       ended (x .3) (subst (λ (l : List ℕ). Stops l []) (sym e) end) (λ r. short)
 
-pub onward-none : (n : ℕ) (s old : List ℕ) → old ≡ [] → Onward n [] s old s
-onward-none n s old e = record { brought = []; records = []; offered = played.none; lines = λ rest. subst (λ (l : List ℕ). Lines rest [] (l ++ rest)) (sym e) none }
+pub onward-none : (n first : ℕ) (s old : List ℕ) → first < 2 ^ 64 → old ≡ [] → Onward n first [] s old first s
+onward-none n first s old h e = record { brought = []; records = []; counted = omega arith; offered = played.none; lines = λ rest. subst (λ (l : List ℕ). Lines rest [] (l ++ rest)) (sym e) none }
 
-pub onward-then : {n : ℕ} {old s mid t new u : List ℕ} → Onward n old s mid t → Onward n mid t new u → Onward n old s new u
-onward-then {old = old} {new = new} x y =
+pub onward-then : {n first : ℕ} {old s mid : List ℕ} {l : ℕ} {t new : List ℕ} {m : ℕ} {u : List ℕ} → Onward n first old s mid l t → Onward n l mid t new m u → Onward n first old s new m u
+onward-then {first = first} {old = old} {l = l} {new = new} {m = m} x y =
     record {
       brought = x .brought ++ y .brought;
       records = x .records ++ y .records;
+      counted = counted-then first l m (x .records) (y .records) (x .counted) (y .counted);
       offered = offered-then (x .offered) (y .offered);
       lines = λ rest.
           subst (λ (l : List ℕ). Lines (old ++ l) (x .records ++ y .records) (new ++ rest)) (sym (append-assoc (x .brought) (y .brought) rest))
@@ -143,10 +150,10 @@ onward-then {old = old} {new = new} x y =
     }
 
 -- what was read, one part after the other, is the trace
-pub onward-trailed : {n : ℕ} {s new t : List ℕ} → Onward n [] s new t → Trailed n s false t
+pub onward-trailed : {n first : ℕ} {s new : List ℕ} {l : ℕ} {t : List ℕ} → Onward n first [] s new l t → Trailed n s false t
 onward-trailed {new = new} x = record { trace = x .brought ++ []; records = x .records; rest = new ++ []; lines = x .lines []; offered = x .offered; stops = λ q. absurd (true≢false (sym q)) }
 
-pub ended-trailed : {n : ℕ} {s mid t buffer u : List ℕ} → Onward n [] s mid t → Ended n mid t buffer u → Trailed n s true u
+pub ended-trailed : {n first : ℕ} {s mid : List ℕ} {l : ℕ} {t buffer u : List ℕ} → Onward n first [] s mid l t → Ended n mid t buffer u → Trailed n s true u
 ended-trailed x y =
     record {
       trace = x .brought ++ y .brought;

@@ -36,6 +36,6 @@ played x (more r y z) = last-line r (played x y .1) z
 
 -- a place that is rest is the end
 pub goes-rest : {n : ℕ} {p : Place} {s : List ℕ} (q : Place) {t : List ℕ} → isRest q ≡ true → Goes n p s q t → Goes n p s Rest t
-goes-rest (Run busy) e x = absurd (false≢true e)
+goes-rest Run e x = absurd (false≢true e)
 goes-rest (Collect stream busy) e x = absurd (false≢true e)
 goes-rest Rest e x = x

@@ -1,5 +1,5 @@
 -- How: the text in hand: the bytes of the trace that were read and not yet replayed, and what going through it comes to.
-use Prim.Native.Nat.{ℕ, _-_, _<_, _≤_}
+use Prim.Native.Nat.{ℕ, _+_, _-_, _^_, _<_, _≤_, min}
 use mathlib.Core.Path.{_≡_}
 use mathlib.Core.Bool.{Bool, true}
 use mathlib.Core.List.{List, [], _++_}
@@ -17,26 +17,33 @@ use Rattle.replay.specs.Played.{Offered}
 abbrev pub hand : List ℕ → ℕ → ℕ → List ℕ
 hand buffer from end = take (end - from) (drop from buffer)
 
+-- the number of the line that stands k lines behind one; the count stops at the greatest number
+abbrev pub lineAfter : ℕ → ℕ → ℕ
+lineAfter line k = min (line + k) (2 ^ 64 - 1)
+
 -- anything may follow a text, but nothing follows the last one
 abbrev pub Follow : Bool → List ℕ → Type 0
 Follow last more = last ≡ true → more ≡ []
 
--- the lines of a text from one position to another, whatever follows the text: their records were offered, none left out
-pub record Between (n : ℕ) (text : List ℕ) (at : ℕ) (last : Bool) (s : List ℕ) (p : ℕ) (t : List ℕ) : Type 0 where
+-- the lines of a text from one position to another, whatever follows the text: their records were offered, none left out, and
+-- counted from the number of the first one on
+pub record Between (n : ℕ) (text : List ℕ) (at : ℕ) (last : Bool) (first : ℕ) (s : List ℕ) (p line : ℕ) (t : List ℕ) : Type 0 where
   pub records : List Record
+  pub counted : line ≡ lineAfter first (length records)
   pub offered : Offered n s records t
   pub lines : (more : List ℕ) → Follow last more → Lines (drop at text ++ more) records (drop p text ++ more)
 
 -- all whole lines of a text from a position on: up to its end if it is the last, else to where fewer bytes are left than a line
 -- can have; or to a bad line
-abbrev pub Through : (n : ℕ) (text : List ℕ) (at : ℕ) (last : Bool) → List ℕ → Stop → List ℕ → Type 0
-Through n text at last s (Before p) t = (p ≤ length text) × (last ≡ true → p ≡ length text) × (length text - p < longest) × Between n text at last s p t
-Through n text at last s Bad t = (p : ℕ) × (p < length text) × Between n text at last s p t × ((more : List ℕ) → Follow last more → (v : List ℕ) × Stops (drop p text ++ more) v)
+abbrev pub Through : (n : ℕ) (text : List ℕ) (at : ℕ) (last : Bool) (first : ℕ) → List ℕ → Stop → List ℕ → Type 0
+Through n text at last first s (Before p line) t = (p ≤ length text) × (last ≡ true → p ≡ length text) × (length text - p < longest) × Between n text at last first s p line t
+Through n text at last first s Bad t = (p : ℕ) × (line : ℕ) × (p < length text) × Between n text at last first s p line t × ((more : List ℕ) → Follow last more → (v : List ℕ) × Stops (drop p text ++ more) v)
 
 -- from the bytes in hand: what was read comes behind them, the lines that were replayed go, and the rest is in hand
-pub record Onward (n : ℕ) (old s new t : List ℕ) : Type 0 where
+pub record Onward (n first : ℕ) (old s new : List ℕ) (line : ℕ) (t : List ℕ) : Type 0 where
   pub brought : List ℕ
   pub records : List Record
+  pub counted : line ≡ lineAfter first (length records)
   pub offered : Offered n s records t
   pub lines : (more : List ℕ) → Lines (old ++ (brought ++ more)) records (new ++ more)
 
@@ -52,6 +59,6 @@ pub record Ended (n : ℕ) (old s buffer t : List ℕ) : Type 0 where
   pub short : rest ≡ [] → length (old ++ brought) < length buffer
 
 -- what the buffer holds up to the end is what was in hand and what was read
-abbrev pub Advances : (n : ℕ) → List ℕ → List ℕ → Left → List ℕ → List ℕ → Type 0
-Advances n old s (Part from end) buffer t = (from ≤ end) × (end ≤ length buffer) × (o : Onward n old s (hand buffer from end) t) × (take end buffer ≡ old ++ o .brought)
-Advances n old s Done buffer t = Ended n old s buffer t
+abbrev pub Advances : (n first : ℕ) → List ℕ → List ℕ → Left → List ℕ → List ℕ → Type 0
+Advances n first old s (Part from end line) buffer t = (from ≤ end) × (end ≤ length buffer) × (o : Onward n first old s (hand buffer from end) line t) × (take end buffer ≡ old ++ o .brought)
+Advances n first old s Done buffer t = Ended n old s buffer t

@@ -1,17 +1,18 @@
 // Replays a trace on a plan: reads plan.txt and trace.txt of the working folder, or of the folder that the first argument
-// names, and prints every event of every output.
-ghost use Prim.Native.Nat.{ℕ, _-_, _<_, _≤_};
+// names, and prints every event of every output. What was refused is said on the standard error too: the plan, or which line.
+ghost use Prim.Native.Nat.{ℕ, _*_, _-_, _<_, _≤_};
 ghost use mathlib.Core.Path.{_≡_};
 ghost use mathlib.Core.Bool.{true, false};
 ghost use mathlib.Core.List.{List};
-ghost use lib.ListN.{length, take, drop};
+ghost use lib.ListN.{length, take};
 ghost use Rattle.operators.specs.Limits.{capacity};
 ghost use Rattle.engine.specs.Load.{loadReply};
 ghost use Rattle.trace.specs.Trace.{line};
 ghost use Rattle.replaying.specs.Rank.{isRest, rank};
 ghost use Rattle.replaying.specs.Whole.{Printed};
 ghost use Rattle.replay.specs.Played.{Goes, Settles, Follows, Trailed, Played};
-ghost use Rattle.replay.specs.Hand.{hand, Through, Advances};
+ghost use Rattle.replay.specs.Hand.{hand, lineAfter, Through, Advances};
+use libc::STDERR_FILENO;
 use libc::STDOUT_FILENO;
 use operators::Plan;
 use replaying::Place;
@@ -20,20 +21,54 @@ use trace::Line;
 // The longest line of a trace, with its ending byte.
 const LINE: usize = 65;
 
-// Where a replay of the text in hand stops: before a position, from which on there is no whole line, or at a bad line.
+// The most bytes of `line=`, a number and a blank.
+const WORDS: usize = 25;
+
+// Where a replay of the text in hand stops: before a position, from which on there is no whole line, with the number of the line
+// there, or at a bad line.
 enum Stop {
-    Before(usize),
+    Before(usize, u64),
     Bad,
 }
 
-// What is left in hand: the bytes of the buffer between two positions, or nothing, since the replay is done.
+// What is left in hand: the bytes of the buffer between two positions, with the number of the first line there, or nothing, since
+// the replay is done.
 enum Left {
-    Part { from: usize, end: usize },
+    Part { from: usize, end: usize, line: u64 },
     Done,
+}
+
+// Says on the standard error what was refused, if it was: the words, and behind them the line of the refusal.
+fn say(words: &[u8], refusal: &[u8]) {
+    if refusal.len() == 0 {
+        return;
+    }
+    io::write_all(STDERR_FILENO, words);
+    io::write_all(STDERR_FILENO, refusal);
+}
+
+// Says which line of the trace was refused, if it was.
+fn say_line(line: u64, refusal: &[u8]) {
+    let mut words = [0u8; WORDS];
+    let a = decimal::put_word(&mut words, 0, b"line=");
+    let b = decimal::put_number(&mut words, a, line);
+    let end = decimal::put_byte(&mut words, b, b' ');
+    say(&words[..end], refusal);
+}
+
+// The number of the next line. The count stops at the greatest number, which no trace gets to.
+fn next_line(line: u64) -> u64
+    ensures { λ r. ⌜ r ≡ lineAfter line 1 ⌝ }
+{
+    if line == u64::MAX {
+        return line;
+    }
+    line + 1
 }
 
 // Goes on from a place, through n streams, for as many events as a buffer holds, and prints them.
 fn print_some(state: &mut [u8], n: u32, place: Place) -> Place
+    requires { ⌜ n * 256 ≤ length (now state) ⌝ }
     ensures goes { λ r. ⌜ Goes n place (now (state .entry)) r (now (state .exit)) ⌝ }
     ensures nearer { λ r. ⌜ (isRest place ≡ false → rank n r (now (state .exit)) < rank n place (now (state .entry))) ⌝ }
 {
@@ -46,16 +81,19 @@ fn print_some(state: &mut [u8], n: u32, place: Place) -> Place
 
 // Runs to rest and prints what is collected of n streams, until nothing moves or waits.
 fn settle(state: &mut [u8], n: u32)
+    requires { ⌜ n * 256 ≤ length (now state) ⌝ }
     ensures { λ _. ⌜ Settles n (now (state .entry)) (now (state .exit)) ⌝ }
 {
-    let mut place = Place::Run { busy: false };
+    let mut place = Place::Run;
     while !replaying::is_rest(place) {
         place = print_some(state, n, place);
     }
 }
 
-// Replays the line at a position, and answers what was read. A bad line prints its number and changes nothing.
-fn replay_line(state: &mut [u8], n: u32, text: &[u8], at: usize) -> Line
+// Replays the line at a position, and answers what was read. A bad line prints its number and changes nothing. `number` says
+// which line of the trace it is.
+fn replay_line(state: &mut [u8], n: u32, text: &[u8], at: usize, number: u64) -> Line
+    requires { ⌜ n * 256 ≤ length (now state) ⌝ }
     ensures found { λ r. ⌜ r ≡ line (now (text .entry)) at ⌝ }
     ensures follows { λ r. ⌜ Follows n r (now (state .entry)) (now (state .exit)) ⌝ }
 {
@@ -63,6 +101,7 @@ fn replay_line(state: &mut [u8], n: u32, text: &[u8], at: usize) -> Line
     let passed = replaying::line(state, text, at, &mut out);
     let end = passed.end;
     io::write_all(STDOUT_FILENO, &out[..end]);
+    say_line(number, &out[..end]);
     let found = passed.found;
     let Line::Read(_, _) = found else {
         return found;
@@ -72,24 +111,26 @@ fn replay_line(state: &mut [u8], n: u32, text: &[u8], at: usize) -> Line
 }
 
 // Replays all whole lines of the text in hand from a position on: those that end in it whatever follows, and if it is the last
-// of the trace, all.
-fn replay_lines(state: &mut [u8], n: u32, text: &[u8], at: usize, last: bool) -> Stop
-    requires { ⌜ at ≤ length (now text) ⌝ }
-    ensures { λ r. ⌜ Through n (now (text .entry)) at last (now (state .entry)) r (now (state .exit)) ⌝ }
+// of the trace, all. `first` is the number of the first one.
+fn replay_lines(state: &mut [u8], n: u32, text: &[u8], at: usize, last: bool, first: u64) -> Stop
+    requires { ⌜ (n * 256 ≤ length (now state)) × (at ≤ length (now text)) ⌝ }
+    ensures { λ r. ⌜ Through n (now (text .entry)) at last first (now (state .entry)) r (now (state .exit)) ⌝ }
 {
     let mut from = at;
+    let mut line = first;
     while from < text.len() {
         if text.len() - from < LINE {
             if !last {
-                return Stop::Before(from);
+                return Stop::Before(from, line);
             }
         }
-        let Line::Read(_, next) = replay_line(state, n, text, from) else {
+        let Line::Read(_, next) = replay_line(state, n, text, from, line) else {
             return Stop::Bad;
         };
         from = next;
+        line = next_line(line);
     }
-    Stop::Before(from)
+    Stop::Before(from, line)
 }
 
 // Moves what is left in hand to the start of the buffer, reads on behind it, and answers where that ends.
@@ -105,13 +146,21 @@ fn ready(fd: i32, buffer: &mut [u8], from: usize, end: usize) -> usize
 }
 
 // Reads on, and replays all whole lines of what is then in hand. A buffer that is not full holds the last of the trace.
-fn advance(fd: i32, state: &mut [u8], n: u32, buffer: &mut [u8], from: usize, end: usize) -> Left
-    requires { ⌜ (from ≤ end) × (end ≤ length (now buffer)) ⌝ }
-    ensures { λ r. ⌜ Advances n (hand (now (buffer .entry)) from end) (now (state .entry)) r (now (buffer .exit)) (now (state .exit)) ⌝ }
+fn advance(
+    fd: i32,
+    state: &mut [u8],
+    n: u32,
+    buffer: &mut [u8],
+    from: usize,
+    end: usize,
+    line: u64,
+) -> Left
+    requires { ⌜ (n * 256 ≤ length (now state)) × (from ≤ end) × (end ≤ length (now buffer)) ⌝ }
+    ensures { λ r. ⌜ Advances n line (hand (now (buffer .entry)) from end) (now (state .entry)) r (now (buffer .exit)) (now (state .exit)) ⌝ }
 {
     let filled = ready(fd, buffer, from, end);
     let last = filled < buffer.len();
-    let Stop::Before(p) = replay_lines(state, n, &buffer[..filled], 0, last) else {
+    let Stop::Before(p, next) = replay_lines(state, n, &buffer[..filled], 0, last, line) else {
         return Left::Done;
     };
     if last {
@@ -120,24 +169,33 @@ fn advance(fd: i32, state: &mut [u8], n: u32, buffer: &mut [u8], from: usize, en
     Left::Part {
         from: p,
         end: filled,
+        line: next,
     }
 }
 
 // Replays the trace, and answers whether it came to its end. A proved loop has to end, and nothing says that a file does: it
 // counts its reads down, from a number that no trace uses up.
 fn replay_trace(fd: i32, state: &mut [u8], n: u32) -> bool
+    requires { ⌜ n * 256 ≤ length (now state) ⌝ }
     ensures { λ r. ⌜ Trailed n (now (state .entry)) r (now (state .exit)) ⌝ }
 {
     let mut buffer = io::buffer();
     let mut from: usize = 0;
     let mut end: usize = 0;
+    let mut line: u64 = 1;
     let mut reads = u64::MAX;
     while 0 < reads {
-        let Left::Part { from: p, end: e } = advance(fd, state, n, &mut buffer, from, end) else {
+        let Left::Part {
+            from: p,
+            end: e,
+            line: l,
+        } = advance(fd, state, n, &mut buffer, from, end, line)
+        else {
             return true;
         };
         from = p;
         end = e;
+        line = l;
         reads -= 1;
     }
     false
@@ -189,11 +247,13 @@ fn load(state: &mut [u8]) -> u32
     let loaded = replaying::load(state, &text[..n], &mut out);
     let end = loaded.end;
     io::write_all(STDOUT_FILENO, &out[..end]);
+    say(b"plan ", &out[..end]);
     loaded.number
 }
 
 // Settles, and replays the trace; a file that can't be opened counts as empty. Answers whether the trace came to its end.
 fn play(state: &mut [u8], n: u32) -> bool
+    requires { ⌜ n * 256 ≤ length (now state) ⌝ }
     ensures { λ r. ⌜ Played n (now (state .entry)) r (now (state .exit)) ⌝ }
 {
     settle(state, n);

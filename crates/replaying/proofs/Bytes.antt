@@ -1,27 +1,30 @@
--- What a call leaves is bytes, or no state; a run without a move and a refused collect leave the buffer as it is.
+-- What a call leaves is bytes, or no state; what a run that came to rest and a refused collect leave.
 use Rattle.machine.specs.State.{room}
-use Prim.Native.Nat.{ℕ, zero, suc, _*_, _-_}
-use mathlib.Core.Path.{_≡_, refl, sym, ap, _∙_}
+use Prim.Native.Nat.{ℕ, zero, suc, _*_, _-_, _<_, _≤_}
+use mathlib.Core.Path.{_≡_, refl, ap}
 use mathlib.Core.Logic.{_⊎_, inl, inr}
 use mathlib.Core.Bool.{Bool, true, false}
 use mathlib.Core.List.{List, [], _∷_, _++_}
 use native.Mathlib.Omega.{arith}
 use lib.Dec.{ltb, lit<}
 use lib.ListN.{length, replicate}
+use borrow.Author.Tests.{le-ltb, ltb-false}
 use Rattle.le.specs.Bytes.{Bytes, enc}
 use Rattle.le.specs.Layout.{encFields, encRows}
 use Rattle.le.proofs.Laws.{enc-bytes}
 use Rattle.layout.specs.Record.{Slot, Raw, noSlot, noRaw, headWidths, slotWidths, slotNums, encSlot, encRaw, encode}
 use Rattle.machine.specs.State.{State}
+use Rattle.machine.specs.Step.{move}
 use Rattle.machine.specs.Calls.{Call, running, collecting, lowest, run, call}
 use Rattle.machine.proofs.Outcomes.{run-more, run-ends}
 use Rattle.encoding.specs.View.{rawsOf, bytesOf}
 use Rattle.valid.specs.Valid.{valid}
 use Rattle.roundtrip.specs.In.{stateIn}
-use Rattle.roundtrip.proofs.Whole.{valid-bytes}
+use Rattle.roundtrip.proofs.Whole.{valid-sound}
+use Rattle.preserve.proofs.Calls.{call-sound}
 use Rattle.calls.specs.Reply.{Reply}
 use Rattle.engine.specs.Reply.{reply}
-use Rattle.engine.proofs.Replies.{reply-outcome, reply-none, reply-refused}
+use Rattle.engine.proofs.Replies.{reply-outcome, reply-none, reply-machine, reply-refused}
 
 -- ## The bytes of a state
 
@@ -74,29 +77,40 @@ reply-fine c s = go (valid s) refl
     go true e = rw (reply-outcome c s e) (inl (state-bytes (length s) (call c (stateIn s) .state)))
     go false e = rw (reply-none c s e) (inr e)
 
--- ## A call that changes nothing
+-- ## A run that made fewer moves than it was asked for has come to rest
 
-run-still : (n : ℕ) (M : State) → call (running n) M .moves ≡ 0 → call (running n) M .state ≡ M
-unfolding call
-run-still zero M e = unfold run in refl
-run-still (suc n) M e = go (ltb (lowest M) (length M)) refl e
+-- no equation can move
+run-stuck : (n : ℕ) (M : State) → run n M .moves < n → length (run n M .state) ≤ lowest (run n M .state)
+run-stuck zero M h = absurd (omega arith)
+run-stuck (suc n) M h = go (ltb (lowest M) (length M)) refl h (run-stuck n (move (lowest M) M))
   where
-    go : (b : Bool) → ltb (lowest M) (length M) ≡ b → run (suc n) M .moves ≡ 0 → run (suc n) M .state ≡ M
-    go true q = rw (run-more n M q) (λ e. absurd (omega arith))
-    go false q = rw (run-ends n M q) (λ e. refl)
+    go : (b : Bool) → ltb (lowest M) (length M) ≡ b → run (suc n) M .moves < suc n → (run n (move (lowest M) M) .moves < n → length (run n (move (lowest M) M) .state) ≤ lowest (run n (move (lowest M) M) .state))
+        → length (run (suc n) M .state) ≤ lowest (run (suc n) M .state)
+    go true e = rw (run-more n M e) (λ h rec. rec (omega arith))
+    go false e = rw (run-ends n M e) (λ h rec. ltb-false (lowest M) (length M) e)
 
-module _ (s : List ℕ) where
-  same : Fine s → (c : Call) → (valid s ≡ true → Bytes s → call c (stateIn s) .state ≡ stateIn s) → reply c s .buffer ≡ s
-  same f c h = go (valid s) refl f
-    where
-      go : (v : Bool) → valid s ≡ v → Fine s → reply c s .buffer ≡ s
-      go true e (inl b) = ap (λ (r : Reply). r .buffer) (reply-outcome c s e) ∙ ap (bytesOf (length s)) (h e b) ∙ sym (valid-bytes s b e)
-      go true e (inr q) = ap (λ (r : Reply). r .buffer) (reply-none c s q)
-      go false e g = ap (λ (r : Reply). r .buffer) (reply-none c s e)
+-- another run makes no move
+stuck-none : (m : ℕ) (M : State) → length M ≤ lowest M → call (running m) M .moves ≡ 0
+unfolding call
+stuck-none zero M h = unfold run in refl
+stuck-none (suc m) M h = rw (run-ends m M (le-ltb (lowest M) (length M) h)) refl
 
-  pub run-same : Fine s → (n : ℕ) → reply (running n) s .moves ≡ 0 → reply (running n) s .buffer ≡ s
-  run-same f n e = same f (running n) (λ v b. run-still n (stateIn s) (rw (reply-outcome (running n) s v) at e))
+pub run-rests : (s : List ℕ) → Fine s → (n m : ℕ) → reply (running n) s .moves < n → reply (running m) (reply (running n) s .buffer) .moves ≡ 0
+run-rests s f n m = go (valid s) refl f
+  where
+    none : valid s ≡ false → reply (running m) (reply (running n) s .buffer) .moves ≡ 0
+    none e = rw (reply-none (running n) s e, reply-none (running m) s e) refl
 
-  pub collect-same : Fine s → (i : ℕ) → (reply (collecting i) s .number ≡ 0 → ⊥) → reply (collecting i) s .buffer ≡ s
-  collect-same (inl b) i n = reply-refused (collecting i) s b n
-  collect-same (inr q) i n = ap (λ (r : Reply). r .buffer) (reply-none (collecting i) s q)
+    go : (v : Bool) → valid s ≡ v → Fine s → reply (running n) s .moves < n → reply (running m) (reply (running n) s .buffer) .moves ≡ 0
+    go true e (inl b) =
+        let fine = call-sound (running n) (stateIn s) tt (valid-sound s b e) in
+        rw (reply-outcome (running n) s e, reply-machine (length s) (running m) (call (running n) (stateIn s) .state) (bytesOf (length s) (call (running n) (stateIn s) .state)) fine refl)
+        (λ h. stuck-none m (call (running n) (stateIn s) .state) (unfold call in run-stuck n (stateIn s) (unfold call in h)))
+    go true e (inr q) = λ h. none q
+    go false e g = λ h. none e
+
+-- ## A collect that hands out nothing
+
+pub collect-same : (s : List ℕ) → Fine s → (i : ℕ) → (reply (collecting i) s .number ≡ 0 → ⊥) → reply (collecting i) s .buffer ≡ s
+collect-same s (inl b) i n = reply-refused (collecting i) s b n
+collect-same s (inr q) i n = ap (λ (r : Reply). r .buffer) (reply-none (collecting i) s q)

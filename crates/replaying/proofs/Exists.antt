@@ -34,7 +34,7 @@ ahead n p s e f go =
 
 reach : (n k : ℕ) (p : Place) (s : List ℕ) → Fine s → rank n p s < k → Rests n p s
 reach n zero p s f h = absurd (omega arith)
-reach n (suc k) (Run busy) s f h = ahead n (Run busy) s refl f (λ q t g l. reach n k q t g (omega arith))
+reach n (suc k) Run s f h = ahead n Run s refl f (λ q t g l. reach n k q t g (omega arith))
 reach n (suc k) (Collect i busy) s f h = ahead n (Collect i busy) s refl f (λ q t g l. reach n k q t g (omega arith))
 reach n (suc k) Rest s f h = ([], s, here)
 

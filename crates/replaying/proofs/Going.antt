@@ -15,7 +15,7 @@ use Rattle.printer.proofs.Lines.{event-most}
 use Rattle.replaying.specs.declared.Place.{Place}
 use Rattle.replaying.specs.declared.Place.the-variants.{Run, Collect, Rest}
 use Rattle.replaying.specs.declared.Stand.{Stand}
-use Rattle.replaying.specs.Replay.{allMoves, turn, afterOutput, collected, step, Prints, here, on, Turned}
+use Rattle.replaying.specs.Replay.{allMoves, turn, toOutput, collected, step, Prints, here, on, Turned}
 use Rattle.replaying.proofs.Steps.{ran-state}
 
 pub one-more : {n : ℕ} {p : Place} {s w : List ℕ} {q : Place} {t : List ℕ} → Prints n p s w q t → Prints n p s (w ++ step n q t .printed) (step n q t .place) (step n q t .state)
@@ -28,13 +28,13 @@ collected-most : (n i : ℕ) (busy : Bool) (r : Reply) → length (collected n i
 unfolding collected
 collected-most n i busy r = go (eqb (r .number) 0)
   where
-    go : (b : Bool) → length (cond b (turn (Collect i true) (eventText i (r .stamp) (r .value)) (r .buffer)) (turn (afterOutput n i busy) [] (r .buffer)) .printed) ≤ eventRoom
+    go : (b : Bool) → length (cond b (turn (Collect i true) (eventText i (r .stamp) (r .value)) (r .buffer)) (turn (toOutput n (i + 1) busy (r .buffer)) [] (r .buffer)) .printed) ≤ eventRoom
     go true = event-most i (r .stamp) (r .value)
     go false = omega arith
 
 printed-most : (n : ℕ) (p : Place) (s : List ℕ) → length (step n p s .printed) ≤ eventRoom
 unfolding step
-printed-most n (Run busy) s = rw (ran-state busy (reply (running allMoves) s) .1) (omega arith)
+printed-most n Run s = rw (ran-state n (reply (running allMoves) s) .1) (omega arith)
 printed-most n (Collect i busy) s = collected-most n i busy (reply (collecting i) s)
 printed-most n Rest s = omega arith
 

@@ -17,10 +17,11 @@ use Rattle.trace.specs.declared.Record.the-variants.{Reading, Progress}
 use Rattle.printer.specs.Print.{eventText}
 use Rattle.replaying.specs.declared.Place.{Place}
 use Rattle.replaying.specs.declared.Place.the-variants.{Run, Collect, Rest}
-use Rattle.replaying.specs.Replay.{callOf, refusal, allMoves, turn, ran, roundAfter, afterOutput, collected, step, Prints, here, on}
+use Rattle.replaying.specs.Replay.{callOf, refusal, allMoves, turn, nextOutput, roundAfter, toOutput, ran, collected, step, Prints, here, on}
 use Rattle.replaying.specs.Session.{Replays, ends, goes, lineIn, printedOf, otherIn, othersOf}
-use Rattle.replaying.proofs.Steps.{after-next, after-last, collected-event, collected-none, collected-state, ran-rest, ran-moved, ran-state}
-use Rattle.replaying.proofs.Bytes.{Fine, reply-fine, run-same, collect-same}
+use Rattle.replaying.proofs.Outputs.{next-before, no-output}
+use Rattle.replaying.proofs.Steps.{to-next, to-last, collected-event, collected-none, collected-state, ran-rest, ran-moved, ran-state}
+use Rattle.replaying.proofs.Bytes.{Fine, reply-fine, run-rests, collect-same}
 use Rattle.replaying.proofs.Nearer.{step-fine}
 
 -- ## Lists of calls on a buffer
@@ -37,7 +38,7 @@ printed-append s (c ∷ cs) ds =
     let l = lineIn c (seenIn c (reply c s)) in let t = reply c s .buffer in
     ap (λ (x : List ℕ). l ++ x) (printed-append t cs ds) ∙ sym (append-assoc l (printedOf (seenBy t cs)) (printedOf (seenBy (leftBy t cs) ds)))
 
-offers-append : (cs ds : List Call) → othersOf (cs ++ ds) ≡ othersOf cs ++ othersOf ds
+pub offers-append : (cs ds : List Call) → othersOf (cs ++ ds) ≡ othersOf cs ++ othersOf ds
 unfolding othersOf
 offers-append [] ds = refl
 offers-append (c ∷ cs) ds = ap (λ (x : List Call). otherIn c ++ x) (offers-append cs ds) ∙ sym (append-assoc (otherIn c) (othersOf cs) (othersOf ds))
@@ -58,7 +59,7 @@ made-none : (s : List ℕ) → Made s [] [] s
 unfolding seenBy leftBy printedOf othersOf
 made-none s = record { calls = []; typed = tt; offered = refl; lines = refl; buffer = refl }
 
-made-one : (s : List ℕ) (c : Call) → Typed c → Made s (otherIn c) (lineIn c (seenIn c (reply c s))) (reply c s .buffer)
+unfoldable pub made-one : (s : List ℕ) (c : Call) → Typed c → Made s (otherIn c) (lineIn c (seenIn c (reply c s))) (reply c s .buffer)
 unfolding seenBy leftBy printedOf othersOf
 made-one s c h =
     record { calls = c ∷ []; typed = (h, tt); offered = append-nil (otherIn c); lines = sym (append-nil (lineIn c (seenIn c (reply c s)))); buffer = refl }
@@ -83,7 +84,7 @@ pub record Still (k : ℕ) (s : List ℕ) : Type 0 where
 
 -- what is known of the state at a place
 abbrev Known : ℕ → Place → List ℕ → Type 0
-Known n (Run busy) s = Unit {0}
+Known n Run s = Unit {0}
 Known n (Collect i busy) s = (i < 2 ^ 32) × (busy ≡ false → Still i s)
 Known n Rest s = Still n s
 
@@ -91,59 +92,68 @@ collect-line : (n i : ℕ) (busy : Bool) (r : Reply) → collected n i busy r .p
 unfolding collected
 collect-line n i busy r = go (eqb (r .number) 0)
   where
-    go : (b : Bool) → cond b (turn (Collect i true) (eventText i (r .stamp) (r .value)) (r .buffer)) (turn (afterOutput n i busy) [] (r .buffer)) .printed ≡ cond b (eventText i (r .stamp) (r .value)) []
+    go : (b : Bool) → cond b (turn (Collect i true) (eventText i (r .stamp) (r .value)) (r .buffer)) (turn (toOutput n (i + 1) busy (r .buffer)) [] (r .buffer)) .printed ≡ cond b (eventText i (r .stamp) (r .value)) []
     go true = refl
     go false = refl
 
 step-made : (n : ℕ) (p : Place) (s : List ℕ) → Known n p s → Made s [] (step n p s .printed) (step n p s .state)
 unfolding step
-step-made n (Run busy) s h = let r = ran-state busy (reply (running allMoves) s) in rw (r .0, r .1) (made-one s (running allMoves) (omega arith))
+step-made n Run s h = let r = ran-state n (reply (running allMoves) s) in rw (r .0, r .1) (made-one s (running allMoves) (omega arith))
 step-made n (Collect i busy) s h =
     rw (collect-line n i busy (reply (collecting i) s), collected-state n i busy (reply (collecting i) s)) (made-one s (collecting i) (let l = h .0 in omega arith))
 step-made n Rest s h = made-none s
 
 -- streams have numbers of 32 bits
-module _ (n : ℕ) (few : n ≤ 2 ^ 32) (s : List ℕ) (f : Fine s) where
-  run-known : (busy : Bool) → Known n (ran busy (reply (running allMoves) s) .place) (ran busy (reply (running allMoves) s) .state)
-  run-known busy = go (ℕ-discrete (reply (running allMoves) s .moves) 0)
+module _ (n : ℕ) (few : n ≤ 2 ^ 32) where
+  -- the streams before the next output hand out nothing
+  to-known : (s : List ℕ) → Fine s → (from : ℕ) (busy : Bool) → (busy ≡ false → Still from s) → Known n (toOutput n from busy s) s
+  to-known s f from busy h = go (decLt (nextOutput n from s) n)
     where
-      go : Dec (reply (running allMoves) s .moves ≡ 0) → Known n (ran busy (reply (running allMoves) s) .place) (ran busy (reply (running allMoves) s) .state)
-      go (yes e) =
-          rw (ran-rest busy (reply (running allMoves) s) e, run-same s f allMoves e)
-          (omega arith, λ q. record { moves = e; waits = λ i l. absurd (omega arith) })
-      go (no d) = rw (ran-moved busy (reply (running allMoves) s) d) tt
-
-  -- one stream more has nothing to hand out
-  after-known : (i : ℕ) (busy : Bool) → (reply (collecting i) s .number ≡ 0 → ⊥) → Known n (Collect i busy) s → Known n (afterOutput n i busy) s
-  after-known i busy none h = go (decLt (i + 1) n)
-    where
-      more : (k : ℕ) → k ≤ i + 1 → Still i s → Still k s
-      more k l x = record { moves = x .moves; waits = λ j m. one j (omega arith) (ℕ-discrete j i) }
+      more : (k : ℕ) → k ≤ nextOutput n from s → Still from s → Still k s
+      more k l x = record { moves = x .moves; waits = λ i m. one i (omega arith) (decLt i from) }
         where
-          one : (j : ℕ) → j < i + 1 → Dec (j ≡ i) → reply (collecting j) s .number ≡ 0 → ⊥
-          one j m (yes e) = rw e none
-          one j m (no d) = x .waits j (omega arith)
+          one : (i : ℕ) → i < nextOutput n from s → Dec (i < from) → reply (collecting i) s .number ≡ 0 → ⊥
+          one i m (yes d) = x .waits i d
+          one i m (no d) = no-output s f i (next-before n from s i (omega arith) m)
 
-      round : (b : Bool) → n ≤ i + 1 → (b ≡ false → Still i s) → Known n (roundAfter b) s
+      round : (b : Bool) → n ≤ nextOutput n from s → (b ≡ false → Still from s) → Known n (roundAfter b) s
       round true l x = tt
       round false l x = more n l (x refl)
 
-      go : Dec (i + 1 < n) → Known n (afterOutput n i busy) s
-      go (yes l) = rw (sym (after-next n i busy l)) (omega arith, λ q. more (i + 1) (omega arith) (h .1 q))
-      go (no l) = let m : n ≤ i + 1 = omega arith in rw (sym (after-last n i busy m)) (round busy m (h .1))
+      go : Dec (nextOutput n from s < n) → Known n (toOutput n from busy s) s
+      go (yes l) = rw (sym (to-next n from busy s l)) (omega arith, λ q. more (nextOutput n from s) (omega arith) (h q))
+      go (no l) = let m : n ≤ nextOutput n from s = omega arith in rw (sym (to-last n from busy s m)) (round busy m h)
 
-  collect-known : (i : ℕ) (busy : Bool) → Known n (Collect i busy) s → Known n (collected n i busy (reply (collecting i) s) .place) (collected n i busy (reply (collecting i) s) .state)
-  collect-known i busy h = go (ℕ-discrete (reply (collecting i) s .number) 0)
-    where
-      go : Dec (reply (collecting i) s .number ≡ 0) → Known n (collected n i busy (reply (collecting i) s) .place) (collected n i busy (reply (collecting i) s) .state)
-      go (yes e) = rw (collected-event n i busy (reply (collecting i) s) e) (h .0, λ q. absurd (true≢false q))
-      go (no d) = rw (collected-none n i busy (reply (collecting i) s) d, collect-same s f i d) (after-known i busy d h)
+  module _ (s : List ℕ) (f : Fine s) where
+    run-known : Known n (ran n (reply (running allMoves) s) .place) (ran n (reply (running allMoves) s) .state)
+    run-known = go (decLt (reply (running allMoves) s .moves) allMoves)
+      where
+        go : Dec (reply (running allMoves) s .moves < allMoves) → Known n (ran n (reply (running allMoves) s) .place) (ran n (reply (running allMoves) s) .state)
+        go (yes l) =
+            rw (ran-rest n (reply (running allMoves) s) l)
+            (to-known (reply (running allMoves) s .buffer) (reply-fine (running allMoves) s) 0 false (λ q. record { moves = run-rests s f allMoves allMoves l; waits = λ i m. absurd (omega arith) }))
+        go (no l) = rw (ran-moved n (reply (running allMoves) s) (omega arith)) tt
 
-  step-known : (p : Place) → Known n p s → Known n (step n p s .place) (step n p s .state)
-  unfolding step
-  step-known (Run busy) h = run-known busy
-  step-known (Collect i busy) h = collect-known i busy h
-  step-known Rest h = h
+    -- one stream more has nothing to hand out
+    next-still : (i : ℕ) → (reply (collecting i) s .number ≡ 0 → ⊥) → Still i s → Still (i + 1) s
+    next-still i none x = record { moves = x .moves; waits = λ j m. one j m (ℕ-discrete j i) }
+      where
+        one : (j : ℕ) → j < i + 1 → Dec (j ≡ i) → reply (collecting j) s .number ≡ 0 → ⊥
+        one j m (yes e) = rw e none
+        one j m (no d) = x .waits j (omega arith)
+
+    collect-known : (i : ℕ) (busy : Bool) → Known n (Collect i busy) s → Known n (collected n i busy (reply (collecting i) s) .place) (collected n i busy (reply (collecting i) s) .state)
+    collect-known i busy h = go (ℕ-discrete (reply (collecting i) s .number) 0)
+      where
+        go : Dec (reply (collecting i) s .number ≡ 0) → Known n (collected n i busy (reply (collecting i) s) .place) (collected n i busy (reply (collecting i) s) .state)
+        go (yes e) = rw (collected-event n i busy (reply (collecting i) s) e) (h .0, λ q. absurd (true≢false q))
+        go (no d) = rw (collected-none n i busy (reply (collecting i) s) d, collect-same s f i d) (to-known s f (i + 1) busy (λ q. next-still i d (h .1 q)))
+
+    step-known : (p : Place) → Known n p s → Known n (step n p s .place) (step n p s .state)
+    unfolding step
+    step-known Run h = run-known
+    step-known (Collect i busy) h = collect-known i busy h
+    step-known Rest h = h
 
 -- ## From one line to the next
 

@@ -9,7 +9,6 @@ use native.Mathlib.Nat.{mul-le-mul-right}
 use native.Mathlib.Decide.{decLt, ℕ-discrete}
 use Rattle.le.specs.Bytes.{Bytes}
 use Rattle.machine.specs.Calls.{running, collecting}
-use Rattle.calls.specs.Reply.{Reply}
 use Rattle.engine.specs.Reply.{reply}
 use Rattle.engine.proofs.Replies.{reply-none}
 use Rattle.resting.specs.Left.{left}
@@ -17,33 +16,30 @@ use Rattle.resting.proofs.Bytes.{run-left, collect-left}
 use Rattle.replaying.specs.declared.Place.{Place}
 use Rattle.replaying.specs.declared.Place.the-variants.{Run, Collect, Rest}
 use Rattle.replaying.specs.declared.Stand.{Stand}
-use Rattle.replaying.specs.Replay.{allMoves, ran, roundAfter, afterOutput, collected, step, Turned}
+use Rattle.replaying.specs.Replay.{allMoves, nextOutput, roundAfter, toOutput, ran, collected, step, Turned}
 use Rattle.replaying.specs.Rank.{isRest, more, callsLeft, callsAll, rank}
 use Rattle.replaying.proofs.Bytes.{Fine, reply-fine, collect-same}
-use Rattle.replaying.proofs.Steps.{ran-rest, ran-moved, after-next, after-last, collected-event, collected-none, collected-state, ran-state}
+use Rattle.replaying.proofs.Outputs.{next-ge}
+use Rattle.replaying.proofs.Steps.{ran-rest, ran-moved, to-next, to-last, collected-event, collected-none, collected-state, ran-state}
 
 -- a step leaves what its call leaves
 pub step-fine : (n : ℕ) (p : Place) (s : List ℕ) → (isRest p ≡ true → Fine s) → Fine (step n p s .state)
 unfolding step
-step-fine n (Run busy) s f = rw (ran-state busy (reply (running allMoves) s) .0) (reply-fine (running allMoves) s)
+step-fine n Run s f = rw (ran-state n (reply (running allMoves) s) .0) (reply-fine (running allMoves) s)
 step-fine n (Collect i busy) s f = rw (collected-state n i busy (reply (collecting i) s)) (reply-fine (collecting i) s)
 step-fine n Rest s f = f refl
 
-more-few : (n : ℕ) (b : Bool) → more n b ≤ n + 3
-more-few n true = omega arith
-more-few n false = omega arith
-
--- past a stream fewer calls are left
-after-fewer : (n i : ℕ) (busy : Bool) → callsLeft n (afterOutput n i busy) < callsLeft n (Collect i busy)
-after-fewer n i busy = go (decLt (i + 1) n)
+-- on the way to the next output fewer calls are left
+to-fewer : (n from : ℕ) (busy : Bool) (s : List ℕ) → callsLeft n (toOutput n from busy s) < 1 + (n + 1 - from) + more n busy
+to-fewer n from busy s = go (decLt (nextOutput n from s) n)
   where
-    round : (b : Bool) → callsLeft n (roundAfter b) < 1 + (n - i) + more n b
+    round : (b : Bool) → callsLeft n (roundAfter b) < 1 + (n + 1 - from) + more n b
     round true = omega arith
     round false = omega arith
 
-    go : Dec (i + 1 < n) → callsLeft n (afterOutput n i busy) < callsLeft n (Collect i busy)
-    go (yes h) = rw (sym (after-next n i busy h)) (omega arith)
-    go (no h) = rw (sym (after-last n i busy (omega arith))) (round busy)
+    go : Dec (nextOutput n from s < n) → callsLeft n (toOutput n from busy s) < 1 + (n + 1 - from) + more n busy
+    go (yes h) = rw (sym (to-next n from busy s h)) (omega (arith, next-ge n from s))
+    go (no h) = rw (sym (to-last n from busy s (omega arith))) (round busy)
 
 -- less is lacking, or the same and fewer calls are left
 lower : (w l l′ c c′ : ℕ) → l′ < l → c′ < w → l′ * w + c′ < l * w + c
@@ -72,34 +68,33 @@ module _ (n : ℕ) (s : List ℕ) (f : Fine s) where
       go (inl b) = collect-left s b i
       go (inr e) = rw (reply-none (collecting i) s e) (λ z. absurd (omega arith))
 
-  run-falls : (busy : Bool) → rank n (ran busy (reply (running allMoves) s) .place) (ran busy (reply (running allMoves) s) .state) < rank n (Run busy) s
-  run-falls busy = go (ℕ-discrete (reply (running allMoves) s .moves) 0)
+  run-falls : rank n (ran n (reply (running allMoves) s) .place) (ran n (reply (running allMoves) s) .state) < rank n Run s
+  run-falls = go (decLt (reply (running allMoves) s .moves) allMoves)
     where
-      r : Reply
-      r = reply (running allMoves) s
-
       h : left (reply (running allMoves) s .buffer) + reply (running allMoves) s .moves ≤ left s
       h = run-less
 
-      go : Dec (reply (running allMoves) s .moves ≡ 0) → rank n (ran busy (reply (running allMoves) s) .place) (ran busy (reply (running allMoves) s) .state) < rank n (Run busy) s
-      go (yes e) = rw (ran-rest busy (reply (running allMoves) s) e) (same (callsAll n) (left s) (left (reply (running allMoves) s .buffer)) (n + 2 + more n busy) (1 + (n - 0) + more n busy) (omega (arith, h)) (omega arith))
-      go (no e) =
-          let z : 0 < reply (running allMoves) s .moves = omega (arith, e) in
-          rw (ran-moved busy (reply (running allMoves) s) e) (lower (callsAll n) (left s) (left (reply (running allMoves) s .buffer)) (n + 2 + more n busy) (n + 2 + (n + 3)) (omega (arith, h, z)) (omega arith))
+      go : Dec (reply (running allMoves) s .moves < allMoves) → rank n (ran n (reply (running allMoves) s) .place) (ran n (reply (running allMoves) s) .state) < rank n Run s
+      go (yes l) =
+          rw (ran-rest n (reply (running allMoves) s) l)
+          (same (callsAll n) (left s) (left (reply (running allMoves) s .buffer)) (n + 2) (callsLeft n (toOutput n 0 false (reply (running allMoves) s .buffer))) (omega (arith, h)) (omega (arith, to-fewer n 0 false (reply (running allMoves) s .buffer))))
+      go (no l) =
+          rw (ran-moved n (reply (running allMoves) s) (omega arith))
+          (lower (callsAll n) (left s) (left (reply (running allMoves) s .buffer)) (n + 2) (n + 2) (omega (arith, h, l)) (omega arith))
 
   collect-falls : (i : ℕ) (busy : Bool) → rank n (collected n i busy (reply (collecting i) s) .place) (collected n i busy (reply (collecting i) s) .state) < rank n (Collect i busy) s
   collect-falls i busy = go (ℕ-discrete (reply (collecting i) s .number) 0)
     where
       go : Dec (reply (collecting i) s .number ≡ 0) → rank n (collected n i busy (reply (collecting i) s) .place) (collected n i busy (reply (collecting i) s) .state) < rank n (Collect i busy) s
-      go (yes e) = rw (collected-event n i busy (reply (collecting i) s) e) (lower (callsAll n) (left s) (left (reply (collecting i) s .buffer)) (1 + (n - i) + more n busy) (1 + (n - i) + (n + 3)) (collect-less i e) (omega arith))
+      go (yes e) = rw (collected-event n i busy (reply (collecting i) s) e) (lower (callsAll n) (left s) (left (reply (collecting i) s .buffer)) (1 + (n - i) + more n busy) (1 + (n - i) + (n + 2)) (collect-less i e) (omega arith))
       go (no e) =
           let h = ap left (collect-same s f i e) in
           rw (collected-none n i busy (reply (collecting i) s) e)
-          (same (callsAll n) (left s) (left (reply (collecting i) s .buffer)) (1 + (n - i) + more n busy) (callsLeft n (afterOutput n i busy)) (omega (arith, h)) (after-fewer n i busy))
+          (same (callsAll n) (left s) (left (reply (collecting i) s .buffer)) (1 + (n - i) + more n busy) (callsLeft n (toOutput n (i + 1) busy (reply (collecting i) s .buffer))) (omega (arith, h)) (omega (arith, to-fewer n (i + 1) busy (reply (collecting i) s .buffer))))
 
   pub step-falls : (p : Place) → isRest p ≡ false → rank n (step n p s .place) (step n p s .state) < rank n p s
   unfolding step
-  step-falls (Run busy) e = run-falls busy
+  step-falls Run e = run-falls
   step-falls (Collect i busy) e = collect-falls i busy
   step-falls Rest e = absurd (true≢false e)
 

@@ -4,7 +4,7 @@ use mathlib.Core.Path.{_≡_, refl, ap}
 use mathlib.Core.Bool.{Bool, true, false, cond}
 use mathlib.Core.List.{List, []}
 use native.Mathlib.Omega.{arith}
-use lib.Dec.{eqb}
+use lib.Dec.{eqb, ltb}
 use lib.ListN.{length}
 use borrow.Author.Tests.{eq-eqb, ne-eqb, lt-ltb, le-ltb}
 use Rattle.calls.specs.Reply.{Reply}
@@ -14,7 +14,7 @@ use Rattle.trace.specs.declared.Line.the-variants.{Read, Bad}
 use Rattle.printer.specs.Print.{eventText, refusedText, refusedRoom}
 use Rattle.printer.proofs.Lines.{refused-most}
 use Rattle.replaying.specs.declared.Place.the-variants.{Run, Collect}
-use Rattle.replaying.specs.Replay.{callOf, refusal, turn, ran, afterOutput, roundAfter, collected}
+use Rattle.replaying.specs.Replay.{callOf, refusal, turn, allMoves, nextOutput, roundAfter, toOutput, ran, collected}
 use Rattle.replaying.specs.Whole.{lineNumber, lineText}
 
 -- ## Offers
@@ -26,15 +26,15 @@ pub refusal-some : (n : ℕ) → (n ≡ 0 → ⊥) → refusal n ≡ refusedText
 refusal-some zero h = absurd (h refl)
 refusal-some (suc n) h = refl
 
--- ## What follows a stream
+-- ## The next output
 
-pub after-next : (n i : ℕ) (busy : Bool) → i + 1 < n → Collect (i + 1) busy ≡ afterOutput n i busy
-unfolding afterOutput
-after-next n i busy h = rw (lt-ltb (i + 1) n h)
+pub to-next : (n from : ℕ) (busy : Bool) (s : List ℕ) → nextOutput n from s < n → Collect (nextOutput n from s) busy ≡ toOutput n from busy s
+unfolding toOutput
+to-next n from busy s h = rw (lt-ltb (nextOutput n from s) n h)
 
-pub after-last : (n i : ℕ) (busy : Bool) → n ≤ i + 1 → roundAfter busy ≡ afterOutput n i busy
-unfolding afterOutput
-after-last n i busy h = rw (le-ltb (i + 1) n h)
+pub to-last : (n from : ℕ) (busy : Bool) (s : List ℕ) → n ≤ nextOutput n from s → roundAfter busy ≡ toOutput n from busy s
+unfolding toOutput
+to-last n from busy s h = rw (le-ltb (nextOutput n from s) n h)
 
 -- ## A collection
 
@@ -42,7 +42,7 @@ pub collected-event : (n i : ℕ) (busy : Bool) (r : Reply) → r .number ≡ 0 
 unfolding collected
 collected-event n i busy r e = rw (eq-eqb (r .number) 0 e)
 
-pub collected-none : (n i : ℕ) (busy : Bool) (r : Reply) → (r .number ≡ 0 → ⊥) → collected n i busy r ≡ turn (afterOutput n i busy) [] (r .buffer)
+pub collected-none : (n i : ℕ) (busy : Bool) (r : Reply) → (r .number ≡ 0 → ⊥) → collected n i busy r ≡ turn (toOutput n (i + 1) busy (r .buffer)) [] (r .buffer)
 unfolding collected
 collected-none n i busy r e = rw (ne-eqb (r .number) 0 e)
 
@@ -51,23 +51,23 @@ pub collected-state : (n i : ℕ) (busy : Bool) (r : Reply) → collected n i bu
 unfolding collected
 collected-state n i busy r = go (eqb (r .number) 0)
   where
-    go : (b : Bool) → cond b (turn (Collect i true) (eventText i (r .stamp) (r .value)) (r .buffer)) (turn (afterOutput n i busy) [] (r .buffer)) .state ≡ r .buffer
+    go : (b : Bool) → cond b (turn (Collect i true) (eventText i (r .stamp) (r .value)) (r .buffer)) (turn (toOutput n (i + 1) busy (r .buffer)) [] (r .buffer)) .state ≡ r .buffer
     go true = refl
     go false = refl
 
 -- ## A run
 
-pub ran-rest : (busy : Bool) (r : Reply) → r .moves ≡ 0 → ran busy r ≡ turn (Collect 0 busy) [] (r .buffer)
-ran-rest busy r e = rw (eq-eqb (r .moves) 0 e)
+pub ran-rest : (n : ℕ) (r : Reply) → r .moves < allMoves → ran n r ≡ turn (toOutput n 0 false (r .buffer)) [] (r .buffer)
+ran-rest n r h = rw (lt-ltb (r .moves) allMoves h)
 
-pub ran-moved : (busy : Bool) (r : Reply) → (r .moves ≡ 0 → ⊥) → ran busy r ≡ turn (Run true) [] (r .buffer)
-ran-moved busy r e = rw (ne-eqb (r .moves) 0 e)
+pub ran-moved : (n : ℕ) (r : Reply) → allMoves ≤ r .moves → ran n r ≡ turn Run [] (r .buffer)
+ran-moved n r h = rw (le-ltb (r .moves) allMoves h)
 
--- whether something moved or not, the state is the run's
-pub ran-state : (busy : Bool) (r : Reply) → (ran busy r .state ≡ r .buffer) × (ran busy r .printed ≡ [])
-ran-state busy r = go (eqb (r .moves) 0)
+-- whether all moves were made or not, the state is the run's
+pub ran-state : (n : ℕ) (r : Reply) → (ran n r .state ≡ r .buffer) × (ran n r .printed ≡ [])
+ran-state n r = go (ltb (r .moves) allMoves)
   where
-    go : (b : Bool) → (cond b (turn (Collect 0 busy) [] (r .buffer)) (turn (Run true) [] (r .buffer)) .state ≡ r .buffer) × (cond b (turn (Collect 0 busy) [] (r .buffer)) (turn (Run true) [] (r .buffer)) .printed ≡ [])
+    go : (b : Bool) → (cond b (turn (toOutput n 0 false (r .buffer)) [] (r .buffer)) (turn Run [] (r .buffer)) .state ≡ r .buffer) × (cond b (turn (toOutput n 0 false (r .buffer)) [] (r .buffer)) (turn Run [] (r .buffer)) .printed ≡ [])
     go true = (refl, refl)
     go false = (refl, refl)
 

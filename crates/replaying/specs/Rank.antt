@@ -7,7 +7,7 @@ use Rattle.replaying.specs.declared.Place.{Place}
 use Rattle.replaying.specs.declared.Place.the-variants.{Run, Collect, Rest}
 
 abbrev pub isRest : Place → Bool
-isRest (Run busy) = false
+isRest Run = false
 isRest (Collect stream busy) = false
 isRest Rest = true
 
@@ -15,18 +15,18 @@ isRest Rest = true
 
 -- one more round is due
 abbrev pub more : ℕ → Bool → ℕ
-more n true = n + 3
+more n true = n + 2
 more n false = 0
 
 -- the calls that are left if nothing moves or waits
 abbrev pub callsLeft : ℕ → Place → ℕ
-callsLeft n (Run busy) = n + 2 + more n busy
+callsLeft n Run = n + 2
 callsLeft n (Collect stream busy) = 1 + (n - stream) + more n busy
 callsLeft n Rest = 0
 
 -- more than are left at any place
 abbrev pub callsAll : ℕ → ℕ
-callsAll n = 2 * (n + 3)
+callsAll n = 2 * (n + 2)
 
 abbrev pub rank : ℕ → Place → List ℕ → ℕ
 rank n place s = left s * callsAll n + callsLeft n place

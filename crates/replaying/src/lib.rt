@@ -1,11 +1,11 @@
 // Replaying, step by step: a record is offered, and then the state is run to rest and its outputs are collected, again and again.
 ghost use mathlib.Core.Path.{_≡_};
-ghost use Prim.Native.Nat.{_+_, _<_, _≤_};
+ghost use Prim.Native.Nat.{_+_, _*_, _<_, _≤_};
 ghost use mathlib.Core.Bool.{false};
 ghost use lib.ListN.{length, take};
 ghost use Rattle.decimal.specs.Put.{Put};
 ghost use Rattle.printer.specs.Print.{eventRoom, refusedRoom};
-ghost use Rattle.replaying.specs.Replay.{Turned, Prints, callOf, refusal, allMoves, ran, afterOutput, collected, step};
+ghost use Rattle.replaying.specs.Replay.{Turned, Prints, callOf, refusal, allMoves, isOutput, nextOutput, toOutput, ran, collected, step};
 ghost use Rattle.replaying.specs.Rank.{isRest, rank};
 ghost use Rattle.replaying.specs.Whole.{lineText, lineState};
 ghost use Rattle.engine.specs.Reply.{reply};
@@ -15,11 +15,11 @@ ghost use Rattle.machine.specs.Calls.{running, collecting};
 use trace::Line;
 use trace::Record;
 
-// Where a replay stands. `busy` says that something moved or was handed out in this round.
+// Where a replay stands.
 pub enum Place {
     // It is to run.
-    Run { busy: bool },
-    // It is to collect from this stream.
+    Run,
+    // It is to collect from this output. `busy` says that something was handed out in this round.
     Collect { stream: u32, busy: bool },
     // Nothing moves or waits.
     Rest,
@@ -104,25 +104,50 @@ pub fn line(state: &mut [u8], text: &[u8], at: usize, out: &mut [u8]) -> Passed
     Passed { found, end }
 }
 
-// What follows once a stream, of n, has nothing more to hand out: the next stream, another round, or rest.
-fn after_output(n: u32, stream: u32, busy: bool) -> Place
-    ensures { λ r. ⌜ r ≡ afterOutput n stream busy ⌝ }
+// Whether a stream is an output.
+fn is_output(state: &[u8], i: usize) -> bool
+    requires { ⌜ i * 256 + 256 ≤ length (now state) ⌝ }
+    ensures { λ r. ⌜ r ≡ isOutput (now (state .entry)) i ⌝ }
 {
-    if (stream as u64) + 1 < n as u64 {
+    layout::byte_at(layout::row_at(state, i), layout::OUT) != 0
+}
+
+// Of n streams the lowest output from a stream on.
+fn next_output(state: &[u8], n: usize, from: usize) -> usize
+    requires { ⌜ n * 256 ≤ length (now state) ⌝ }
+    ensures { λ r. ⌜ r ≡ nextOutput n from (now (state .entry)) ⌝ }
+{
+    let mut i = from;
+    while i < n {
+        if is_output(state, i) {
+            return i;
+        }
+        i += 1;
+    }
+    i
+}
+
+// Goes to the next output from a stream on; past the last one to another round, or to rest.
+fn to_output(state: &[u8], n: u32, from: usize, busy: bool) -> Place
+    requires { ⌜ n * 256 ≤ length (now state) ⌝ }
+    ensures { λ r. ⌜ r ≡ toOutput n from busy (now (state .entry)) ⌝ }
+{
+    let i = next_output(state, n as usize, from);
+    if i < n as usize {
         return Place::Collect {
-            stream: stream + 1,
+            stream: i as u32,
             busy,
         };
     }
     if busy {
-        return Place::Run { busy: false };
+        return Place::Run;
     }
     Place::Rest
 }
 
-// Collects one event of a stream and puts its line, or goes on to what follows the stream.
+// Collects one event of an output and puts its line, or goes on to the next output.
 fn collect(state: &mut [u8], n: u32, stream: u32, busy: bool, out: &mut [u8], at: usize) -> Stand
-    requires { ⌜ at + eventRoom ≤ length (now out) ⌝ }
+    requires { ⌜ (n * 256 ≤ length (now state)) × (at + eventRoom ≤ length (now out)) ⌝ }
     ensures { λ r. ⌜ Turned (collected n stream busy (reply (collecting stream) (now (state .entry)))) (now (out .entry)) at r (now (out .exit)) (now (state .exit)) ⌝ }
 {
     let mut stamp: u32 = 0;
@@ -136,32 +161,33 @@ fn collect(state: &mut [u8], n: u32, stream: u32, busy: bool, out: &mut [u8], at
         };
     }
     Stand {
-        place: after_output(n, stream, busy),
+        place: to_output(state, n, stream as usize + 1, busy),
         end: at,
     }
 }
 
-// Runs, and goes on to collect once nothing moves.
-fn run(state: &mut [u8], busy: bool) -> Place
-    ensures place { λ r. ⌜ r ≡ ran busy (reply (running allMoves) (now (state .entry))) .place ⌝ }
+// Runs, and goes on to the first output once the run made fewer moves than it was asked for.
+fn run(state: &mut [u8], n: u32) -> Place
+    requires { ⌜ n * 256 ≤ length (now state) ⌝ }
+    ensures place { λ r. ⌜ r ≡ ran n (reply (running allMoves) (now (state .entry))) .place ⌝ }
     ensures state { λ _. ⌜ now (state .exit) ≡ reply (running allMoves) (now (state .entry)) .buffer ⌝ }
 {
     let mut moves: u32 = 0;
     engine::tessla_run(state, u32::MAX, &mut moves);
-    if moves == 0 {
-        return Place::Collect { stream: 0, busy };
+    if moves < u32::MAX {
+        return to_output(state, n, 0, false);
     }
-    Place::Run { busy: true }
+    Place::Run
 }
 
 // Makes the one call that is due at a place.
 fn turn(state: &mut [u8], n: u32, place: Place, out: &mut [u8], at: usize) -> Stand
-    requires { ⌜ at + eventRoom ≤ length (now out) ⌝ }
+    requires { ⌜ (n * 256 ≤ length (now state)) × (at + eventRoom ≤ length (now out)) ⌝ }
     ensures { λ r. ⌜ Turned (step n place (now (state .entry))) (now (out .entry)) at r (now (out .exit)) (now (state .exit)) ⌝ }
 {
     match place {
-        Place::Run { busy } => Stand {
-            place: run(state, busy),
+        Place::Run => Stand {
+            place: run(state, n),
             end: at,
         },
         Place::Collect { stream, busy } => collect(state, n, stream, busy, out, at),
@@ -177,7 +203,7 @@ pub fn is_rest(place: Place) -> bool
     ensures { λ r. ⌜ r ≡ isRest place ⌝ }
 {
     match place {
-        Place::Run { busy: _ } => false,
+        Place::Run => false,
         Place::Collect { stream: _, busy: _ } => false,
         Place::Rest => true,
     }
@@ -186,7 +212,7 @@ pub fn is_rest(place: Place) -> bool
 // Goes on from a place, through n streams, until the buffer has no room for one more event or nothing moves or waits. The buffer
 // then starts with what is to be printed.
 pub fn fill(state: &mut [u8], n: u32, place: Place, out: &mut [u8]) -> Stand
-    requires { ⌜ eventRoom ≤ length (now out) ⌝ }
+    requires { ⌜ (n * 256 ≤ length (now state)) × (eventRoom ≤ length (now out)) ⌝ }
     ensures fits { λ r. ⌜ r .end ≤ length (now (out .exit)) ⌝ }
     ensures prints { λ r. ⌜ Prints n place (now (state .entry)) (take (r .end) (now (out .exit))) (r .place) (now (state .exit)) ⌝ }
     ensures nearer { λ r. ⌜ (isRest place ≡ false → rank n (r .place) (now (state .exit)) < rank n place (now (state .entry))) ⌝ }

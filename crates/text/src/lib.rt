@@ -99,7 +99,7 @@ fn operator(code: u64) -> u8
 }
 
 // The op line.
-fn op_line(text: &[u8], at: usize) -> Name
+pub fn op_line(text: &[u8], at: usize) -> Name
     ensures { λ r. ⌜ r ≡ opLine (now (text .entry)) at ⌝ }
 {
     let Word::Past(p) = lines::skip(text, at, b"op=") else {

@@ -4,10 +4,10 @@
 use Prim.Native.Nat.{ℕ, zero, suc, _≤_}
 use mathlib.Core.Path.{_≡_, refl, sym, ap, ap₂, _∙_, subst}
 use mathlib.Core.Logic.{inl}
-use mathlib.Core.Bool.{Bool, true, false, not}
+use mathlib.Core.Bool.{Bool, true, false}
 use mathlib.Core.List.{List, [], _∷_, _++_, append-nil, append-assoc}
 use native.Mathlib.Omega.{arith}
-use lib.Dec.{T, leb}
+use lib.Dec.{leb}
 use lib.IntN.{ℤ, pos}
 use lib.ListN.{length, length-append}
 use borrow.Author.Tests.{le-ltb}
@@ -23,7 +23,7 @@ use Rattle.text.specs.Grammar.{head, stream, opLine, named, nameAt, numberNamed
 use Rattle.plan.specs.Rules.{allKeep, streams, planFrom, numberAfter, number, declared}
 use Rattle.machine.specs.State.{Declared, State, cellAt, room, loaded}
 use Rattle.machine.specs.Step.{raise}
-use Rattle.machine.specs.Calls.{Call, reading, progress, moving, running, collecting, arrivals, done, unless, offerReading, oldest, handOut, collect, call}
+use Rattle.machine.specs.Calls.{Call, reading, progress, moving, running, collecting, arrivals, done, unless, offerReading, call}
 use Rattle.runs.specs.Seen.{Seen, Typed, AllTyped, accepted, knownFrom, known, handed}
 use Rattle.runs.specs.Demand3.{IsInput, IsOutput, Beginning, FurthestBehind, AtRest}
 use Rattle.runs.specs.History.{after, log}
@@ -48,6 +48,7 @@ use Rattle.replaying.specs.Session.{Replays, ends, goes, lineIn, printedOf, oth
 use Rattle.replaying.specs.Whole.{Lines, none, more, end, Printed, refused, played}
 use Rattle.visits.specs.Example.{visits, trace, printed}
 use Rattle.replaying.proofs.Bytes.{Fine, state-bytes, reply-fine}
+use Rattle.replaying.proofs.Outputs.{collect-output}
 use Rattle.replaying.proofs.Made.{buffer-append, printed-append, typed-append, Still, prints-made}
 use Rattle.replaying.proofs.Told.{plan, still-rest}
 use Rattle.replaying.proofs.Exists.{printed-exists}
@@ -107,15 +108,6 @@ only-input (suc (suc (suc zero))) h = absurd (h .1)
 only-input (suc (suc (suc (suc zero)))) h = absurd (h .1)
 only-input (suc (suc (suc (suc (suc zero))))) h = absurd (h .1)
 only-input (suc (suc (suc (suc (suc (suc i)))))) h = absurd (h .1)
-
--- a collect that hands out an event is one of an output
-collect-output : (i : ℕ) (M : State) → call (collecting i) M .number ≡ 0 → T (cellAt M i .out)
-unfolding call collect
-collect-output i M e = by (cellAt M i .out) e
-  where
-    by : (b : Bool) → unless (not b) 13 M (handOut (oldest (cellAt M i .next) (cellAt M i .held)) i M) .number ≡ 0 → T b
-    by true q = tt
-    by false q = absurd (omega arith)
 
 -- an offer to an input that is neither below the bound nor refused for lack of space
 offer-done : (t : ℕ) (v : ℤ) (M : State) → isInput (cellAt M 0 .eqn) ≡ true → cellAt M 0 .bound ≤ t → (offerReading 0 t v M .number ≡ 9 → ⊥) → call (reading 0 t v) M .number ≡ 0

@@ -159,3 +159,35 @@ fn the_tick_and_what_overflow_does() {
         assert_eq!(handed, wanted, "{}", engine.name);
     }
 }
+
+/// A stream as the page writes it in one line, `7: merge 6 1 out  0 at stamp 0`, without its number and the words behind it.
+fn stream_of(line: &str) -> &str {
+    let (_, stream) = line.split_once(": ").unwrap_or_else(|| panic!("stream {line}"));
+    stream.split("  ").next().unwrap().trim()
+}
+
+#[test]
+fn the_plans_that_are_written_out() {
+    let page = page();
+    let blocks: Vec<Vec<&str>> = page
+        .split("```\n")
+        .skip(1)
+        .step_by(2)
+        .filter(|block| block.starts_with("0: in\n"))
+        .map(|block| block.lines().map(stream_of).collect())
+        .collect();
+    let visits = || vec![events("7041@60 7055@95 7041@130 9999@131 7041@301")];
+    assert_eq!(blocks.len(), 2);
+    check(&blocks[0].join("; "), &visits(), &events("0@0 1@60 2@95 3@130 4@131 5@301"));
+    check(&blocks[1].join("; "), &visits(), &events("0@0 1@60 2@130 3@301"));
+
+    // the shorter form, which repeats the count, is written between back quotes
+    let from = page.find("`2: set 0 k7041`").expect("the form with five streams");
+    let short_form: Vec<&str> = page[from..].split('`').skip(1).step_by(2).take(5).map(stream_of).collect();
+    check(&format!("in; unit; {}", short_form.join("; ")), &visits(), &events("0@0 1@60 1@95 2@130 2@131 3@301"));
+
+    // five rings of six streams fit, and six of five; one more does not
+    for (streams, rings) in [(6, 5), (5, 6)] {
+        assert!(2 + streams * rings <= 32 && 32 < 2 + streams * (rings + 1));
+    }
+}

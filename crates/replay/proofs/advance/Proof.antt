@@ -1,10 +1,10 @@
 -- `replay::advance` meets its contract.
-use lib.ListN.{length}
-use borrow.Author.Tests.{ltb-true}
-use mathlib.Core.Path.{sym}
 use Prim.Native.Nat.{_-_}
-use denote.Ref.{now}
+use mathlib.Core.Path.{sym}
+use lib.ListN.{length}
 use lib.Seq.{length-take-le}
+use borrow.Author.Tests.{ltb-true}
+use denote.Ref.{now}
 use Rattle.replay.specs.Hand.{hand}
 use Rattle.replay.proofs.Hand.{part-onward, bad-ended, last-ended}
 use borrow.Author.Needs.{needs}

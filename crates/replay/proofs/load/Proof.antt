@@ -44,6 +44,18 @@ slice-aggregate-write-all c = sym (length-take-le (c .before .before .before .be
 write-all-requires : tie.Need-write-all-requires
 write-all-requires c κs = search needs
 
+slice-aggregate-say : tie.Need-slice-aggregate-say
+slice-aggregate-say c = search needs
+
+array-share-prefix-out-2 : tie.Need-array-share-prefix-out-2
+array-share-prefix-out-2 c = omega (arith, c .before .before .before .before .before .before .load .ensures .1 .0 .past, refusal-most (loadReply (take (c .before .before .before .before .before .before .before .before .before .before .before .before .read-start .result) (c .before .before .before .before .before .before .before .before .before .before .before .before .read-start .last .1 .0)) (now (c .before .before .before .before .before .before .before .before .before .before .before .before .before .before .before .before .args .state)) .number), put-length (c .before .before .before .before .before .before .load .ensures .1 .0))
+
+slice-aggregate-say-2 : tie.Need-slice-aggregate-say-2
+slice-aggregate-say-2 c = sym (length-take-le (c .before .before .before .before .before .before .before .load .result .end) (c .before .before .before .before .before .before .before .load .last .1 .1 .0) (omega (arith, c .before .before .before .before .before .before .before .load .ensures .1 .0 .past, refusal-most (loadReply (take (c .before .before .before .before .before .before .before .before .before .before .before .before .before .read-start .result) (c .before .before .before .before .before .before .before .before .before .before .before .before .before .read-start .last .1 .0)) (now (c .before .before .before .before .before .before .before .before .before .before .before .before .before .before .before .before .before .args .state)) .number), put-length (c .before .before .before .before .before .before .before .load .ensures .1 .0))))
+
+say-requires : tie.Need-say-requires
+say-requires c κs = search needs
+
 same-length : tie.Need-same-length
 same-length c = search needs
 
@@ -65,5 +77,9 @@ load-spec =
     array-share-prefix-out
     slice-aggregate-write-all
     write-all-requires
+    slice-aggregate-say
+    array-share-prefix-out-2
+    slice-aggregate-say-2
+    say-requires
     same-length
     returns)

@@ -1,6 +1,10 @@
 -- `replay::replay` meets its contract.
+use denote.Ref.{now}
+use lib.ListN.{length}
+use Rattle.operators.proofs.Sizes.{capacity-fits}
 use Rattle.replay.proofs.Whole.{refused-printed, played-printed}
 use borrow.Author.Needs.{needs}
+use native.Mathlib.Omega.{arith}
 use Rattle.replay.proofs.replay.Statement.{statement}
 use Rattle.replay.proofs.replay.Tie as tie
 
@@ -14,7 +18,7 @@ returns : tie.Need-returns
 returns c = λ q. refused-printed (c .before .before .before .load .result) (c .before .before .before .load .ensures) (c .if1 .taken)
 
 play-requires : tie.Need-play-requires
-play-requires c κs = search needs
+play-requires c κs = omega (arith, c .before .before .before .before .before .before .before .pre, c .before .before .before .before .load .kept .0, capacity-fits (length (now (c .before .before .before .before .before .before .before .args .state))))
 
 same-length-2 : tie.Need-same-length-2
 same-length-2 c = search needs

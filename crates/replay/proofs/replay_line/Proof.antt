@@ -1,6 +1,6 @@
 -- `replay::replay_line` meets its contract.
-use mathlib.Core.Path.{sym, _∙_, subst}
 use Prim.Native.Nat.{ℕ}
+use mathlib.Core.Path.{sym, _∙_, subst}
 use mathlib.Core.List.{List}
 use denote.Ref.{now}
 use lib.Seq.{length-take-le}
@@ -31,6 +31,15 @@ slice-aggregate-write-all c = sym (length-take-le (c .before .before .before .be
 write-all-requires : tie.Need-write-all-requires
 write-all-requires c κs = search needs
 
+array-share-prefix-out-2 : tie.Need-array-share-prefix-out-2
+array-share-prefix-out-2 c = omega (arith, c .before .before .before .before .before .line .ensures .1 .0 .past, line-most (line (now (c .before .before .before .before .before .before .before .before .before .before .before .args .text)) (c .before .before .before .before .before .before .before .before .before .before .before .args .at)) (now (c .before .before .before .before .before .before .before .before .before .before .before .args .state)), put-length (c .before .before .before .before .before .line .ensures .1 .0))
+
+slice-aggregate-say-line : tie.Need-slice-aggregate-say-line
+slice-aggregate-say-line c = sym (length-take-le (c .before .before .before .before .before .before .line .result .end) (c .before .before .before .before .before .before .line .last .1 .1 .1 .0) (omega (arith, c .before .before .before .before .before .before .line .ensures .1 .0 .past, line-most (line (now (c .before .before .before .before .before .before .before .before .before .before .before .before .args .text)) (c .before .before .before .before .before .before .before .before .before .before .before .before .args .at)) (now (c .before .before .before .before .before .before .before .before .before .before .before .before .args .state)), put-length (c .before .before .before .before .before .before .line .ensures .1 .0))))
+
+say-line-requires : tie.Need-say-line-requires
+say-line-requires c κs = search needs
+
 enum-told : tie.Need-enum-told
 enum-told c = search needs
 
@@ -41,7 +50,7 @@ same-length : tie.Need-same-length
 same-length c = search needs
 
 returns : tie.Need-returns
-returns c = (c .before .before .before .before .before .before .before .line .ensures .0, rw (c .enum-told2 .given .1) (rw (sym (c .before .before .before .before .before .before .before .line .ensures .0) ∙ c .enum-told2 .given .1) at (c .before .before .before .before .before .before .before .line .ensures .1 .1)))
+returns c = (c .before .before .before .before .before .before .before .before .before .line .ensures .0, rw (c .enum-told2 .given .1) (rw (sym (c .before .before .before .before .before .before .before .before .before .line .ensures .0) ∙ c .enum-told2 .given .1) at (c .before .before .before .before .before .before .before .before .before .line .ensures .1 .1)))
 
 settle-requires : tie.Need-settle-requires
 settle-requires c κs = search needs
@@ -50,7 +59,7 @@ same-length-2 : tie.Need-same-length-2
 same-length-2 c = search needs
 
 returns-2 : tie.Need-returns-2
-returns-2 c = (c .before .before .before .before .before .before .before .before .before .before .before .line .ensures .0, rw (c .before .before .before .before .enum-told .given .1) (subst (λ (z : List ℕ). Settles (c .before .before .before .before .before .before .before .before .before .before .before .before .before .before .before .before .before .args .n) z (c .before .before .settle .last .0)) (rw (sym (c .before .before .before .before .before .before .before .before .before .before .before .line .ensures .0) ∙ c .before .before .before .before .enum-told .given .1) at (c .before .before .before .before .before .before .before .before .before .before .before .line .ensures .1 .1)) (c .before .before .settle .ensures)))
+returns-2 c = (c .before .before .before .before .before .before .before .before .before .before .before .before .before .line .ensures .0, rw (c .before .before .before .before .enum-told .given .1) (subst (λ (z : List ℕ). Settles (c .before .before .before .before .before .before .before .before .before .before .before .before .before .before .before .before .before .before .before .args .n) z (c .before .before .settle .last .0)) (rw (sym (c .before .before .before .before .before .before .before .before .before .before .before .before .before .line .ensures .0) ∙ c .before .before .before .before .enum-told .given .1) at (c .before .before .before .before .before .before .before .before .before .before .before .before .before .line .ensures .1 .1)) (c .before .before .settle .ensures)))
 
 pub replay-line-spec : {M : Type 1} → statement M
 replay-line-spec =
@@ -62,6 +71,9 @@ replay-line-spec =
     array-share-prefix-out
     slice-aggregate-write-all
     write-all-requires
+    array-share-prefix-out-2
+    slice-aggregate-say-line
+    say-line-requires
     enum-told
     enum-told-2
     same-length

@@ -1,8 +1,8 @@
 -- `replay::replay_lines` meets its contract.
+use Prim.Native.Nat.{_-_, _≤_}
 use mathlib.Core.Path.{_≡_, refl, sym, _∙_}
 use mathlib.Core.Bool.{true≢false}
 use mathlib.Core.Logic.{inl, inr}
-use Prim.Native.Nat.{_-_, _≤_}
 use denote.Ref.{now}
 use lib.ListN.{length}
 use borrow.Author.Tests.{not-true, not-false}
@@ -15,13 +15,13 @@ use Rattle.replay.proofs.replay_lines.Statement.{statement}
 use Rattle.replay.proofs.replay_lines.Tie as tie
 
 abbrev Inv-loop : tie.InvT-loop
-Inv-loop state₀ n text at last from₀ state from = (from ≤ length text) × (length state ≡ length state₀) × Between n text at last state₀ from state
+Inv-loop state₀ n text at last first from₀ line₀ state from line = (from ≤ length text) × (length state ≡ length state₀) × Between n text at last first state₀ from line state
 
 abbrev μ-loop : tie.MeasureT-loop
-μ-loop state₀ n text at last from₀ state from = length text - from
+μ-loop state₀ n text at last first from₀ line₀ state from line = length text - from
 
 loop-holds : tie.Need-loop-holds Inv-loop μ-loop
-loop-holds c = (omega arith, refl, between-none (c .before .before .args .n) (now (c .before .before .args .text)) (c .before .before .args .at) (c .before .before .args .last) (now (c .before .before .args .state)))
+loop-holds c = (omega arith, refl, between-none (c .before .before .args .n) (now (c .before .before .args .text)) (c .before .before .args .at) (c .before .before .args .last) (c .before .before .args .first) (now (c .before .before .args .state)) (omega arith))
 
 sub-if1 : tie.Need-sub-if1 Inv-loop μ-loop
 sub-if1 c = omega arith
@@ -33,7 +33,7 @@ returns : tie.Need-returns Inv-loop μ-loop
 returns c = (c .before .before .before .loop .inv .0, λ q. absurd (true≢false (sym q ∙ not-true (c .before .before .before .before .before .before .args .last) (c .if2 .taken))), omega arith, c .before .before .before .loop .inv .2)
 
 replay-line-requires : tie.Need-replay-line-requires Inv-loop μ-loop
-replay-line-requires c κs = search needs
+replay-line-requires c κs = let e = c .before .before .before .loop .inv .1 in let h = c .before .before .before .before .before .before .pre .0 in omega arith
 
 enum-known-next : tie.Need-enum-known-next Inv-loop μ-loop
 enum-known-next c = search needs
@@ -47,11 +47,14 @@ same-length-2 c = c .before .before .before .before .replay-line .kept .0 ∙ c 
 returns-2 : tie.Need-returns-2 Inv-loop μ-loop
 returns-2 c = between-bad (c .before .before .before .before .before .before .before .loop-test .taken) (either (λ x. inr (not-false (c .before .before .before .before .before .before .before .before .before .before .before .args .last) (x .1 .left))) (λ y. inl (let z = y .left in omega arith)) (c .before .before .before .before .before .before .if1 .came)) (c .before .before .before .before .before .before .before .before .loop .inv .2) (sym (c .before .before .before .before .replay-line .ensures .0) ∙ c .enum-told .given .1) (rw (c .enum-told .given .1) at (c .before .before .before .before .replay-line .ensures .1))
 
+next-line-requires : tie.Need-next-line-requires Inv-loop μ-loop
+next-line-requires c κs = search needs
+
 loop-less : tie.Need-loop-less Inv-loop μ-loop
-loop-less c = let w = window-next (now (c .before .before .before .before .before .before .before .before .before .before .before .before .args .text)) (c .before .before .before .before .before .before .before .before .before .loop .from) (c .before .before .before .before .before .before .before .before .before .loop .inv .0) (c .before .next .given .0 .0) (c .before .next .given .0 .1 .0) (sym (c .before .before .before .before .before .replay-line .ensures .0) ∙ c .before .next .given .1) in let a = w .0 in let b = w .1 in omega arith
+loop-less c = let w = window-next (now (c .before .before .before .before .before .before .before .before .before .before .before .before .before .args .text)) (c .before .before .before .before .before .before .before .before .before .before .loop .from) (c .before .before .before .before .before .before .before .before .before .before .loop .inv .0) (c .before .before .next .given .0 .0) (c .before .before .next .given .0 .1 .0) (sym (c .before .before .before .before .before .before .replay-line .ensures .0) ∙ c .before .before .next .given .1) in let a = w .0 in let b = w .1 in omega arith
 
 loop-again : tie.Need-loop-again Inv-loop μ-loop
-loop-again c = let w = window-next (now (c .before .before .before .before .before .before .before .before .before .before .before .before .args .text)) (c .before .before .before .before .before .before .before .before .before .loop .from) (c .before .before .before .before .before .before .before .before .before .loop .inv .0) (c .before .next .given .0 .0) (c .before .next .given .0 .1 .0) (sym (c .before .before .before .before .before .replay-line .ensures .0) ∙ c .before .next .given .1) in (w .1, c .before .before .before .before .before .replay-line .kept .0 ∙ c .before .before .before .before .before .before .before .before .before .loop .inv .1, between-more (c .before .before .before .before .before .before .before .before .before .loop .inv .0) (either (λ x. inr (not-false (c .before .before .before .before .before .before .before .before .before .before .before .before .args .last) (x .1 .left))) (λ y. inl (let z = y .left in omega arith)) (c .before .before .before .before .before .before .before .if1 .came)) (c .before .before .before .before .before .before .before .before .before .loop .inv .2) (c .before .next .given .0 .0) (c .before .next .given .0 .1 .0) (sym (c .before .before .before .before .before .replay-line .ensures .0) ∙ c .before .next .given .1) (w .1) (rw (c .before .next .given .1) at (c .before .before .before .before .before .replay-line .ensures .1)))
+loop-again c = let w = window-next (now (c .before .before .before .before .before .before .before .before .before .before .before .before .before .args .text)) (c .before .before .before .before .before .before .before .before .before .before .loop .from) (c .before .before .before .before .before .before .before .before .before .before .loop .inv .0) (c .before .before .next .given .0 .0) (c .before .before .next .given .0 .1 .0) (sym (c .before .before .before .before .before .before .replay-line .ensures .0) ∙ c .before .before .next .given .1) in (w .1, c .before .before .before .before .before .before .replay-line .kept .0 ∙ c .before .before .before .before .before .before .before .before .before .before .loop .inv .1, between-more (c .before .before .before .before .before .before .before .before .before .before .loop .inv .0) (either (λ x. inr (not-false (c .before .before .before .before .before .before .before .before .before .before .before .before .before .args .last) (x .1 .left))) (λ y. inl (let z = y .left in omega arith)) (c .before .before .before .before .before .before .before .before .if1 .came)) (c .before .before .before .before .before .before .before .before .before .before .loop .inv .2) (c .before .before .next .given .0 .0) (c .before .before .next .given .0 .1 .0) (sym (c .before .before .before .before .before .before .replay-line .ensures .0) ∙ c .before .before .next .given .1) (w .1) (c .next-line .ensures) (rw (c .before .before .next .given .1) at (c .before .before .before .before .before .before .replay-line .ensures .1)))
 
 same-length-3 : tie.Need-same-length-3 Inv-loop μ-loop
 same-length-3 c = c .before .loop .inv .1
@@ -74,6 +77,7 @@ replay-lines-spec =
     enum-told
     same-length-2
     returns-2
+    next-line-requires
     loop-less
     loop-again
     same-length-3

@@ -1,17 +1,14 @@
 -- `replaying::fill` meets its contract.
+use Prim.Native.Nat.{_<_, _≤_}
 use mathlib.Core.Path.{_≡_, refl, sym, ap, _∙_}
 use mathlib.Core.Bool.{true≢false}
-use Prim.Native.Nat.{_<_, _≤_}
-use Rattle.replaying.proofs.Nearer.{turn-nearer, began, further}
 use mathlib.Core.Logic.{_⊎_, inl, inr}
-use Rattle.replaying.specs.Rank.{isRest, rank}
-use Rattle.replaying.specs.Replay.{Prints, here}
-use mathlib.Core.Path.{_≡_, refl, sym, _∙_}
-use Rattle.replaying.proofs.Going.{turn-fits, turn-prints}
-use Rattle.replaying.proofs.Nearer.{turn-nearer}
-use Rattle.le.specs.Bytes.{Bytes}
-use Rattle.replaying.specs.Rank.{rank}
 use lib.ListN.{length, take}
+use Rattle.le.specs.Bytes.{Bytes}
+use Rattle.replaying.specs.Replay.{Prints, here}
+use Rattle.replaying.specs.Rank.{isRest, rank}
+use Rattle.replaying.proofs.Going.{turn-fits, turn-prints}
+use Rattle.replaying.proofs.Nearer.{turn-nearer, began, further}
 use native.Mathlib.Omega.{arith}
 use Rattle.replaying.proofs.fill.Statement.{statement}
 use Rattle.replaying.proofs.fill.Tie as tie
@@ -41,7 +38,7 @@ returns : tie.Need-returns Inv-loop μ-loop
 returns c = (c .before .before .before .loop .inv .0, (c .before .before .before .loop .inv .4, λ e. began (c .before .before .before .loop .inv .5) (λ q. true≢false (sym (c .if1 .taken) ∙ c .before .is-rest .ensures ∙ ap isRest (q .1) ∙ e))))
 
 turn-requires : tie.Need-turn-requires Inv-loop μ-loop
-turn-requires c κs = omega arith
+turn-requires c κs = (let e = c .before .before .before .before .before .loop .inv .2 in let h = c .before .before .before .before .before .before .before .before .pre .0 in omega arith, omega arith)
 
 loop-less : tie.Need-loop-less Inv-loop μ-loop
 loop-less c = turn-nearer (c .before .before .before .before .before .before .before .before .before .before .before .before .before .args .n) (c .before .before .before .before .before .before .before .before .before .before .loop .p) (c .before .before .before .before .before .before .before .before .before .before .loop .state) (c .before .before .before .before .before .before .before .before .before .before .loop .inv .3) (sym (c .before .before .before .before .before .before .before .before .is-rest .ensures) ∙ c .before .before .before .before .before .before .before .if1 .left) (c .before .before .before .before .turn .ensures)

@@ -1,0 +1,10 @@
+pub mod Walk
+pub mod Says
+pub mod Noting
+pub mod Cycles
+pub mod Number
+pub mod Once
+pub mod Begins
+pub mod Located
+pub mod Further
+pub mod CasesHold
