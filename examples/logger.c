@@ -2,7 +2,8 @@
  * A logger in small. Three sensors report by radio, in any order; the plan of logger_plan.h counts visits and corrects
  * weights.
  *
- *   receive    takes a reading from the radio. It waits in the line of its sensor until the engine takes it: none is lost.
+ *   receive    takes a reading from the radio. It waits in the line of its sensor until the engine takes it: none is lost as
+ *              long as the line has room, and one that is lost is said.
  *   schedule   each minute: says how far every sensor is known, a silent or dead one above all.
  *   work       runs and collects until nothing moves or waits.
  *   save, restore   the state in two places of the flash, in turn (saving.c).

@@ -55,13 +55,14 @@ function quoted(number,    row) {
 END {
   for (number = 7; number <= 10; number++)
     if (count[number] > most) printf "replay: and %d more lines refused, %d: %s\n", count[number] - most, number, text[number]
-  if (count[9]) print "replay: readings were lost because another input was behind: ./order " folder " " folder "/trace.txt prints a trace of the same readings that loses none"
+  if (count[9]) print "replay: readings were lost because another input was behind: ./order " folder " " folder "/trace.txt prints a trace of the same readings that loses none (write it to another file first)"
   if (bad) {
     rest = 0
     while (at < bad && (getline row < trace) > 0) at++
     while ((getline row < trace) > 0) rest++
     printf "replay: it ends at line %d%s\n", bad, rest ? "; " rest " further " (rest == 1 ? "line was" : "lines were") " not read" : ""
   }
+  if (count[7] || count[8] || count[10] || bad) print "replay: ./check " folder " says what is wrong with such lines, and what to do"
   # nobody reads on, as before `head`
   if (status == 141) exit 141
   if (status != 0) { print "replay: the program ended with status " status; exit 2 }
