@@ -6,7 +6,7 @@ ghost use Rattle.lines.specs.Form.{skip};
 ghost use Rattle.text.specs.declared.Head.the-variants as Head;
 ghost use Rattle.text.specs.Grammar.{planLine, head};
 ghost use Rattle.operators.specs.Limits.{mostStreams};
-ghost use Rattle.operators.specs.Rules.{argOk, valueOk};
+ghost use Rattle.operators.specs.Rules.{argOk};
 ghost use Rattle.plan.specs.Rules.{streams, number};
 ghost use Rattle.faults.specs.Faults.{inStream, headLine, fieldLine, streamLine, formFault, fieldBroken, ruleFault, Found};
 ghost use Rattle.faults.specs.Search.{Kept, notedForm, LowestIn, FoundAfter};
@@ -115,12 +115,6 @@ fn arg_ok(used: bool, n: u64, a: u64) -> bool
     if used { a < n } else { a == 0 }
 }
 
-fn value_ok(used: bool, k: u64) -> bool
-    ensures { λ r. ⌜ r ≡ valueOk used k ⌝ }
-{
-    if used { true } else { k == 0 }
-}
-
 // The first field, of a stream that breaks rule 5, that does: a, b, k, out, from 1.
 fn field_broken(n: u64, f: Fields) -> usize
     ensures { λ r. ⌜ (r ≡ fieldBroken n f) × (r < 5) ⌝ }
@@ -132,7 +126,7 @@ fn field_broken(n: u64, f: Fields) -> usize
     if !arg_ok(operators::takes_second(group), n, f.b) {
         return 2;
     }
-    if !value_ok(operators::takes_value(f.op as u64), f.k) {
+    if !operators::value_ok(operators::takes_value(f.op as u64), f.k) {
         return 3;
     }
     4

@@ -124,7 +124,8 @@ pub fn delays_first(g: Group) -> bool
     }
 }
 
-fn value_ok(used: bool, k: u64) -> bool
+// Whether the value k keeps its rule: 0 where it is not used.
+pub fn value_ok(used: bool, k: u64) -> bool
     ensures { λ r. ⌜ r ≡ valueOk used k ⌝ }
 {
     if used { true } else { k == 0 }
