@@ -20,7 +20,7 @@ abbrev delayTo : ℕ → List Event → Kept → Cell
 delayTo y es k = record { eqn = delay 0 1; out = true; bound = y; held = es; next = 0; kept = k }
 
 abbrev kept : ℕ → (value prior : Option ℤ) → Kept
-kept z v p = record { prev = none; since = z; value = v; prior = p }
+kept z v p = record { prev = none; prevB = none; since = z; value = v; prior = p }
 
 pub record Found : Type 0 where
   pub state : State

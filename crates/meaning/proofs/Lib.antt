@@ -15,3 +15,4 @@ pub mod Silence
 pub mod CycleTest
 pub mod Computed
 pub mod CasesHold
+pub mod Spelled

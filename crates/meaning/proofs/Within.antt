@@ -7,7 +7,7 @@ use native.Mathlib.Omega.{arith}
 use native.Mathlib.Decide.{decLt}
 use lib.Dec.{T, ltb, ltb→lt}
 use lib.ListN.{length, List·getD-eq-default}
-use Rattle.meaning.specs.Plan.{Eqn, input, nil, unit, one, two, last, delay, Plan, eqnAt}
+use Rattle.meaning.specs.Plan.{Eqn, input, nil, unit, one, two, last, delay, signal, Plan, eqnAt}
 use Rattle.meaning.specs.Arguments.{reads, undelayed, Each}
 use Rattle.meaning.specs.CycleTest.{downFrom}
 use Rattle.meaning.proofs.Each.{all, each-map, each-at, all-each}
@@ -36,6 +36,7 @@ undelayed-read P (one f a) h = h
 undelayed-read P (two g a b) h = h
 undelayed-read P (last a b) h = h .1
 undelayed-read P (delay a b) h = h .1
+undelayed-read P (signal c a b) h = h
 
 pub reads-within : (plan : Plan) → ((s : ℕ) → s < length plan → Each (λ a. a < length plan) (reads (eqnAt plan s))) → Within plan
 reads-within plan below s a m = go (decLt s (length plan))
