@@ -10,7 +10,7 @@ use lib.Dec.{T, ltb, leb, nltb→le, nleb→lt}
 use lib.IntN.{ℤ}
 use lib.ListN.{length, set}
 use borrow.Author.Tests.{ltb-true}
-use Rattle.meaning.specs.Plan.{Eqn, input, nil, unit, one, two, last, delay, isInput}
+use Rattle.meaning.specs.Plan.{Eqn, input, nil, unit, one, two, last, delay, signal, isInput}
 use Rattle.meaning.specs.Arguments.{argA, argB}
 use Rattle.meaning.specs.Events.{Event, ev, horizon}
 use Rattle.meaning.proofs.Tests.{Is, yes!, no!, look}
@@ -44,6 +44,7 @@ limit-top (one f _) o a b h k l = k
 limit-top (two g _ _) o a b h k l = omega arith
 limit-top (last _ _) o a b h k l = l
 limit-top (delay _ _) o a b h k l = omega arith
+limit-top (signal c _ _) o a b h k l = omega arith
 
 reach-top : (e : Eqn) (o a b : Cell) → o .bound ≤ horizon → a .bound ≤ horizon → b .bound ≤ horizon → reach e o a b ≤ horizon
 unfolding reach
@@ -135,6 +136,7 @@ is-input (one f a) h = absurd h
 is-input (two g a b) h = absurd h
 is-input (last a b) h = absurd h
 is-input (delay a b) h = absurd h
+is-input (signal c a b) h = absurd h
 
 pub progress-sound : {cap : ℕ} (i y : ℕ) (M : State) → Sound cap M → Sound cap (offerProgress i y M .state)
 unfolding offerProgress
