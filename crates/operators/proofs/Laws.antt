@@ -10,7 +10,7 @@ use lib.ListN.{getD, List·getD-eq-default}
 use lib.IntN.{ℤ, pos}
 use Rattle.meaning.specs.Plan.{Unary, time, neg, set, plus, Calc, add, sub, mul, div, rem, lt, le, eq, Binary, calc, keep, merge, Eqn, input, nil, unit, one, two, last, delay, signal, isInput}
 use Rattle.meaning.specs.Arguments.{arguments, argA, argB}
-use Rattle.operators.specs.Operators.{Operator, noOperator, operators, operatorCount, calcs, calcPlace, unaryNumber, binaryNumber, groupOf, eqnOf, numberOf, valueOf, isPresent, isIn, isLast, isDelay, takesFirst, takesSecond, isOperator, usesA, usesB, usesK, argumentsOf, eqnGroup}
+use Rattle.operators.specs.Operators.{Operator, noOperator, operators, operatorCount, calcs, calcPlace, unaryNumber, binaryNumber, groupOf, eqnOf, numberOf, valueOf, isPresent, isIn, isLast, isDelay, isSignal, takesFirst, takesSecond, isOperator, usesA, usesB, usesK, argumentsOf, eqnGroup}
 use Rattle.operators.specs.declared.Group.{Group}
 use Rattle.operators.specs.declared.Group.the-variants.{Absent, One, Two, Signal}
 use Rattle.operators.proofs.Tests.{left, right}
@@ -155,6 +155,16 @@ number-range (last a b) = (lit≤ tt, lit≤ tt)
 number-range (delay a b) = (lit≤ tt, lit≤ tt)
 number-range (signal g a b) = let r = calc-place g in (omega arith, omega arith)
 
+-- the rows of the calculations, and of their signal forms, by the calculation's place
+module _ (a b : ℕ) (k : ℤ) (p : ℕ) (h : p ≤ 7) where
+  pub calc-row : eqnOf (8 + p) a b k ≡ two (calc (getD calcs p add)) a b
+  unfolding eqnOf
+  calc-row = agree (λ p. eqnOf (8 + p) a b k) (λ p. two (calc (getD calcs p add)) a b) 0 8 refl p (omega arith) (omega arith)
+
+  pub signal-row : eqnOf (20 + p) a b k ≡ signal (getD calcs p add) a b
+  unfolding eqnOf
+  signal-row = agree (λ p. eqnOf (20 + p) a b k) (λ p. signal (getD calcs p add) a b) 0 8 refl p (omega arith) (omega arith)
+
 -- every equation is its number with its fields: the row of its number makes it again
 pub eqn-back : (e : Eqn) → eqnOf (numberOf e) (argA e) (argB e) (valueOf e) ≡ e
 unfolding eqnOf numberOf valueOf
@@ -165,12 +175,12 @@ eqn-back (one time a) = refl
 eqn-back (one (set k) a) = refl
 eqn-back (one (plus k) a) = refl
 eqn-back (one neg a) = refl
-eqn-back (two (calc g) a b) = every-calc (λ p. eqnOf (8 + p) a b (pos 0)) (λ p. two (calc (getD calcs p add)) a b) refl g ∙ ap (λ c. two (calc c) a b) (calc-placed g)
+eqn-back (two (calc g) a b) = calc-row a b (pos 0) (calcPlace g) (calc-place g) ∙ ap (λ c. two (calc c) a b) (calc-placed g)
 eqn-back (two keep a b) = refl
 eqn-back (two merge a b) = refl
 eqn-back (last a b) = refl
 eqn-back (delay a b) = refl
-eqn-back (signal g a b) = every-calc (λ p. eqnOf (20 + p) a b (pos 0)) (λ p. signal (getD calcs p add) a b) refl g ∙ ap (λ c. signal c a b) (calc-placed g)
+eqn-back (signal g a b) = signal-row a b (pos 0) (calcPlace g) (calc-place g) ∙ ap (λ c. signal c a b) (calc-placed g)
 
 -- ---- from a row to its equation
 
@@ -206,14 +216,6 @@ by-number f m t d e n = go (leb n operatorCount) refl
 pub in-number : (n : ℕ) → isIn (groupOf n) ≡ eqb n 1
 unfolding groupOf
 in-number = by-number isIn 1 (lit≤ tt) refl refl
-
-pub last-number : (n : ℕ) → isLast (groupOf n) ≡ eqb n 18
-unfolding groupOf
-last-number = by-number isLast 18 (lit≤ tt) refl refl
-
-pub delay-number : (n : ℕ) → isDelay (groupOf n) ≡ eqb n 19
-unfolding groupOf
-delay-number = by-number isDelay 19 (lit≤ tt) refl refl
 
 -- the group of operators with one argument
 abbrev pub hasOne : Group → Bool
@@ -254,3 +256,16 @@ module _ (a b : ℕ) (k : ℤ) where
   pub input-by-number : (n : ℕ) → isInput (eqnOf n a b k) ≡ isIn (groupOf n)
   unfolding eqnOf groupOf
   input-by-number = by-row (λ o. isInput (o .eqn a b k)) (λ o. isIn (o .group)) refl refl
+
+  -- which of the groups that keep something
+  pub last-by-number : (n : ℕ) → isLast (eqnGroup (eqnOf n a b k)) ≡ isLast (groupOf n)
+  unfolding eqnOf groupOf
+  last-by-number = by-row (λ o. isLast (eqnGroup (o .eqn a b k))) (λ o. isLast (o .group)) refl refl
+
+  pub delay-by-number : (n : ℕ) → isDelay (eqnGroup (eqnOf n a b k)) ≡ isDelay (groupOf n)
+  unfolding eqnOf groupOf
+  delay-by-number = by-row (λ o. isDelay (eqnGroup (o .eqn a b k))) (λ o. isDelay (o .group)) refl refl
+
+  pub signal-by-number : (n : ℕ) → isSignal (eqnGroup (eqnOf n a b k)) ≡ isSignal (groupOf n)
+  unfolding eqnOf groupOf
+  signal-by-number = by-row (λ o. isSignal (eqnGroup (o .eqn a b k))) (λ o. isSignal (o .group)) refl refl
