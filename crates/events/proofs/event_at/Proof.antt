@@ -1,3 +1,4 @@
+-- `events::event_at` meets its contract.
 use mathlib.Core.Path.{ap, ap₂, _∙_}
 use denote.Ref.{now}
 use Rattle.meaning.specs.Table.{one-at, two-at}
@@ -5,8 +6,18 @@ use Rattle.machine.specs.Reach as machine
 use Rattle.apply.specs.Named.{unary, binary}
 use Rattle.events.proofs.Laws as law
 use borrow.Author.Needs.{needs}
+use native.Mathlib.Omega.{arith}
 use Rattle.events.proofs.event_at.Statement.{statement}
 use Rattle.events.proofs.event_at.Tie as tie
+use Rattle.events.proofs.event_at.Reads as reads
+use Rattle.events.proofs.event_at.Lts as lts
+use Rattle.apply.proofs.one_at.Reads as one-at-reads
+use Rattle.apply.proofs.two_at.Reads as two-at-reads
+use Rattle.events.proofs.delay_at.Reads as delay-at-reads
+use Rattle.events.proofs.last_at.Reads as last-at-reads
+use Rattle.events.proofs.signal_at.Reads as signal-at-reads
+use Rattle.events.proofs.unit_at.Reads as unit-at-reads
+use Rattle.queue.proofs.find.Reads as find-reads
 
 enum-told : tie.Need-enum-told
 enum-told c = search needs
@@ -53,6 +64,12 @@ enum-told-5 c = search needs
 delay-at-requires : tie.Need-delay-at-requires
 delay-at-requires c κs = search needs
 
+enum-known-op-3 : tie.Need-enum-known-op-3
+enum-known-op-3 c = search needs
+
+signal-at-requires : tie.Need-signal-at-requires
+signal-at-requires c κs = search needs
+
 returns : tie.Need-returns
 returns c = let x = c .before .before .before .before .before .args in let A = now (x .a) in let B = now (x .b) in let t = x .t in law.gives-arm (x .l) A B t (c .enum-told .given .1)
 
@@ -75,6 +92,9 @@ returns-7 : tie.Need-returns-7
 unfolding machine.point
 returns-7 c = let x = c .before .before .before .before .before .before .before .args in let A = now (x .a) in let B = now (x .b) in let t = x .t in c .delay-at .ensures ∙ law.gives-arm (x .l) A B t (c .before .before .enum-told5 .given .1)
 
+returns-8 : tie.Need-returns-8
+returns-8 c = let x = c .before .before .before .before .before .before .before .before .args in let A = now (x .a) in let B = now (x .b) in let t = x .t in c .signal-at .ensures ∙ law.gives-arm (x .l) A B t (c .before .before .before .op3 .given .1)
+
 pub event-at-spec : {M : Type 1} → statement M
 event-at-spec =
     tie.close
@@ -94,10 +114,13 @@ event-at-spec =
     last-at-requires
     enum-told-5
     delay-at-requires
+    enum-known-op-3
+    signal-at-requires
     returns
     returns-2
     returns-3
     returns-4
     returns-5
     returns-6
-    returns-7)
+    returns-7
+    returns-8)
