@@ -8,7 +8,7 @@ use native.Mathlib.Omega.{arith}
 use lib.Dec.{T, eqb}
 use lib.ListN.{length, set}
 use lib.Seq.{getD-set-other}
-use Rattle.meaning.specs.Plan.{Eqn, input, nil, unit, one, two, last, delay, isInput}
+use Rattle.meaning.specs.Plan.{Eqn, input, nil, unit, one, two, last, delay, signal, isInput}
 use Rattle.meaning.specs.Events.{Event, Streams, events, horizon}
 use Rattle.meaning.proofs.Tests.{Is, yes!, no!, look}
 use Rattle.machine.specs.State.{Cell, State, absent, cellAt, withBound, withNext, withHeld}
@@ -28,6 +28,7 @@ input-is (one f a) h = absurd h
 input-is (two g a b) h = absurd h
 input-is (last a b) h = absurd h
 input-is (delay a b) h = absurd h
+input-is (signal c a b) h = absurd h
 
 -- an input reads nothing
 reads-none : (i : ℕ) (e : Eqn) → T (isInput e) → T (readsIt i e) → ⊥
