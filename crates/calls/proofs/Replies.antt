@@ -11,7 +11,7 @@ use lib.ListN.{length, getD, set, length-set}
 use borrow.Author.Tests.{ltb-true, ltb-false, leb-false, not-false}
 use mir.Syntax.{w64}
 use mir.Val.{ofZ, toZ}
-use Rattle.meaning.specs.Plan.{Eqn, input, nil, unit, one, two, last, delay, isInput}
+use Rattle.meaning.specs.Plan.{Eqn, input, nil, unit, one, two, last, delay, signal, isInput}
 use Rattle.meaning.specs.Events.{Event, ev, horizon}
 use Rattle.machine.specs.State.{Cell, State, cellAt, room, withBound, withNext}
 use Rattle.machine.specs.Step.{canMove, release, raise}
@@ -103,6 +103,7 @@ is-input unit h = let z : _≡_ {A = ℕ} 0 1 = ap (λ (x : Bool). cond x 1 0) (
 is-input (one f a) h = let z : _≡_ {A = ℕ} 0 1 = ap (λ (x : Bool). cond x 1 0) (sym h) in absurd (omega arith)
 is-input (two g a b) h = let z : _≡_ {A = ℕ} 0 1 = ap (λ (x : Bool). cond x 1 0) (sym h) in absurd (omega arith)
 is-input (last a b) h = let z : _≡_ {A = ℕ} 0 1 = ap (λ (x : Bool). cond x 1 0) (sym h) in absurd (omega arith)
+is-input (signal c a b) h = let z : _≡_ {A = ℕ} 0 1 = ap (λ (x : Bool). cond x 1 0) (sym h) in absurd (omega arith)
 is-input (delay a b) h = let z : _≡_ {A = ℕ} 0 1 = ap (λ (x : Bool). cond x 1 0) (sym h) in absurd (omega arith)
 
 -- an input is a stream of the state

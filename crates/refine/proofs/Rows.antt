@@ -7,13 +7,13 @@ use lib.Dec.{leb, ltb, eqb}
 use lib.IntN.{ℤ}
 use mir.Syntax.{w64}
 use mir.Val.{ofZ}
-use Rattle.meaning.specs.Plan.{Eqn, input, nil, unit, one, two, last, delay}
+use Rattle.meaning.specs.Plan.{Eqn, input, nil, unit, one, two, last, delay, signal}
 use Rattle.meaning.specs.Arguments.{Argument}
 use Rattle.meaning.specs.Events.{Event}
 use Rattle.machine.specs.State.{Kept, Cell}
 use Rattle.machine.specs.Step.{anyOf, readsIt, valueTold, priorTold, sinceTold, keptTold, told}
 use Rattle.operators.specs.Operators.{groupOf, numberOf}
-use Rattle.operators.proofs.Laws.{one-group, two-group, arguments-of}
+use Rattle.operators.proofs.Laws.{one-group, two-group, signal-group, arguments-of}
 use Rattle.layout.specs.Record.{Raw}
 use Rattle.encoding.specs.View.{keptNums, flag, rawOf, ofCell}
 use Rattle.readers.specs.Step.{readsRow, toldLast, toldAt, toldValue, toldPrior, toldSince, toldDelay, toldRow, lowered, waitingRow}
@@ -103,6 +103,11 @@ told-raw s t v (two g a b) o y h m k = rw (two-group g) (cond-same (ltb t y) (ra
 told-raw s t v (last a b) o y h m k = last-told s t v a b o y h m k (ltb t y) (eqb a s) refl refl
 told-raw s t v (delay a b) o y h m k =
     delay-told s t a b o y h m v k (ltb t y) refl
+told-raw s t v (signal c a b) o y h m k = rw (signal-group c) (signal-same (ltb t y))
+  where
+    signal-same : (l : Bool) → cond l (rawOf (signal c a b) o y h m (keptNums (signal c a b) k)) (rawOf (signal c a b) o y h m (keptNums (signal c a b) k)) ≡ rawOf (signal c a b) o y h m (keptNums (signal c a b) (cond l k k))
+    signal-same true = refl
+    signal-same false = refl
 
 pub told-of : (s t : ℕ) (v : ℤ) (c : Cell) → toldRow s t (ofZ w64 v) (ofCell c) ≡ ofCell (told s t v c)
 unfolding ofCell told
