@@ -59,10 +59,11 @@ extern "C" {
 /*
  * The version of the calls and of the state's layout. The first part changes when a program that works today would not; the
  * second grows with everything new. A state saved under a version is read by every later one.
+ *   1.2   the operators sadd, ssub, smul, sdiv, srem, slt, sle, seq in a plan; an earlier engine refuses such a text 4
  */
 #define TESSLA_VERSION_MAJOR 1
-#define TESSLA_VERSION_MINOR 1
-#define TESSLA_VERSION "1.1"
+#define TESSLA_VERSION_MINOR 2
+#define TESSLA_VERSION "1.2"
 
 /* The length of the state in bytes. Any other length is refused 15. */
 #define TESSLA_STATE_LENGTH 12288
