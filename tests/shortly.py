@@ -1,7 +1,8 @@
 """Plans written in one line, as `in; unit; set 1 k0; last 5 0; merge 4 2 out`, and random plans and readings, for the tests."""
 OPERATORS = {
     "in": 0, "nil": 0, "unit": 0, "time": 1, "set": 1, "plus": 1, "neg": 1, "add": 2, "sub": 2, "mul": 2, "div": 2, "rem": 2,
-    "lt": 2, "le": 2, "eq": 2, "keep": 2, "merge": 2, "last": 2, "delay": 2,
+    "lt": 2, "le": 2, "eq": 2, "keep": 2, "merge": 2, "last": 2, "delay": 2, "sadd": 2, "ssub": 2, "smul": 2, "sdiv": 2,
+    "srem": 2, "slt": 2, "sle": 2, "seq": 2,
 }
 
 
