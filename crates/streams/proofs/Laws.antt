@@ -112,10 +112,6 @@ module _ (r : Raw) where
       bare (delay a b) h = absurd (false≢true (sym h))
       bare (signal c a b) h = absurd (false≢true (sym h))
 
-  pub look-out : lookOf r .out ≡ not (eqb (num outF r) 0)
-  unfolding lookOf toCell
-  look-out = refl
-
   -- a record with bound and set point within their ranges is looked at as its cell
   pub look-valid : num boundF r ≤ horizon → toCell r .kept .since ≤ num boundF r → lookOf r ≡ toCell r
   unfolding lookOf toCell

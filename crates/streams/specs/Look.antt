@@ -66,7 +66,6 @@ pub record Bounded (s : Stream) : Type 0 where
 -- the struct is the record's stream
 pub record Is (s : Stream) (r : Raw) : Type 0 where
   pub eqn : equation (s .op) ≡ lookOf r .eqn
-  pub out : s .out ≡ lookOf r .out
   pub bound : s .bound ≡ lookOf r .bound
   pub kept : keptIn (s .kept) ≡ lookOf r .kept
 

@@ -42,10 +42,9 @@ pub struct Kept {
     pub prior: Found,
 }
 
-// A stream, rebuilt from its record: its operator with just the arguments that it uses, and what the engine knows of it.
+// A stream, rebuilt from its record: its operator with just the arguments that it uses, and what a move looks at besides.
 pub struct Stream {
     pub op: Op,
-    pub out: bool,
     pub bound: u64,
     pub kept: Kept,
 }
@@ -283,11 +282,9 @@ pub fn complete(r: &[u8], op: Op, bound: u64) -> Stream
     requires { ⌜ (length (now r) ≡ 256) × (equation op ≡ lookOf (decRaw (now r)) .eqn) × (bound ≡ lookOf (decRaw (now r)) .bound) ⌝ }
     ensures { λ s. ⌜ Is s (decRaw (now (r .entry))) ⌝ }
 {
-    let out = layout::byte_at(r, layout::OUT) != 0;
     let kept = kept_at(r, op, bound);
     Stream {
         op: op,
-        out: out,
         bound: bound,
         kept: kept,
     }
