@@ -4,24 +4,22 @@
 -- nothing (`signal-row`). So the rows of the two plans agree, stream by stream. For the cycle rule ways are counted: one of d
 -- steps in the plan has at most three times as many in the spelled-out one, where a step to a or to b goes by a merge.
 use mathlib.Core.Path.{_≡_, refl, sym, _∙_, ap}
-use mathlib.Core.Bool.{cond}
-use mathlib.Core.Logic.{_↔_}
 use mathlib.Core.Option.{Option, none, some}
-use mathlib.Core.List.{List, [], _∷_, _++_}
+use mathlib.Core.List.{List, [], _∷_}
 use Prim.Native.Nat.{ℕ, zero, suc, _+_, _-_, _≤_, _<_}
 use native.Mathlib.Nat.{lt-suc-self}
 use native.Mathlib.Omega.{arith}
 use native.Mathlib.Decide.{decLt}
 use lib.Dec.{T, ltb, eqb, eqb→eq, eqb-refl, lt→ltb, ltb→lt, not-T, T-not}
-use lib.ListN.{length, getD, set, length-set, List·getD-append, length-append, List·getD-eq-default}
+use lib.ListN.{length, getD, set, length-set, List·getD-append, List·getD-eq-default}
 use lib.Seq.{getD-set-same, getD-set-other, getD-append-add}
 use lib.IntN.{ℤ}
-use Rattle.meaning.specs.Plan.{Calc, calc, merge, Eqn, input, nil, unit, one, two, last, delay, signal, Plan, eqnAt}
+use Rattle.meaning.specs.Plan.{Calc, calc, Eqn, input, nil, unit, one, two, last, delay, signal, Plan, eqnAt}
 use Rattle.meaning.specs.Arguments.{reads, undelayed, Each, AllBelow}
-use Rattle.meaning.specs.Events.{Stream, Streams, has, orElse}
+use Rattle.meaning.specs.Events.{Stream, Streams, orElse}
 use Rattle.meaning.specs.Table.{two-at, latest, last-at, signal-at, delay-at, at, Solves}
 use Rattle.meaning.specs.Cycle.{Leads, Acyclic}
-use Rattle.meaning.specs.Spelled.{four, spelled, lasts, merged, extra, appended, firstOnly, MeansSpelled}
+use Rattle.meaning.specs.Spelled.{four, spelled, merged, extra, appended, firstOnly, MeansSpelled}
 use Rattle.meaning.proofs.Tests.{Is, yes!, no!, look, true-is, false-is}
 use Rattle.meaning.proofs.Each.{each-map, each-of, each-at, each-all}
 use Rattle.meaning.proofs.Causal.{SameBelow, latest-cong, fires-cong, at-cong}

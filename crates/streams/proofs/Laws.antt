@@ -1,10 +1,9 @@
 -- The operators by their stored numbers, and the fields of a record as a move looks at it.
 use Prim.Native.Nat.{ℕ, zero, suc, _≤_, _<_, min}
 use mathlib.Core.Path.{_≡_, refl, sym, ap, subst, _∙_}
-use mathlib.Core.Bool.{Bool, true, false, not, cond, false≢true}
+use mathlib.Core.Bool.{Bool, true, false, cond, false≢true}
 use mathlib.Core.Option.{none, some}
 use native.Mathlib.Omega.{arith}
-use lib.Dec.{eqb}
 use lib.IntN.{ℤ}
 use mir.Syntax.{w64}
 use mir.Val.{toZ}
@@ -15,7 +14,7 @@ use Rattle.machine.specs.State.{Kept, Cell, noKept, withSince}
 use Rattle.operators.specs.Operators.{isLast, isDelay, isSignal, Operator, operatorCount, eqnOf, eqnGroup}
 use Rattle.operators.specs.declared.Group.{Group}
 use Rattle.operators.proofs.Laws.{none-above, last-by-number, delay-by-number, signal-by-number}
-use Rattle.layout.specs.Record.{Raw, num, opF, aF, bF, outF, kF, flagF, priorFlagF, boundF, keptF, valueF, priorF}
+use Rattle.layout.specs.Record.{Raw, num, opF, aF, bF, kF, boundF, keptF}
 use Rattle.encoding.specs.View.{ofCell}
 use Rattle.encoding.specs.Back.{toCell, lastOf, delayOf, signalOf, keptOf, optional}
 use Rattle.streams.specs.declared.Stream.{Stream}

@@ -9,10 +9,6 @@ use Rattle.cycle.specs.Graph.{entryBy, entryOf}
 use borrow.Author.Needs.{needs}
 use Rattle.cycle.proofs.note.Statement.{statement}
 use Rattle.cycle.proofs.note.Tie as tie
-use Rattle.cycle.proofs.note.Reads as reads
-use Rattle.cycle.proofs.note.Lts as lts
-use Rattle.cycle.proofs.store.Reads as store-reads
-use Rattle.operators.proofs.group_of.Reads as group-of-reads
 
 mul-at : tie.Need-mul-at
 mul-at c = search needs

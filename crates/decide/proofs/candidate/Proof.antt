@@ -6,12 +6,8 @@ use Rattle.streams.specs.Look.{equation, ownOf, argOf}
 use Rattle.decide.specs.Search.{candidateOf}
 use Rattle.decide.proofs.Steps as step
 use borrow.Author.Needs.{needs}
-use native.Mathlib.Omega.{arith}
 use Rattle.decide.proofs.candidate.Statement.{statement}
 use Rattle.decide.proofs.candidate.Tie as tie
-use Rattle.decide.proofs.candidate.Reads as reads
-use Rattle.decide.proofs.candidate.Lts as lts
-use Rattle.decide.proofs.due_at.Reads as due-at-reads
 
 enum-told : tie.Need-enum-told
 enum-told c = search needs

@@ -1,5 +1,4 @@
 -- `decide::first` meets its contract.
-use Prim.Native.Nat.{ℕ}
 use mathlib.Core.Path.{_≡_, ap, ap₂, _∙_}
 use mathlib.Core.Bool.{true}
 use mathlib.Core.List.{[], _∷_, map}
@@ -12,15 +11,8 @@ use Rattle.decide.specs.Search.{pick, stamps, candidateOf, dueAt}
 use Rattle.decide.specs.Near.{nearerIn}
 use Rattle.decide.proofs.Searches as law
 use borrow.Author.Needs.{needs}
-use native.Mathlib.Omega.{arith}
 use Rattle.decide.proofs.first.Statement.{statement}
 use Rattle.decide.proofs.first.Tie as tie
-use Rattle.decide.proofs.first.Reads as reads
-use Rattle.decide.proofs.first.Lts as lts
-use Rattle.decide.proofs.closer.Reads as closer-reads
-use Rattle.decide.proofs.due_at.Reads as due-at-reads
-use Rattle.decide.proofs.scan.Reads as scan-reads
-use Rattle.decide.proofs.scan_both.Reads as scan-both-reads
 
 enum-told : tie.Need-enum-told
 enum-told c = search needs

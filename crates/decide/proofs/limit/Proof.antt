@@ -10,9 +10,6 @@ use borrow.Author.Needs.{needs}
 use native.Mathlib.Omega.{arith}
 use Rattle.decide.proofs.limit.Statement.{statement}
 use Rattle.decide.proofs.limit.Tie as tie
-use Rattle.decide.proofs.limit.Reads as reads
-use Rattle.decide.proofs.limit.Lts as lts
-use Rattle.streams.proofs.smaller.Reads as smaller-reads
 
 enum-told : tie.Need-enum-told
 enum-told c = search needs

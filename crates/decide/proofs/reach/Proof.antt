@@ -16,12 +16,6 @@ use borrow.Author.Needs.{needs}
 use native.Mathlib.Omega.{arith}
 use Rattle.decide.proofs.reach.Statement.{statement}
 use Rattle.decide.proofs.reach.Tie as tie
-use Rattle.decide.proofs.reach.Reads as reads
-use Rattle.decide.proofs.reach.Lts as lts
-use Rattle.decide.proofs.closer.Reads as closer-reads
-use Rattle.decide.proofs.limit.Reads as limit-reads
-use Rattle.decide.proofs.scan.Reads as scan-reads
-use Rattle.streams.proofs.larger.Reads as larger-reads
 
 limit-requires : tie.Need-limit-requires
 limit-requires c κs = search needs

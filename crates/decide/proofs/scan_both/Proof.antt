@@ -7,12 +7,8 @@ use Rattle.layout.specs.Record.{decRaw}
 use Rattle.encoding.specs.Back.{heldOf}
 use Rattle.decide.specs.Near.{searchIn}
 use borrow.Author.Needs.{needs}
-use native.Mathlib.Omega.{arith}
 use Rattle.decide.proofs.scan_both.Statement.{statement}
 use Rattle.decide.proofs.scan_both.Tie as tie
-use Rattle.decide.proofs.scan_both.Reads as reads
-use Rattle.decide.proofs.scan_both.Lts as lts
-use Rattle.decide.proofs.scan.Reads as scan-reads
 
 scan-requires : tie.Need-scan-requires
 scan-requires c κs = search needs

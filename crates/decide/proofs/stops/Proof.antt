@@ -12,11 +12,6 @@ use borrow.Author.Needs.{needs}
 use native.Mathlib.Omega.{arith}
 use Rattle.decide.proofs.stops.Statement.{statement}
 use Rattle.decide.proofs.stops.Tie as tie
-use Rattle.decide.proofs.stops.Reads as reads
-use Rattle.decide.proofs.stops.Lts as lts
-use Rattle.events.proofs.is_some.Reads as is-some-reads
-use Rattle.events.proofs.point.Reads as point-reads
-use Rattle.queue.proofs.find.Reads as find-reads
 
 enum-told : tie.Need-enum-told
 enum-told c = search needs

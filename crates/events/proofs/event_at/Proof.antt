@@ -6,18 +6,8 @@ use Rattle.machine.specs.Reach as machine
 use Rattle.apply.specs.Named.{unary, binary}
 use Rattle.events.proofs.Laws as law
 use borrow.Author.Needs.{needs}
-use native.Mathlib.Omega.{arith}
 use Rattle.events.proofs.event_at.Statement.{statement}
 use Rattle.events.proofs.event_at.Tie as tie
-use Rattle.events.proofs.event_at.Reads as reads
-use Rattle.events.proofs.event_at.Lts as lts
-use Rattle.apply.proofs.one_at.Reads as one-at-reads
-use Rattle.apply.proofs.two_at.Reads as two-at-reads
-use Rattle.events.proofs.delay_at.Reads as delay-at-reads
-use Rattle.events.proofs.last_at.Reads as last-at-reads
-use Rattle.events.proofs.signal_at.Reads as signal-at-reads
-use Rattle.events.proofs.unit_at.Reads as unit-at-reads
-use Rattle.queue.proofs.find.Reads as find-reads
 
 enum-told : tie.Need-enum-told
 enum-told c = search needs

@@ -5,13 +5,8 @@ use lib.IntN.{ℤ}
 use Rattle.meaning.specs.Events.{orElse}
 use Rattle.queue.specs.Found.{asOption}
 use borrow.Author.Needs.{needs}
-use native.Mathlib.Omega.{arith}
 use Rattle.events.proofs.held_latest.Statement.{statement}
 use Rattle.events.proofs.held_latest.Tie as tie
-use Rattle.events.proofs.held_latest.Reads as reads
-use Rattle.events.proofs.held_latest.Lts as lts
-use Rattle.apply.proofs.or_else.Reads as or-else-reads
-use Rattle.queue.proofs.latest_before.Reads as latest-before-reads
 
 latest-before-requires : tie.Need-latest-before-requires
 latest-before-requires c κs = search needs

@@ -8,13 +8,8 @@ use Rattle.machine.specs.Reach.{heldLatest}
 use Rattle.queue.specs.Found.{asOption}
 use Rattle.events.specs.Near.{holding}
 use borrow.Author.Needs.{needs}
-use native.Mathlib.Omega.{arith}
 use Rattle.events.proofs.last_at.Statement.{statement}
 use Rattle.events.proofs.last_at.Tie as tie
-use Rattle.events.proofs.last_at.Reads as reads
-use Rattle.events.proofs.last_at.Lts as lts
-use Rattle.events.proofs.held_latest.Reads as held-latest-reads
-use Rattle.queue.proofs.find.Reads as find-reads
 
 find-requires : tie.Need-find-requires
 find-requires c κs = search needs

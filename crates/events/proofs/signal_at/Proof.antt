@@ -18,15 +18,8 @@ use Rattle.apply.specs.Named.{calculation}
 use Rattle.events.specs.Near.{holding}
 use Rattle.events.proofs.Laws as law
 use borrow.Author.Needs.{needs}
-use native.Mathlib.Omega.{arith}
 use Rattle.events.proofs.signal_at.Statement.{statement}
 use Rattle.events.proofs.signal_at.Tie as tie
-use Rattle.events.proofs.signal_at.Reads as reads
-use Rattle.events.proofs.signal_at.Lts as lts
-use Rattle.apply.proofs.calc_at.Reads as calc-at-reads
-use Rattle.events.proofs.either.Reads as either-reads
-use Rattle.events.proofs.held_latest.Reads as held-latest-reads
-use Rattle.queue.proofs.find.Reads as find-reads
 
 find-requires : tie.Need-find-requires
 find-requires c κs = search needs

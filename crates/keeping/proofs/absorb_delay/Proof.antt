@@ -7,15 +7,8 @@ use Rattle.events.specs.Near.{holding}
 use Rattle.keeping.specs.Keep.{movedOf}
 use Rattle.keeping.proofs.Laws as law
 use borrow.Author.Needs.{needs}
-use native.Mathlib.Omega.{arith}
 use Rattle.keeping.proofs.absorb_delay.Statement.{statement}
 use Rattle.keeping.proofs.absorb_delay.Tie as tie
-use Rattle.keeping.proofs.absorb_delay.Reads as reads
-use Rattle.keeping.proofs.absorb_delay.Lts as lts
-use Rattle.events.proofs.before.Reads as before-reads
-use Rattle.events.proofs.set_value.Reads as set-value-reads
-use Rattle.keeping.proofs.latest_point.Reads as latest-point-reads
-use Rattle.queue.proofs.find.Reads as find-reads
 
 latest-point-requires : tie.Need-latest-point-requires
 latest-point-requires c κs = search needs

@@ -1,12 +1,8 @@
 -- `keeping::absorb_signal` meets its contract.
 use Rattle.queue.specs.Found.{asOption}
 use borrow.Author.Needs.{needs}
-use native.Mathlib.Omega.{arith}
 use Rattle.keeping.proofs.absorb_signal.Statement.{statement}
 use Rattle.keeping.proofs.absorb_signal.Tie as tie
-use Rattle.keeping.proofs.absorb_signal.Reads as reads
-use Rattle.keeping.proofs.absorb_signal.Lts as lts
-use Rattle.events.proofs.held_latest.Reads as held-latest-reads
 
 held-latest-requires : tie.Need-held-latest-requires
 held-latest-requires c κs = search needs

@@ -10,14 +10,8 @@ use Rattle.streams.specs.Look.{lookOf, equation}
 use Rattle.keeping.specs.Keep.{movedOf}
 use Rattle.keeping.proofs.Laws as law
 use borrow.Author.Needs.{needs}
-use native.Mathlib.Omega.{arith}
 use Rattle.keeping.proofs.absorbed.Statement.{statement}
 use Rattle.keeping.proofs.absorbed.Tie as tie
-use Rattle.keeping.proofs.absorbed.Reads as reads
-use Rattle.keeping.proofs.absorbed.Lts as lts
-use Rattle.keeping.proofs.absorb_delay.Reads as absorb-delay-reads
-use Rattle.keeping.proofs.absorb_last.Reads as absorb-last-reads
-use Rattle.keeping.proofs.absorb_signal.Reads as absorb-signal-reads
 
 enum-told : tie.Need-enum-told
 enum-told c = search needs

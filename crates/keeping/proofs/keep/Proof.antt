@@ -12,13 +12,6 @@ use borrow.Author.Needs.{needs}
 use native.Mathlib.Omega.{arith}
 use Rattle.keeping.proofs.keep.Statement.{statement}
 use Rattle.keeping.proofs.keep.Tie as tie
-use Rattle.keeping.proofs.keep.Reads as reads
-use Rattle.keeping.proofs.keep.Lts as lts
-use Rattle.keeping.proofs.bits_of.Reads as bits-of-reads
-use Rattle.keeping.proofs.flag_of.Reads as flag-of-reads
-use Rattle.keeping.proofs.keep_delay.Reads as keep-delay-reads
-use Rattle.keeping.proofs.keep_signal.Reads as keep-signal-reads
-use Rattle.keeping.proofs.keep_value.Reads as keep-value-reads
 
 enum-told : tie.Need-enum-told
 enum-told c = search needs

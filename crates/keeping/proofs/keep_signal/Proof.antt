@@ -9,11 +9,6 @@ use borrow.Author.Needs.{needs}
 use native.Mathlib.Omega.{arith}
 use Rattle.keeping.proofs.keep_signal.Statement.{statement}
 use Rattle.keeping.proofs.keep_signal.Tie as tie
-use Rattle.keeping.proofs.keep_signal.Reads as reads
-use Rattle.keeping.proofs.keep_signal.Lts as lts
-use Rattle.keeping.proofs.bits_of.Reads as bits-of-reads
-use Rattle.keeping.proofs.flag_of.Reads as flag-of-reads
-use Rattle.keeping.proofs.keep_value.Reads as keep-value-reads
 
 flag-of-requires : tie.Need-flag-of-requires
 flag-of-requires c κs = search needs

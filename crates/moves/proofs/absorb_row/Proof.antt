@@ -11,9 +11,6 @@ use borrow.Author.Needs.{needs}
 use native.Mathlib.Omega.{arith}
 use Rattle.moves.proofs.absorb_row.Statement.{statement}
 use Rattle.moves.proofs.absorb_row.Tie as tie
-use Rattle.moves.proofs.absorb_row.Reads as reads
-use Rattle.moves.proofs.absorb_row.Lts as lts
-use Rattle.moves.proofs.keep_row.Reads as keep-row-reads
 
 enum-told : tie.Need-enum-told
 enum-told c = search needs

@@ -4,12 +4,8 @@ use denote.Ref.{now}
 use Rattle.layout.specs.Record.{decode}
 use Rattle.moves.proofs.Decides
 use borrow.Author.Needs.{needs}
-use native.Mathlib.Omega.{arith}
 use Rattle.moves.proofs.not_ahead.Statement.{statement}
 use Rattle.moves.proofs.not_ahead.Tie as tie
-use Rattle.moves.proofs.not_ahead.Reads as reads
-use Rattle.moves.proofs.not_ahead.Lts as lts
-use Rattle.moves.proofs.bound_of.Reads as bound-of-reads
 
 bound-of-requires : tie.Need-bound-of-requires
 bound-of-requires c κs = search needs

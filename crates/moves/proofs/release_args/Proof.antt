@@ -11,10 +11,6 @@ use borrow.Author.Needs.{needs}
 use native.Mathlib.Omega.{arith}
 use Rattle.moves.proofs.release_args.Statement.{statement}
 use Rattle.moves.proofs.release_args.Tie as tie
-use Rattle.moves.proofs.release_args.Reads as reads
-use Rattle.moves.proofs.release_args.Lts as lts
-use Rattle.moves.proofs.release_one.Reads as release-one-reads
-use Rattle.moves.proofs.release_two.Reads as release-two-reads
 
 enum-told : tie.Need-enum-told
 enum-told c = search needs

@@ -14,10 +14,6 @@ use borrow.Author.Needs.{needs}
 use native.Mathlib.Omega.{arith}
 use Rattle.moves.proofs.stuck.Statement.{statement}
 use Rattle.moves.proofs.stuck.Tie as tie
-use Rattle.moves.proofs.stuck.Reads as reads
-use Rattle.moves.proofs.stuck.Lts as lts
-use Rattle.moves.proofs.bound_of.Reads as bound-of-reads
-use Rattle.moves.proofs.not_ahead.Reads as not-ahead-reads
 
 enum-told : tie.Need-enum-told
 enum-told c = search needs

@@ -8,9 +8,6 @@ use borrow.Author.Needs.{needs}
 use native.Mathlib.Omega.{arith}
 use Rattle.streams.proofs.binary_of.Statement.{statement}
 use Rattle.streams.proofs.binary_of.Tie as tie
-use Rattle.streams.proofs.binary_of.Reads as reads
-use Rattle.streams.proofs.binary_of.Lts as lts
-use Rattle.streams.proofs.calc_of.Reads as calc-of-reads
 
 sub-calc-of : tie.Need-sub-calc-of
 sub-calc-of c = search needs

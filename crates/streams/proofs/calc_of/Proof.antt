@@ -9,8 +9,6 @@ use borrow.Author.Needs.{needs}
 use native.Mathlib.Omega.{arith}
 use Rattle.streams.proofs.calc_of.Statement.{statement}
 use Rattle.streams.proofs.calc_of.Tie as tie
-use Rattle.streams.proofs.calc_of.Reads as reads
-use Rattle.streams.proofs.calc_of.Lts as lts
 
 returns : tie.Need-returns
 returns c = search needs

@@ -9,16 +9,8 @@ use Rattle.layout.specs.Record.{decRaw}
 use Rattle.streams.specs.Look.{equation}
 use Rattle.streams.proofs.Laws as law
 use borrow.Author.Needs.{needs}
-use native.Mathlib.Omega.{arith}
 use Rattle.streams.proofs.kept_at.Statement.{statement}
 use Rattle.streams.proofs.kept_at.Tie as tie
-use Rattle.streams.proofs.kept_at.Reads as reads
-use Rattle.streams.proofs.kept_at.Lts as lts
-use Rattle.layout.proofs.word_at.Reads as word-at-reads
-use Rattle.streams.proofs.latest.Reads as latest-reads
-use Rattle.streams.proofs.nothing.Reads as nothing-reads
-use Rattle.streams.proofs.smaller.Reads as smaller-reads
-use Rattle.streams.proofs.value_at.Reads as value-at-reads
 
 enum-told : tie.Need-enum-told
 enum-told c = search needs

@@ -13,12 +13,6 @@ use borrow.Author.Needs.{needs}
 use native.Mathlib.Omega.{arith}
 use Rattle.streams.proofs.operator_at.Statement.{statement}
 use Rattle.streams.proofs.operator_at.Tie as tie
-use Rattle.streams.proofs.operator_at.Reads as reads
-use Rattle.streams.proofs.operator_at.Lts as lts
-use Rattle.layout.proofs.byte_at.Reads as byte-at-reads
-use Rattle.streams.proofs.binary_of.Reads as binary-of-reads
-use Rattle.streams.proofs.calc_of.Reads as calc-of-reads
-use Rattle.streams.proofs.unary_at.Reads as unary-at-reads
 
 byte-at-requires : tie.Need-byte-at-requires
 byte-at-requires c κs = search needs

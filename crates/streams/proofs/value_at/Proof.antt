@@ -2,14 +2,8 @@
 use mathlib.Core.Path.{ap₂, _∙_}
 use Rattle.encoding.specs.Back as cells
 use borrow.Author.Needs.{needs}
-use native.Mathlib.Omega.{arith}
 use Rattle.streams.proofs.value_at.Statement.{statement}
 use Rattle.streams.proofs.value_at.Tie as tie
-use Rattle.streams.proofs.value_at.Reads as reads
-use Rattle.streams.proofs.value_at.Lts as lts
-use Rattle.layout.proofs.byte_at.Reads as byte-at-reads
-use Rattle.layout.proofs.word_at.Reads as word-at-reads
-use Rattle.streams.proofs.optional.Reads as optional-reads
 
 byte-at-requires : tie.Need-byte-at-requires
 byte-at-requires c κs = search needs

@@ -7,17 +7,8 @@ use Rattle.operators.specs.Operators.{groupOf, isLast, isDelay, isSignal}
 use Rattle.operators.proofs.Arms.{keepless}
 use Rattle.valid.specs.Valid.{keptOk}
 use borrow.Author.Needs.{needs}
-use native.Mathlib.Omega.{arith}
 use Rattle.valid.proofs.kept_ok.Statement.{statement}
 use Rattle.valid.proofs.kept_ok.Tie as tie
-use Rattle.valid.proofs.kept_ok.Reads as reads
-use Rattle.valid.proofs.kept_ok.Lts as lts
-use Rattle.layout.proofs.byte_at.Reads as byte-at-reads
-use Rattle.operators.proofs.group_of.Reads as group-of-reads
-use Rattle.valid.proofs.delay_ok.Reads as delay-ok-reads
-use Rattle.valid.proofs.last_ok.Reads as last-ok-reads
-use Rattle.valid.proofs.none_ok.Reads as none-ok-reads
-use Rattle.valid.proofs.signal_ok.Reads as signal-ok-reads
 
 byte-at-requires : tie.Need-byte-at-requires
 byte-at-requires c κs = search needs

@@ -1,22 +1,13 @@
 -- `valid::latest_ok` meets its contract.
-use Prim.Native.Nat.{ℕ, _+_}
-use mathlib.Core.Path.{ap, ap₂, _∙_}
-use mathlib.Core.Bool.{_&&_}
-use lib.Dec.{eqb}
+use Prim.Native.Nat.{_+_}
+use mathlib.Core.Path.{ap₂, _∙_}
 use denote.Ref.{now}
 use Rattle.layout.specs.Record.{decRaw, num, boundF}
 use Rattle.valid.specs.Valid.{flagOk, noneIf, latestOk}
 use Rattle.valid.proofs.Tests
 use borrow.Author.Needs.{needs}
-use native.Mathlib.Omega.{arith}
 use Rattle.valid.proofs.latest_ok.Statement.{statement}
 use Rattle.valid.proofs.latest_ok.Tie as tie
-use Rattle.valid.proofs.latest_ok.Reads as reads
-use Rattle.valid.proofs.latest_ok.Lts as lts
-use Rattle.layout.proofs.byte_at.Reads as byte-at-reads
-use Rattle.layout.proofs.word_at.Reads as word-at-reads
-use Rattle.valid.proofs.flag_ok.Reads as flag-ok-reads
-use Rattle.valid.proofs.none_if.Reads as none-if-reads
 
 byte-at-requires : tie.Need-byte-at-requires
 byte-at-requires c κs = search needs
