@@ -1,6 +1,7 @@
 pub mod Tests
 pub mod Options
 pub mod Each
+pub mod Inputs
 pub mod Induction
 pub mod Clear
 pub mod Free

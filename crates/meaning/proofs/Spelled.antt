@@ -3,7 +3,7 @@
 -- At a stamp where a or b has an event, the merges have the latest values of a and of b, that stamp's included, and elsewhere
 -- nothing (`signal-row`). So the rows of the two plans agree, stream by stream. For the cycle rule ways are counted: one of d
 -- steps in the plan has at most three times as many in the spelled-out one, where a step to a or to b goes by a merge.
-use mathlib.Core.Path.{_≡_, refl, sym, _∙_, ap}
+use mathlib.Core.Path.{_≡_, refl, sym, _∙_, ap, ap₂}
 use mathlib.Core.Option.{Option, none, some}
 use mathlib.Core.List.{List, [], _∷_}
 use Prim.Native.Nat.{ℕ, zero, suc, _+_, _-_, _≤_, _<_}
@@ -19,7 +19,7 @@ use Rattle.meaning.specs.Arguments.{reads, undelayed, Each, AllBelow}
 use Rattle.meaning.specs.Events.{Stream, Streams, orElse}
 use Rattle.meaning.specs.Table.{two-at, latest, last-at, signal-at, delay-at, at, Solves}
 use Rattle.meaning.specs.Cycle.{Leads, Acyclic}
-use Rattle.meaning.specs.Spelled.{four, spelled, merged, extra, appended, firstOnly, MeansSpelled}
+use Rattle.meaning.specs.Spelled.{four, operation, spelled, merged, extra, appended, firstOnly, MeansSpelled}
 use Rattle.meaning.proofs.Tests.{Is, yes!, no!, look, true-is, false-is}
 use Rattle.meaning.proofs.Each.{each-map, each-of, each-at, each-all}
 use Rattle.meaning.proofs.Causal.{SameBelow, latest-cong, fires-cong, at-cong}
@@ -77,26 +77,23 @@ module _ (plan : Plan) (s : ℕ) (c : Calc) (a b : ℕ) (there : s < length plan
   abbrev long : Plan
   long = spelled plan s c a b
 
-  operation : Eqn
-  operation = two (calc c) (n + 1) (n + 3)
-
   a-in : a < n
   a-in = (rw is at (inside s)) .0
 
   b-in : b < n
   b-in = (rw is at (inside s)) .1 .0
 
-  size : length (set plan s (two (calc c) (n + 1) (n + 3))) ≡ n
-  size = length-set plan s (two (calc c) (n + 1) (n + 3))
+  size : length (set plan s (operation n c)) ≡ n
+  size = length-set plan s (operation n c)
 
-  eqn-self : eqnAt long s ≡ two (calc c) (n + 1) (n + 3)
-  eqn-self = List·getD-append (set plan s (two (calc c) (n + 1) (n + 3))) (four n a b) nil s (rw size there) ∙ getD-set-same plan s (two (calc c) (n + 1) (n + 3)) nil there
+  eqn-self : eqnAt long s ≡ operation n c
+  eqn-self = List·getD-append (set plan s (operation n c)) (four n a b) nil s (rw size there) ∙ getD-set-same plan s (operation n c) nil there
 
   eqn-other : (i : ℕ) → i < n → (i ≡ s → ⊥) → eqnAt long i ≡ eqnAt plan i
-  eqn-other i l d = List·getD-append (set plan s (two (calc c) (n + 1) (n + 3))) (four n a b) nil i (rw size l) ∙ getD-set-other plan s i (two (calc c) (n + 1) (n + 3)) nil d
+  eqn-other i l d = List·getD-append (set plan s (operation n c)) (four n a b) nil i (rw size l) ∙ getD-set-other plan s i (operation n c) nil d
 
   eqn-new : (k : ℕ) → eqnAt long (n + k) ≡ getD (four n a b) k nil
-  eqn-new k = ap (λ m. eqnAt long (m + k)) (sym size) ∙ getD-append-add (set plan s (two (calc c) (n + 1) (n + 3))) (four n a b) k nil
+  eqn-new k = ap (λ m. eqnAt long (m + k)) (sym size) ∙ getD-append-add (set plan s (operation n c)) (four n a b) k nil
 
   -- every stream is one of the plan, or n + k
   by-place : (P : ℕ → Type 0) → ((i : ℕ) → i < n → P i) → ((k : ℕ) → P (n + k)) → (i : ℕ) → P i
@@ -125,9 +122,9 @@ module _ (plan : Plan) (s : ℕ) (c : Calc) (a b : ℕ) (there : s < length plan
         at-reads (eqnAt plan i) rd A S i t (each-map (λ j k p m. ap (λ f. f p) (app-old n a b S j k)) (reads (eqnAt plan i)) (inside i))
         (λ p m. ap (λ f. f p) (app-old n a b S i l))
 
-    row-self : (t : ℕ) → at (two (calc c) (n + 1) (n + 3)) rd A s t ≡ at (eqnAt plan s) rd S s t
+    row-self : (t : ℕ) → at (operation n c) rd A s t ≡ at (eqnAt plan s) rd S s t
     unfolding at
-    row-self t = rw (is, app-new n a b S 1, app-new n a b S 3) (sym (signal-row c (S a) (S b) t))
+    row-self t = ap₂ (λ f g. two-at (calc c) (f t) (g t)) (app-new n a b S 1) (app-new n a b S 3) ∙ rw is (sym (signal-row c (S a) (S b) t))
 
     row-new : (k t : ℕ) → A (n + k) t ≡ at (getD (four n a b) k nil) rd A (n + k) t
     unfolding at

@@ -7,7 +7,7 @@ use mathlib.Core.Option.{none}
 use mathlib.Core.List.{[], _∷_, _++_}
 use lib.Dec.{ltb}
 use lib.ListN.{length, set}
-use Rattle.meaning.specs.Plan.{Calc, calc, merge, two, last, Plan}
+use Rattle.meaning.specs.Plan.{Calc, calc, merge, Eqn, two, last, Plan}
 use Rattle.meaning.specs.Events.{Stream, Streams}
 use Rattle.meaning.specs.Table.{two-at, latest, last-at, Solves}
 use Rattle.meaning.specs.Cycle.{Acyclic}
@@ -17,9 +17,13 @@ use Rattle.meaning.specs.Cycle.{Acyclic}
 abbrev pub four : (n a b : ℕ) → Plan
 four n a b = last a b ∷ two merge a (n + 0) ∷ last b a ∷ two merge b (n + 2) ∷ []
 
+-- the operation, on the two merges
+abbrev pub operation : (n : ℕ) → Calc → Eqn
+operation n c = two (calc c) (n + 1) (n + 3)
+
 -- the plan with stream s, the signal form of c with the arguments a and b, spelled out
 abbrev pub spelled : Plan → ℕ → Calc → (a b : ℕ) → Plan
-spelled plan s c a b = set plan s (two (calc c) (length plan + 1) (length plan + 3)) ++ four (length plan) a b
+spelled plan s c a b = set plan s (operation (length plan) c) ++ four (length plan) a b
 
 -- the four streams by their rows, where a is f and b is g
 abbrev pub lasts : (f g : Stream) → Stream
