@@ -37,7 +37,7 @@
  *
  * The budget of a run. On a Cortex-M0+ at 48 MHz every call but load first looks at the whole state, 1.0 to 1.3 ms by the
  * manual's cycles; a move in a run then takes 0.1 to 0.2 ms. In the plans that were measured a run of n moves takes at most
- * 1.3 ms and a millisecond for each five moves, if the outputs are collected; where 31 outputs are full a move takes 1.1 ms.
+ * 1.3 ms and a millisecond for each four moves, if the outputs are collected; where 31 outputs are full a move takes 1.1 ms.
  * Leave the watchdog twice that. Few calls with much work in each cost least (docs/PERFORMANCE.md, "On the controller").
  *
  * A copy of the state. The buffer may be copied anywhere, to flash say, and put back later, at any address. Only the records
