@@ -251,6 +251,11 @@ int main(void) {
     /* resetCount: inputs e, reset; 1 where both, 0 where reset alone, one more where e alone */
     make(&p, "resetCount", "in; in; unit; last 10 0; plus 3 k1; set 0 k1; set 1 k1; keep 5 6; set 1 k0; merge 8 4; merge 11 2 out; merge 7 9");
     operations(&p);
+    /* weight and the last known temperature: as one signal form, and as the five streams that it stands for */
+    make(&p, "SIGNAL", "in; in; ssub 0 1 out");
+    operations(&p);
+    make(&p, "SPELLED", "in; in; last 0 1; merge 0 2; last 1 0; merge 1 4; sub 3 5 out");
+    operations(&p);
     static const unsigned lengths[] = { 1, 3, 7, 15, 23, 31 };
     for (unsigned i = 0; i < sizeof lengths / sizeof *lengths; i++) {
         chain(&p, lengths[i]);

@@ -108,7 +108,7 @@ static uint32_t all_operators(void) {
     uint32_t n = 0;
     rows[n++] = (struct row){ .op = IN };
     rows[n++] = (struct row){ .op = IN };
-    for (uint8_t op = NIL; op <= DELAY; op++)
+    for (uint8_t op = NIL; op <= SEQ; op++)
         rows[n++] = (struct row){ .op = op, .a = op >= TIME ? 0 : 0, .b = op >= ADD ? 1 : 0, .out = 1,
                                   .k = op == SET ? INT64_MIN : op == PLUS ? INT64_MAX : 0 };
     return n;
@@ -198,6 +198,41 @@ static void values(void) {
     }
 }
 
+/* the signal forms, on inputs that report apart and together; then what each keeps, changed in the state */
+static void signals(void) {
+    static const uint8_t KEPT[] = { 5, 6, 32, 39, 40, 47, 48, 55 };
+    uint32_t n = 0;
+    head("signals");
+    rows[n++] = (struct row){ .op = IN };
+    rows[n++] = (struct row){ .op = IN };
+    for (uint8_t op = SADD; op <= SEQ; op++) rows[n++] = (struct row){ .op = op, .b = 1, .out = 1 };
+    load_rows(n);
+    for (uint32_t i = 0; i < COUNT(VALUES); i++) {
+        reading(0, 4 * i + i % 2, VALUES[i]);
+        reading(1, 4 * i + i % 3, VALUES[(7 * i + 3) % COUNT(VALUES)]);
+        progress(0, 4 * i + 4);
+        progress(1, 4 * i + 4);
+        work_off(n);
+    }
+    memcpy(copy, state, LENGTH);
+    for (uint32_t i = 0; i < COUNT(KEPT); i++)
+        for (uint32_t change = 1; change < 4; change++) {
+            state[256 * (2 + i) + KEPT[i]] ^= (uint8_t)change;
+            run(1);
+            reading(1, 70, 6);
+            progress(0, 80);
+            run(100);
+            collect(2 + i);
+            memcpy(state, copy, LENGTH);
+        }
+    /* fresh: with bound 0 nothing is kept */
+    for (uint32_t i = 0; i < COUNT(KEPT); i++) {
+        load_rows(n);
+        state[256 * (2 + i) + KEPT[i]] = 1;
+        run(1);
+    }
+}
+
 static void full(void) {
     head("full");
     visits();
@@ -233,6 +268,10 @@ static void texts(void) {
         "plan=1\nstreams=2\nop=merge\na=1\nb=1\nk=0\nout=0\nop=merge\na=0\nb=0\nk=0\nout=0\n",
         "plan=1\nstreams=1\nop=merge\na=0\nb=0\nk=0\nout=0\n", "plan=1\nstreams=1\nop=last\na=0\nb=0\nk=0\nout=0\n",
         "plan=1\nstreams=2\nop=last\na=0\nb=1\nk=0\nout=1\nop=in\na=0\nb=0\nk=0\nout=0\n",
+        "plan=1\nstreams=1\nop=sadd\na=0\nb=0\nk=0\nout=1\n", "plan=1\nstreams=1\nop=sneg\na=0\nb=0\nk=0\nout=0\n",
+        "plan=1\nstreams=2\nop=in\na=0\nb=0\nk=0\nout=0\nop=seq\na=0\nb=0\nk=1\nout=0\n",
+        "plan=1\nstreams=2\nop=in\na=0\nb=0\nk=0\nout=0\nop=slt\na=0\nb=2\nk=0\nout=0\n",
+        "plan=1\nstreams=2\nop=in\na=0\nb=0\nk=0\nout=0\nop=srem\na=0\nb=0\nk=0\nout=1\n",
     };
     for (uint32_t i = 0; i < COUNT(refused); i++) text_of(refused[i]);
     /* longer than any text may be; what is behind the pointer is not looked at then */
@@ -282,10 +321,10 @@ static int64_t some_value(void) {
 static uint32_t some_plan(void) {
     uint32_t n = next(4) ? 1 + next(10) : 1 + next(32);
     for (uint32_t i = 0; i < n; i++) {
-        struct row r = { .op = (uint8_t)(i == 0 || next(5) == 0 ? IN : 1 + next(19)) };
+        struct row r = { .op = (uint8_t)(i == 0 || next(5) == 0 ? IN : 1 + next(SEQ)) };
         /* mostly backward, so that there is no cycle; last and delay also forward */
         uint32_t most = next(12) == 0 ? n : i ? i : 1;
-        if (r.op >= TIME) r.a = (uint8_t)(r.op >= LAST ? next(n) : next(most));
+        if (r.op >= TIME) r.a = (uint8_t)(r.op == LAST || r.op == DELAY ? next(n) : next(most));
         if (r.op >= ADD) r.b = (uint8_t)next(most);
         if (r.op == SET || r.op == PLUS) r.k = some_value();
         if (r.op != IN) r.out = next(2) == 0;
@@ -376,6 +415,7 @@ int main(void) {
     state = room;
     text = words;
     values();
+    signals();
     full();
     texts();
     random_calls(RANDOM_PLANS, RANDOM_CALLS);

@@ -150,6 +150,32 @@ static void full(const struct row *rows, uint32_t n) {
     MEASURE("collecting all", collect_all());
 }
 
+/* a reading of the first of two inputs, of which both have reported before, for what it costs beside the inputs alone */
+static void beside(const char *name, const struct row *rows, uint32_t n) {
+    plan = name;
+    tessla_load(S, text, write_plan(text, rows, n));
+    tessla_offer_reading(S, 1, 5, 3);
+    for (uint32_t t = 10; t < 50; t += 10) {
+        others_known(rows, n, t + 1);
+        to_rest(0, t, 5);
+        collect_all();
+    }
+    others_known(rows, n, 200);
+    MEASURE("a reading to rest", to_rest(0, 70, 7));
+}
+
+/* a signal form, and the five streams that it stands for */
+static void signals(void) {
+    static const struct row form[] = { { .op = IN }, { .op = IN }, { .op = SADD, .b = 1, .out = 1 } };
+    static const struct row five[] = {
+        { .op = IN }, { .op = IN }, { .op = LAST, .a = 0, .b = 1 }, { .op = MERGE, .a = 0, .b = 2 }, { .op = LAST, .a = 1, .b = 0 },
+        { .op = MERGE, .a = 1, .b = 4 }, { .op = ADD, .a = 3, .b = 5, .out = 1 },
+    };
+    beside("two inputs alone", form, 2);
+    beside("two inputs, a signal form", form, 3);
+    beside("two inputs, its five streams", five, 7);
+}
+
 /* the visits of one nest box, six streams from s on */
 static uint32_t box(struct row *r, uint32_t s) {
     uint8_t b = (uint8_t)s;
@@ -200,11 +226,12 @@ int main(void) {
     for (uint32_t i = 1; i < 32; i++) rows[i].out = 1;
     full(rows, 32);
     for (uint8_t i = 0; i < 32; i++) {
-        uint8_t op = i < 2 ? IN : i < 20 ? i : 18 + i % 2;
+        uint8_t op = i < 2 ? IN : i <= SEQ ? i : LAST + i % 2;
         rows[i] = (struct row){ .op = op, .b = op >= ADD, .k = op == SET || op == PLUS ? 3 : 0, .out = op > IN };
-        if (i >= 20) rows[i].a = i - 4;
+        if (i > SEQ) rows[i].a = i - 4;
     }
     measure("32 streams, every operator", rows, 32);
+    signals();
     put("stack|");
     put_number(deep);
     put("\n");

@@ -3,10 +3,14 @@
 #define PLANS_H
 #include <stdint.h>
 
-enum { IN = 1, NIL, UNIT, TIME, SET, PLUS, NEG, ADD, SUB, MUL, DIV, REM, LT, LE, EQ, KEEP, MERGE, LAST, DELAY };
+enum {
+    IN = 1, NIL, UNIT, TIME, SET, PLUS, NEG, ADD, SUB, MUL, DIV, REM, LT, LE, EQ, KEEP, MERGE, LAST, DELAY,
+    SADD, SSUB, SMUL, SDIV, SREM, SLT, SLE, SEQ
+};
 
-static const char *const NAMES[] = { "",    "in",  "nil", "unit", "time", "set", "plus", "neg",   "add",  "sub",
-                                     "mul", "div", "rem", "lt",   "le",   "eq",  "keep", "merge", "last", "delay" };
+static const char *const NAMES[] = { "",     "in",   "nil",  "unit", "time", "set", "plus", "neg",   "add",  "sub",
+                                     "mul",  "div",  "rem",  "lt",   "le",   "eq",  "keep", "merge", "last", "delay",
+                                     "sadd", "ssub", "smul", "sdiv", "srem", "slt", "sle",  "seq" };
 
 struct row {
     uint8_t op, a, b, out;

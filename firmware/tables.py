@@ -71,6 +71,15 @@ for plan in plans:
     print('| %s | %d | %s | %.1f | %s | %s |' % (plan, moves, ms(cycles), moves * MHZ * 1000 / cycles,
           ms(zone('collecting the outputs')[2]), ms(zone('collecting every stream')[2])))
 print()
+print('A signal form against the five streams that it stands for, a reading to rest:')
+print()
+print('| plan | moves | %s | ms, %s |' % (' | '.join('%s, instructions | beside the inputs alone' % CORES[n] for n in names), CORES[c]))
+print('|---|---:|%s---:|' % ('---:|---:|' * len(names)))
+for plan in ['two inputs alone', 'two inputs, a signal form', 'two inputs, its five streams']:
+    zone = lambda n, plan: zones[n][plan, 'a reading to rest']
+    cells = ['%s | %s' % (count(zone(n, plan)[1]), count(int(zone(n, plan)[1]) - int(zone(n, 'two inputs alone')[1]))) for n in names]
+    print('| %s | %s | %s | %s |' % (plan, zone(c, plan)[0], ' | '.join(cells), ms(zone(c, plan)[2])))
+print()
 print('Where the cycles of a reading to rest go (%s):' % CORES[c])
 print()
 print('| plan | functions |')

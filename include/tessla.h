@@ -37,7 +37,7 @@
  *
  * The budget of a run. On a Cortex-M0+ at 48 MHz every call but load first looks at the whole state, 1.0 to 1.3 ms by the
  * manual's cycles; a move in a run then takes 0.1 to 0.2 ms. In the plans that were measured a run of n moves takes at most
- * 1.3 ms and a millisecond for each five moves, if the outputs are collected; where 31 outputs are full a move takes 1.1 ms.
+ * 1.3 ms and a millisecond for each four moves, if the outputs are collected; where 31 outputs are full a move takes 1.1 ms.
  * Leave the watchdog twice that. Few calls with much work in each cost least (docs/PERFORMANCE.md, "On the controller").
  *
  * A copy of the state. The buffer may be copied anywhere, to flash say, and put back later, at any address. Only the records
@@ -59,10 +59,11 @@ extern "C" {
 /*
  * The version of the calls and of the state's layout. The first part changes when a program that works today would not; the
  * second grows with everything new. A state saved under a version is read by every later one.
+ *   1.2   the operators sadd, ssub, smul, sdiv, srem, slt, sle, seq in a plan; an earlier engine refuses such a text 4
  */
 #define TESSLA_VERSION_MAJOR 1
-#define TESSLA_VERSION_MINOR 1
-#define TESSLA_VERSION "1.1"
+#define TESSLA_VERSION_MINOR 2
+#define TESSLA_VERSION "1.2"
 
 /* The length of the state in bytes. Any other length is refused 15. */
 #define TESSLA_STATE_LENGTH 12288

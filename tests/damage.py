@@ -4,7 +4,7 @@ import glob
 from shortly import OPERATORS, random_plan, text_of
 
 NUMBERS = ["0", "1", "5", "31", "32", "33", "00", "01", "-0", "-1", "+1", "999", "1000", "", "1.5", "0,5", "9223372036854775807", "9223372036854775808", "-9223372036854775808", "-9223372036854775809"]
-NAMES = list(OPERATORS) + ["", "Merge", "merg", "count", "filter", "on", "x", "add1", "abcdef", "in "]
+NAMES = list(OPERATORS) + ["", "Merge", "merg", "count", "filter", "on", "x", "sneg", "sadds", "Sadd", "smerge", "add1", "abcdef", "in "]
 LINES = ["", "# x", "plan=1", "plan=2", "streams=3", "op=in", "a=0", "b=0", "k=0", "out=0", "out=1", "out=2", " a=0", "a =0", "OP=in", "\t", "a=0\r"]
 BYTES = b"\n\r\t =-+.,0129azAZ#;\x00\x7f\x80\xff"
 

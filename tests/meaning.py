@@ -1,5 +1,6 @@
-"""The definition, from document 01's operator table and the rules under it: a plan and the readings of its inputs give to
-every stream its events. Plain and in one go, stamp by stamp; it knows nothing of calls, bounds or held events."""
+"""The definition, from document 01's operator table, the rules under it and document 02's signal forms: a plan and the readings
+of its inputs give to every stream its events. Plain and in one go, stamp by stamp; it knows nothing of calls, bounds or held
+events."""
 import heapq
 
 LAST_STAMP = 4294967295
@@ -27,6 +28,8 @@ CALCULATE = {
     "eq": lambda x, y: int(x == y),
     "keep": lambda x, y: x if y != 0 else None,
 }
+# to each signal form what it works out of the latest values
+SIGNALS = {"s" + op: CALCULATE[op] for op in ("add", "sub", "mul", "div", "rem", "lt", "le", "eq")}
 
 
 def in_order(plan):
@@ -84,6 +87,10 @@ def meaning(plan, readings, until, most=None):
                 now[s] = latest[a] if now[b] is not None else None
             elif op == "merge":
                 now[s] = now[a] if now[a] is not None else now[b]
+            elif op in SIGNALS:
+                x, y = (now[i] if now[i] is not None else latest[i] for i in (a, b))
+                either = now[a] is not None or now[b] is not None
+                now[s] = SIGNALS[op](x, y) if either and x is not None and y is not None else None
             elif op == "nil" or now[a] is None:
                 now[s] = None
             elif op == "time":

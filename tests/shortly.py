@@ -1,7 +1,8 @@
 """Plans written in one line, as `in; unit; set 1 k0; last 5 0; merge 4 2 out`, and random plans and readings, for the tests."""
 OPERATORS = {
     "in": 0, "nil": 0, "unit": 0, "time": 1, "set": 1, "plus": 1, "neg": 1, "add": 2, "sub": 2, "mul": 2, "div": 2, "rem": 2,
-    "lt": 2, "le": 2, "eq": 2, "keep": 2, "merge": 2, "last": 2, "delay": 2,
+    "lt": 2, "le": 2, "eq": 2, "keep": 2, "merge": 2, "last": 2, "delay": 2, "sadd": 2, "ssub": 2, "smul": 2, "sdiv": 2,
+    "srem": 2, "slt": 2, "sle": 2, "seq": 2,
 }
 
 
@@ -18,6 +19,14 @@ def short(text):
 
 def text_of(rows):
     return "plan=1\nstreams=%d\n" % len(rows) + "".join("op=%s\na=%d\nb=%d\nk=%d\nout=%d\n" % row for row in rows)
+
+
+def spelled(rows, s):
+    """The plan with stream s, a signal form, written as the operation on what two lasts and two merges behind the plan say."""
+    op, a, b, k, out = rows[s]
+    n = len(rows)
+    four = [("last", a, b, 0, False), ("merge", a, n, 0, False), ("last", b, a, 0, False), ("merge", b, n + 2, 0, False)]
+    return rows[:s] + [(op[1:], n + 1, n + 3, k, out)] + rows[s + 1:] + four
 
 
 def random_plan(draw, count):

@@ -1,13 +1,16 @@
 #!/usr/bin/env python3
-"""A second judge of plan texts, from document 01's "Plan text" and "Load" and apart from the library: it reads a text from
-the standard input and prints `number=N line=L stream=S`, as the program `verdict` does. `verdict(text)` gives the three."""
+"""A second judge of plan texts, from document 01's "Plan text" and "Load" with document 02's operators, apart from the library:
+it reads a text from the standard input and prints `number=N line=L stream=S`, as the program `verdict` does. `verdict(text)`
+gives the three."""
 import re
 import sys
 
 KEYS = ["op", "a", "b", "k", "out"]
 NO_ARGUMENT = ["in", "nil", "unit"]
 ONE_ARGUMENT = ["time", "set", "plus", "neg"]
-TWO_ARGUMENTS = ["add", "sub", "mul", "div", "rem", "lt", "le", "eq", "keep", "merge", "last", "delay"]
+CALCULATIONS = ["add", "sub", "mul", "div", "rem", "lt", "le", "eq"]
+# the signal forms among them: "with s in front"
+TWO_ARGUMENTS = CALCULATIONS + ["keep", "merge", "last", "delay"] + ["s" + op for op in CALCULATIONS]
 USE_K = ["set", "plus"]
 DELAYED = ["last", "delay"]
 

@@ -1,8 +1,10 @@
 #!/usr/bin/env python3
-"""The day of plans/weight, apart from the engine: the readings, and what must be printed, by the arithmetic of the question.
-Without an argument it compares the files with this; `tests/weight.py --write` writes readings-0.txt, readings-1.txt and
-expected.txt. Run at the top of the repository."""
+"""The day of plans/weight and the evening of plans/light, apart from the engine: the day's readings, and what must be printed
+of both, by the arithmetic of the questions. Without an argument it compares the files with this; `tests/weight.py --write`
+writes the day's readings-0.txt, readings-1.txt and expected.txt. Run at the top of the repository."""
+import re
 import sys
+from fractions import Fraction
 
 MINUTE, HOUR, DAY = 60, 3600, 86400
 # a cold clear day, in tenths of a degree, at each full hour
@@ -58,6 +60,41 @@ FILES = {
 }
 
 
+# ---- plans/light
+
+def light(weight, temperature):
+    """Whether an owl is too light: 290 g at 0 degrees, one gram more for each degree below, one less for each above."""
+    return weight < 290 - Fraction(temperature, 10)
+
+
+def evening(trace):
+    """What the lines of a trace print: where the balance or the thermometer reports, once both have, and not before both are
+    known past that stamp."""
+    known, latest, waiting, lines = [0, 0], [None, None], [], []
+    for line in trace:
+        s, bound, stamp, value = re.fullmatch(r"s=([01]) (?:p=(\d+)|t=(\d+) v=(-?\d+))\n", line).groups()
+        s = int(s)
+        known[s] = int(bound) if bound else int(stamp) + 1
+        if stamp:
+            waiting.append((int(stamp), s, int(value)))
+        for t in sorted({t for t, _, _ in waiting if t < min(known)}):
+            for _, x, v in [reading for reading in waiting if reading[0] == t]:
+                latest[x] = v
+            if None not in latest:
+                lines.append("s=6 t=%d v=%d\n" % (t, light(*latest)))
+        waiting = [reading for reading in waiting if reading[0] >= min(known)]
+    return lines
+
+
+def compare_evening():
+    with open("plans/light/trace.txt", encoding="ascii") as file:
+        lines = evening(file)
+    with open("plans/light/expected.txt", encoding="ascii") as file:
+        if file.readlines() != lines:
+            sys.exit("plans/light/expected.txt is not what is worked out here")
+    print("the evening of plans/light: %d answers" % len(lines))
+
+
 def main(write):
     for path, lines in FILES.items():
         with open(path, "w" if write else "r", encoding="ascii") as file:
@@ -66,6 +103,7 @@ def main(write):
             elif file.readlines() != lines:
                 sys.exit("%s is not what is worked out here" % path)
     print("the day of plans/weight: %d weighings, %d temperatures" % (DAY // MINUTE, len(TEMPERATURES)))
+    compare_evening()
 
 
 if __name__ == "__main__":

@@ -2,7 +2,7 @@
 whose stamps."""
 from collections import namedtuple
 
-from plans import CALCULATIONS, GREATEST, LAST_STAMP, LEAST, NO_ARGUMENT, ONE_ARGUMENT
+from plans import CALCULATIONS, GREATEST, LAST_STAMP, LEAST, NO_ARGUMENT, ONE_ARGUMENT, SIGNALS
 
 # What a stream may have at stamp 0 (`first`) and after it (`later`): NONE, one value only, or ANY value.
 NONE, ANY = "none", "any"
@@ -53,6 +53,15 @@ def both(op, x, y):
     return ANY if ANY in (x, y) else calculated(op, x, y)
 
 
+def signal(op, a, b):
+    """Of a signal form: at stamp 0 both have an event there; after it one of them has, and the other has had one, then or
+    before."""
+    later = NONE
+    for x, y in (a.later, b.later), (a.later, b.first), (a.first, b.later):
+        later = either(later, both(op, x, y))
+    return May(both(op, a.first, b.first), later)
+
+
 def one(stream, x):
     """At one stamp, of an operator with one argument other than time."""
     if x == NONE:
@@ -93,6 +102,8 @@ def row(stream, may):
         at_first = b.first != NONE and sets(a.first)
         at_later = b.later != NONE and sets(a.later)
         return May(NONE, 0 if at_first or at_later else NONE)
+    if stream.op in SIGNALS:
+        return signal(SIGNALS[stream.op], a, b)
     return May(both(stream.op, a.first, b.first), both(stream.op, a.later, b.later))
 
 
@@ -135,5 +146,8 @@ def clock(plan, may, found, s):
         return found[a] | found[b]
     if op == "last":
         return found[b] - {"0"}
+    if op in SIGNALS:
+        # at stamp 0 only where both have an event there
+        return (found[a] | found[b]) - {"0"} | (found[a] & found[b])
     assert op in CALCULATIONS + ["keep"]
     return found[a] & found[b]

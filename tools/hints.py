@@ -1,6 +1,6 @@
 """Warnings about a plan that load takes: what it does is settled, but hardly what was meant."""
 from events import ANY, NEVER, NONE, clocks, possible, row, sets
-from plans import CALCULATIONS, LAST_STAMP, ONE_ARGUMENT, inputs, reached, readers, reads, sources
+from plans import CALCULATIONS, LAST_STAMP, ONE_ARGUMENT, SIGNALS, inputs, reached, readers, reads, sources
 from words import joined
 
 # a timer that rings no more often than this has an end in sight
@@ -55,14 +55,20 @@ def reason(plan, may, s):
         if sets(may[a].first) or sets(may[a].later):
             return "stream %d, the time to wait, has no event where stream %d has one, so the timer is never set" % (a, b)
         return "stream %d, the time to wait, is always 0 or less, or leads past the last stamp" % a
-    if stream.op not in ONE_ARGUMENT and not meet(may[a], may[b]):
+    if stream.op not in ONE_ARGUMENT and stream.op not in SIGNALS and not meet(may[a], may[b]):
         early, late = (a, b) if may[a].later == NONE else (b, a)
-        return "stream %d has an event only at stamp 0, and stream %d only after it: they never meet" % (early, late)
+        what = "stream %d has an event only at stamp 0, and stream %d only after it: they never meet" % (early, late)
+        return what + (". Use " + signal_form(stream.op) if stream.op in CALCULATIONS else "")
     if stream.op == "keep":
         return "stream %d is always 0 there; keep wants an event of it that is not 0" % b
-    if stream.op in ("div", "rem") and 0 in may[b]:
+    if SIGNALS.get(stream.op, stream.op) in ("div", "rem") and 0 in may[b]:
         return "stream %d is always 0 there, and a division by 0 gives no event" % b
     return "its result is always out of range"
+
+
+def signal_form(op):
+    """What to use in place of a calculation where events hardly meet."""
+    return "op=s%s: it works on the last known values" % op
 
 
 def meet(x, y):
@@ -176,14 +182,16 @@ def calculation(plan, clock, stream):
     a, b = clock[stream.a], clock[stream.b]
     if (a & b) - {"0"} or a == b:
         return None
+    signal = stream.op in CALCULATIONS
     if {"0"} in (a, b):
         constant, other = (stream.a, stream.b) if a == {"0"} else (stream.b, stream.a)
-        return (
+        what = (
             "stream %d has an event only at stamp 0, so this has none at any later stamp. For a constant at each event of "
             "stream %d use op=set, a=%d and k" % (constant, other, other))
+        return what + (", or here " + signal_form(stream.op) if signal else "")
     if from_unit(plan, a) or from_unit(plan, b):
         return None
-    remedy = 'see "keep against filter"' if stream.op == "keep" else "use the last known value of each, by the signal lift"
+    remedy = 'use %s; see "Signals"' % signal_form(stream.op) if signal else 'see "keep against filter"'
     return (
         "%s: they meet only where both have one at the same stamp. If they do not always come together, %s in docs/MANUAL.md"
         % (each(plan, clock, stream), remedy))

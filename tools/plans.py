@@ -17,7 +17,9 @@ STREAMS = 32
 NO_ARGUMENT = ["in", "nil", "unit"]
 ONE_ARGUMENT = ["time", "set", "plus", "neg"]
 CALCULATIONS = ["add", "sub", "mul", "div", "rem", "lt", "le", "eq"]
-TWO_ARGUMENTS = CALCULATIONS + ["keep", "merge", "last", "delay"]
+# the signal form of each, on the last known values
+SIGNALS = {"s" + op: op for op in CALCULATIONS}
+TWO_ARGUMENTS = CALCULATIONS + ["keep", "merge", "last", "delay"] + list(SIGNALS)
 OPERATORS = NO_ARGUMENT + ONE_ARGUMENT + TWO_ARGUMENTS
 USE_K = ["set", "plus"]
 KEYS = ["op", "a", "b", "k", "out"]

@@ -4,22 +4,31 @@ import re
 
 import causes
 from causes import Cause
-from plans import KEYS, NO_ARGUMENT, ONE_ARGUMENT, OPERATORS, STREAMS, TEXT, USE_K
+from plans import CALCULATIONS, KEYS, NO_ARGUMENT, ONE_ARGUMENT, OPERATORS, STREAMS, TEXT, USE_K
 from plans import fields, lines_of, undelayed
 from words import joined, plural
 
 TABLE = '"From TeSSLa\'s usual operators" in docs/MANUAL.md'
 # TeSSLa's names that the manual's table writes with our operators
-IN_TABLE = ["count", "const", "prev", "on", "sum", "filter", "default", "signal", "lift", "slift", "and", "or", "not"]
+IN_TABLE = ["count", "const", "prev", "on", "sum", "filter", "default", "and", "or", "not"]
+# those for an operator on events and on signals
+LIFTS = ["signal", "lift", "slift"]
+
+
+def and_signals(names):
+    """The names, and each that stands for a calculation with an s in front too."""
+    return {**names, **{"s" + name: "s" + op for name, op in names.items() if op in CALCULATIONS}}
+
+
 # comparisons that are there with a and b in the other order, and the one that is there the other way round
-SWAPPED = {"gt": "lt", "more": "lt", "ge": "le", "gte": "le"}
-NEGATED = {"ne": "eq", "neq": "eq"}
+SWAPPED = and_signals({"gt": "lt", "more": "lt", "ge": "le", "gte": "le"})
+NEGATED = and_signals({"ne": "eq", "neq": "eq"})
 # names from elsewhere, and what stands for them here
-ELSEWHERE = {
+ELSEWHERE = and_signals({
     "input": "in", "read": "in", "null": "nil", "none": "nil", "empty": "nil", "value": "set", "minus": "sub", "times": "mul",
     "mult": "mul", "mod": "rem", "less": "lt", "lower": "lt", "lte": "le", "equal": "eq", "equals": "eq", "timer": "delay",
     "either": "merge", "subtract": "sub", "multiply": "mul", "divide": "div", "modulo": "rem", "negate": "neg",
-}
+})
 
 
 def due(line, count):
@@ -117,11 +126,27 @@ def nearest(name):
         return "write op=%s, with a and b in the other order; see %s" % (SWAPPED[low], TABLE)
     if low in NEGATED:
         return "write op=%s, and then not; see %s" % (NEGATED[low], TABLE)
+    if low in LIFTS:
+        return (
+            "write the operator itself: op=add and the like work where both arguments have an event, op=sadd and the like on "
+            'their last known values; see "Signals" in docs/MANUAL.md')
     if low in IN_TABLE:
         return "see %s: it says how to write %s in a plan" % (TABLE, low)
+    if low.startswith("s") and low[1:] in ONE_ARGUMENT + ["keep", "merge", "last", "delay"]:
+        return no_signal_form(low[1:])
     close = difflib.get_close_matches(low, OPERATORS, 1, 0.5)
     guess = ELSEWHERE.get(low) or (close[0] if close else None)
     return ("did you mean op=%s? " % guess if guess else "") + 'the names are in the table "The operators" in docs/MANUAL.md'
+
+
+def no_signal_form(op):
+    """What to do about an s in front of an operator that has no signal form."""
+    if op == "keep":
+        return 'keep has no signal form; to keep by the last known condition see "keep against filter" in docs/MANUAL.md'
+    if op in ONE_ARGUMENT:
+        other = ", or op=sadd for the sum of two streams" if op == "plus" else ""
+        return "%s works on one stream and has no signal form: write op=%s%s" % (op, op, other)
+    return "only %s have a signal form: write op=%s" % (joined(CALCULATIONS), op)
 
 
 def of_name(name):

@@ -11,16 +11,23 @@
 enum { STREAMS = 32, ROOM = 16, RECORD = 256, EVENTS = 64, SLOT = 12, STATE = 12288, TEXT = 2048 };
 #define HORIZON UINT64_C(4294967296)
 
-enum op { NONE, IN, NIL, UNIT, TIME, SET, PLUS, NEG, ADD, SUB, MUL, DIV, REM, LT, LE, EQ, KEEP, MERGE, LAST, DELAY, OPS };
+enum op {
+    NONE, IN, NIL, UNIT, TIME, SET, PLUS, NEG, ADD, SUB, MUL, DIV, REM, LT, LE, EQ, KEEP, MERGE, LAST, DELAY,
+    SADD, SSUB, SMUL, SDIV, SREM, SLT, SLE, SEQ, OPS
+};
 
-static const char *const NAMES[OPS] = { "",    "in",  "nil", "unit", "time", "set",  "plus",  "neg",  "add",  "sub",
-                                        "mul", "div", "rem", "lt",   "le",   "eq",   "keep",  "merge", "last", "delay" };
+static const char *const NAMES[OPS] = { "",     "in",   "nil",  "unit", "time", "set",  "plus", "neg",   "add",  "sub",
+                                        "mul",  "div",  "rem",  "lt",   "le",   "eq",   "keep", "merge", "last", "delay",
+                                        "sadd", "ssub", "smul", "sdiv", "srem", "slt",  "sle",  "seq" };
 
 static bool uses_a(unsigned op) { return op >= TIME; }
 static bool uses_b(unsigned op) { return op >= ADD; }
 static bool uses_k(unsigned op) { return op == SET || op == PLUS; }
 /* the first argument of a last or a delay is delayed */
-static bool waits_for_a(unsigned op) { return op >= TIME && op < LAST; }
+static bool waits_for_a(unsigned op) { return uses_a(op) && op != LAST && op != DELAY; }
+/* the signal forms stand in the order of the operations that they do */
+static bool is_signal(unsigned op) { return op >= SADD && op <= SEQ; }
+static unsigned operation(unsigned signal) { return signal - SADD + ADD; }
 
 /* ---- numbers in bytes, least byte first */
 
@@ -85,6 +92,9 @@ static struct maybe prev_of(const uint8_t *r) { return kept(r, 5, 32); }
 static uint64_t since_of(const uint8_t *r) { return get8(r + 32); }
 static struct maybe set_of(const uint8_t *r) { return kept(r, 5, 40); }
 static struct maybe prior_of(const uint8_t *r) { return kept(r, 6, 48); }
+/* of a signal form: the latest values of a and of b below the bound */
+static struct maybe latest_a(const uint8_t *r) { return kept(r, 5, 32); }
+static struct maybe latest_b(const uint8_t *r) { return kept(r, 6, 40); }
 
 /* the number of held events below stamp t: the place of the first one at t or later */
 static unsigned place(const uint8_t *r, uint64_t t) {
@@ -108,6 +118,8 @@ static struct maybe latest(const uint8_t *r, uint64_t t) {
     unsigned j = place(r, t);
     return j > 0 ? some(value_at(r, j - 1)) : NOTHING;
 }
+
+static struct maybe or_else(struct maybe x, struct maybe y) { return x.is ? x : y; }
 
 static uint64_t least(uint64_t x, uint64_t y) { return x < y ? x : y; }
 static uint64_t most(uint64_t x, uint64_t y) { return x > y ? x : y; }
@@ -175,6 +187,11 @@ static bool kept_good(const uint8_t *r) {
         /* its own events are set points: since is above the newest */
         if (held(r) > 0 && since_of(r) <= stamp_at(r, held(r) - 1)) return false;
         return bound > 0 || r[6] == 0;
+    }
+    if (is_signal(op_of(r))) {
+        if (r[5] > 1 || (r[5] == 0 && get8(r + 32) != 0)) return false;
+        if (r[6] > 1 || (r[6] == 0 && get8(r + 40) != 0)) return false;
+        return get8(r + 48) == 0 && (bound > 0 || (r[5] == 0 && r[6] == 0));
     }
     return r[5] == 0 && r[6] == 0 && all_zero(r + 32, 24);
 }
@@ -334,7 +351,7 @@ static struct maybe one_value(unsigned op, int64_t k, uint64_t t, int64_t x) {
 
 static struct maybe two_values(unsigned op, struct maybe a, struct maybe b) {
     int64_t v;
-    if (op == MERGE) return a.is ? a : b;
+    if (op == MERGE) return or_else(a, b);
     if (!a.is || !b.is) return NOTHING;
     switch (op) {
     case ADD: return __builtin_add_overflow(a.v, b.v, &v) ? NOTHING : some(v);
@@ -373,13 +390,28 @@ static struct next two_next(const uint8_t *o, const uint8_t *a, const uint8_t *b
     }
 }
 
+/* at each stamp of either, on the latest values: those held below the bound, or kept, to begin with */
+static struct next signal_next(const uint8_t *o, const uint8_t *a, const uint8_t *b) {
+    uint64_t y = bound_of(o), reach = most(y, least(bound_of(a), bound_of(b)));
+    struct maybe x = or_else(latest(a, y), latest_a(o)), z = or_else(latest(b, y), latest_b(o));
+    unsigned i = place(a, y), j = place(b, y);
+    for (;;) {
+        uint64_t ta = i < held(a) ? stamp_at(a, i) : HORIZON, tb = j < held(b) ? stamp_at(b, j) : HORIZON;
+        uint64_t t = least(ta, tb);
+        if (t >= reach) return silent(reach);
+        if (ta == t) x = some(value_at(a, i++));
+        if (tb == t) z = some(value_at(b, j++));
+        struct maybe v = two_values(operation(op_of(o)), x, z);
+        if (v.is) return found(t, v.v);
+    }
+}
+
 static struct next last_next(const uint8_t *o, const uint8_t *a, const uint8_t *b) {
     uint64_t y = bound_of(o);
     for (unsigned j = place(b, y); j < held(b); j++) {
         uint64_t t = stamp_at(b, j);
         if (t > bound_of(a)) return silent(t);
-        struct maybe v = latest(a, t);
-        if (!v.is) v = prev_of(o);
+        struct maybe v = or_else(latest(a, t), prev_of(o));
         if (v.is) return found(t, v.v);
     }
     return silent(most(y, bound_of(b)));
@@ -420,6 +452,7 @@ static struct next next_of(const uint8_t *state, const uint8_t *o) {
     if (op == UNIT) return found(0, 0);
     if (op == LAST) return last_next(o, a, b);
     if (op == DELAY) return delay_next(o, a, b);
+    if (is_signal(op)) return signal_next(o, a, b);
     return uses_b(op) ? two_next(o, a, b) : one_next(o, a);
 }
 
@@ -444,6 +477,7 @@ static void release(uint8_t *state, unsigned n, unsigned s) {
     o[4] = (uint8_t)left;
 }
 
+/* a last or a delay keeps what comes in below its bound; a signal form keeps what it moved over, and is not told */
 static void tell(uint8_t *r, unsigned s, uint64_t t, int64_t v) {
     uint64_t y = bound_of(r);
     if (t >= y) return;
@@ -472,6 +506,10 @@ static void absorb(uint8_t *o, const uint8_t *a, const uint8_t *b) {
         keep(o, 5, 40, v);
         put8(o + 32, z);
         keep(o, 6, 48, event_at(a, y - 1));
+    }
+    if (is_signal(op_of(o))) {
+        keep(o, 5, 32, or_else(latest(a, y), latest_a(o)));
+        keep(o, 6, 40, or_else(latest(b, y), latest_b(o)));
     }
 }
 

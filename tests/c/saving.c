@@ -1,6 +1,7 @@
 /*
  * The power is cut before, in and after every write and erasure of a save, and once more in the save after that. Each time a
- * restart must find the copy before or the new one, byte for byte, and be able to save again.
+ * restart must find the copy before or the new one, byte for byte, and be able to save again. And a copy that an earlier
+ * version saved must be found.
  */
 #include <setjmp.h>
 #include <stdio.h>
@@ -122,8 +123,31 @@ static void try_from(int i) {
     save_cut(i + 1, 1000000, NOTHING);
 }
 
+/* the copy in a place, as if saved by this version */
+static void as_of(uint8_t *head, uint8_t major, uint8_t minor) {
+    head[6] = major;
+    head[7] = minor;
+    store_number(head + AT_SUM, sum_of(head, head + HEAD_LENGTH, number_at(head + AT_LENGTH)));
+}
+
+/* a copy of every earlier minor version is found, and the next save goes on from it; one of another first part is none */
+static void versions(void) {
+    for (int minor = 0; minor <= TESSLA_VERSION_MINOR; minor++) {
+        memset(flash, 0xFF, sizeof flash);
+        if (!save_cut(1, 1000000, NOTHING)) fail("a save without a cut");
+        as_of(flash[newest()], TESSLA_VERSION_MAJOR, (uint8_t)minor);
+        if (found() != 1) fail("a copy of an earlier version is lost");
+        if (!save_cut(2, 1000000, NOTHING) || found() != 2) fail("no save after a copy of an earlier version");
+    }
+    memset(flash, 0xFF, sizeof flash);
+    if (!save_cut(1, 1000000, NOTHING)) fail("a save without a cut");
+    as_of(flash[newest()], TESSLA_VERSION_MAJOR + 1, TESSLA_VERSION_MINOR);
+    if (found() != -1) fail("a copy that this version can't read is taken");
+}
+
 int main(void) {
     make_states();
+    versions();
     /* flash as it comes, and flash with anything in it */
     for (int fill = 0; fill < 2; fill++) {
         for (uint32_t i = 0; i < sizeof flash; i++) ((uint8_t *)flash)[i] = fill ? (uint8_t)(i * 167 + 13) : 0xFF;

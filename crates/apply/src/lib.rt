@@ -78,8 +78,8 @@ fn calculate(g: Calc, v: i64, w: i64) -> Answer
     }
 }
 
-// add to eq: only if both arguments have an event.
-fn calc_at(g: Calc, x: Found, y: Found) -> Found
+// add to eq, of two events or of two latest values: only if both are there.
+pub fn calc_at(g: Calc, x: Found, y: Found) -> Found
     ensures { λ r. ⌜ asOption r ≡ two-at (binary (Binary.Arith g)) (asOption x) (asOption y) ⌝ }
 {
     let Found::Value(v) = x else {

@@ -11,8 +11,10 @@ use lib.ListN.{length, getD, set, length-set}
 use borrow.Author.Tests.{ltb-true, ltb-false, leb-false, not-false}
 use mir.Syntax.{w64}
 use mir.Val.{ofZ, toZ}
-use Rattle.meaning.specs.Plan.{Eqn, input, nil, unit, one, two, last, delay, isInput}
+use Rattle.meaning.specs.Plan.{Eqn, input, nil, isInput}
 use Rattle.meaning.specs.Events.{Event, ev, horizon}
+use Rattle.meaning.proofs.Inputs.{input-is}
+use Rattle.meaning.proofs.Tests.{is-true}
 use Rattle.machine.specs.State.{Cell, State, cellAt, room, withBound, withNext}
 use Rattle.machine.specs.Step.{canMove, release, raise}
 use Rattle.machine.specs.Calls.{Call, reading, progress, moving, running, collecting, Outcome, refused, unless, done, arrivals, noInput, noEquation, offerReading, offerProgress, moveOne, run, oldest, handOut, collect, call}
@@ -97,13 +99,7 @@ unless-zero true k M o z e = absurd (z e)
 unless-zero false k M o z e = (refl, refl)
 
 is-input : (e : Eqn) → not (isInput e) ≡ false → e ≡ input
-is-input input h = refl
-is-input nil h = let z : _≡_ {A = ℕ} 0 1 = ap (λ (x : Bool). cond x 1 0) (sym h) in absurd (omega arith)
-is-input unit h = let z : _≡_ {A = ℕ} 0 1 = ap (λ (x : Bool). cond x 1 0) (sym h) in absurd (omega arith)
-is-input (one f a) h = let z : _≡_ {A = ℕ} 0 1 = ap (λ (x : Bool). cond x 1 0) (sym h) in absurd (omega arith)
-is-input (two g a b) h = let z : _≡_ {A = ℕ} 0 1 = ap (λ (x : Bool). cond x 1 0) (sym h) in absurd (omega arith)
-is-input (last a b) h = let z : _≡_ {A = ℕ} 0 1 = ap (λ (x : Bool). cond x 1 0) (sym h) in absurd (omega arith)
-is-input (delay a b) h = let z : _≡_ {A = ℕ} 0 1 = ap (λ (x : Bool). cond x 1 0) (sym h) in absurd (omega arith)
+is-input e h = input-is e (is-true (isInput e) (not-false (isInput e) h))
 
 -- an input is a stream of the state
 input-there : (M : State) (i : ℕ) → cellAt M i .eqn ≡ input → i < length M

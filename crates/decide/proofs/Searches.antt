@@ -8,7 +8,7 @@ use native.Mathlib.Omega.{arith}
 use lib.Dec.{leb, ltb}
 use lib.IntN.{ℤ}
 use borrow.Author.Tests.{lt-ltb, le-ltb}
-use Rattle.meaning.specs.Plan.{Unary, Binary, Eqn, input, nil, unit, one, two, last, delay}
+use Rattle.meaning.specs.Plan.{Unary, Binary, Calc, Eqn, input, nil, unit, one, two, last, delay, signal}
 use Rattle.meaning.specs.Events.{has}
 use Rattle.machine.specs.State.{Cell}
 use Rattle.machine.specs.Reach.{least, limit, stops, gives, reach, first, event, silent, nextOf, decide}
@@ -84,11 +84,22 @@ module _ (o a b : Cell) where
     pub first-one : (f : Unary) (x r : ℕ) → Finds (one f x) r (map (candidateOf true (one f x) o a) (stamps (a .held)))
     first-one f x r q = ap (pick (test true (one f x) o a b) (o .bound) r) (each-same (stamps (a .held))) ∙ finds (one f x) r q
 
-    pub first-two : (g : Binary) (x y r : ℕ) → r ≡ reach (two g x y) o a b → search true (two g x y) o a b (search true (two g x y) o a b r (b .held)) (a .held) ≡ first (two g x y) o a b
-    first-two g x y r q =
-        ap₂ (λ (u v : List ℕ). pick (test true (two g x y) o a b) (o .bound) (pick (test true (two g x y) o a b) (o .bound) r v) u) (each-same (stamps (a .held))) (each-same (stamps (b .held)))
-        ∙ pick-append (test true (two g x y) o a b) (o .bound) r (stamps (a .held)) (stamps (b .held))
-        ∙ finds (two g x y) r q
+    -- an equation that can have an event only where one of its arguments has one
+    abbrev pub FindsBoth : Eqn → ℕ → Type 0
+    FindsBoth e r = r ≡ reach e o a b → search true e o a b (search true e o a b r (b .held)) (a .held) ≡ first e o a b
+
+    first-both : (e : Eqn) (r : ℕ) → wanted e o a b ≡ stamps (a .held) ++ stamps (b .held) → ((xs : List ℕ) → map (candidateOf true e o a) xs ≡ xs) → FindsBoth e r
+    first-both e r w same q =
+        ap₂ (λ (u v : List ℕ). pick (test true e o a b) (o .bound) (pick (test true e o a b) (o .bound) r v) u) (same (stamps (a .held))) (same (stamps (b .held)))
+        ∙ pick-append (test true e o a b) (o .bound) r (stamps (a .held)) (stamps (b .held))
+        ∙ ap (pick (test true e o a b) (o .bound) r) (sym w)
+        ∙ finds e r q
+
+    pub first-two : (g : Binary) (x y r : ℕ) → FindsBoth (two g x y) r
+    first-two g x y r = first-both (two g x y) r refl each-same
+
+    pub first-signal : (c : Calc) (x y r : ℕ) → FindsBoth (signal c x y) r
+    first-signal c x y r = first-both (signal c x y) r refl each-same
 
     pub first-last : (x y r : ℕ) → Finds (last x y) r (map (candidateOf true (last x y) o a) (stamps (b .held)))
     first-last x y r q = ap (pick (test true (last x y) o a b) (o .bound) r) (each-same (stamps (b .held))) ∙ finds (last x y) r q
@@ -135,3 +146,4 @@ decide-near (one f _) o a b = refl
 decide-near (two g _ _) o a b = refl
 decide-near (last _ _) o a b = refl
 decide-near (delay _ _) o a b = refl
+decide-near (signal c _ _) o a b = refl

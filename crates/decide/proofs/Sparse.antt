@@ -9,9 +9,9 @@ use native.Mathlib.Omega.{arith}
 use native.Mathlib.Decide.{decLt, decLe}
 use lib.Dec.{T, leb, ltb, eqb, leb→le, ltb→lt, eqb→eq, le→leb, lt→ltb, eqb-refl, not-T, T-not}
 use lib.IntN.{ℤ, pos, negsuc}
-use Rattle.meaning.specs.Plan.{Unary, Binary, calc, keep, merge, Eqn, input, nil, unit, one, two, last, delay}
+use Rattle.meaning.specs.Plan.{Unary, Binary, Calc, calc, keep, merge, Eqn, input, nil, unit, one, two, last, delay, signal}
 use Rattle.meaning.specs.Events.{Event, found, has, orElse}
-use Rattle.meaning.specs.Table.{one-at, two-at, unit-at, last-at, is, delay-at}
+use Rattle.meaning.specs.Table.{one-at, two-at, unit-at, last-at, signal-at, is, delay-at}
 use Rattle.meaning.proofs.Tests.{Is, yes!, no!, look, T-and, T-and-l, T-and-r, T-or, T-or-l, T-or-r}
 use Rattle.machine.specs.State.{Cell}
 use Rattle.machine.specs.Reach.{view, pastLatest, least, limit, point, stops, reach, due, gives, first}
@@ -131,6 +131,12 @@ two-has (calc g) none none h = absurd h
 two-has keep none none h = absurd h
 two-has merge none none h = absurd h
 
+signal-has : (c : Calc) (o p x y : Option ℤ) → T (has (signal-at c o p x y)) → T (has o) ⊎ T (has p)
+unfolding signal-at
+signal-has c (some v) p x y h = inl tt
+signal-has c none (some w) x y h = inr tt
+signal-has c none none x y h = absurd h
+
 last-has : (o v : Option ℤ) → T (has (last-at o v)) → T (has o)
 unfolding last-at
 last-has none v h = h
@@ -165,16 +171,18 @@ point-in o b t = go (decLe (pastLatest (view b) t) (o .kept .since)) (decLt 0 (p
         let k = in-each suc (stamps (b .held)) (pred (pastLatest (view b) t)) (found-in (b .held) (pred (pastLatest (view b) t)) (past-hit (view b) t d)) in
         inl (T-or-r (eqb z (o .kept .since)) (any (eqb z) xs) (rw e at k))
 
+-- where one of two streams holds an event
+either-in : (a b : Cell) (t : ℕ) → T (has (view a t)) ⊎ T (has (view b t)) → T (any (eqb t) (stamps (a .held) ++ stamps (b .held)))
+either-in a b t (inl k) = any-left t (stamps (a .held)) (stamps (b .held)) (found-in (a .held) t k)
+either-in a b t (inr k) = any-right t (stamps (a .held)) (stamps (b .held)) (found-in (b .held) t k)
+
 gives-in : (e : Eqn) (o a b : Cell) (t : ℕ) → o .kept .since ≤ t → T (has (gives e o a b t)) → T (any (eqb t) (wanted e o a b))
 gives-in input o a b t l h = h
 gives-in nil o a b t l h = h
 gives-in unit o a b t l h = unit-has t h
 gives-in (one f _) o a b t l h = found-in (a .held) t (one-has f t (view a t) h)
-gives-in (two g _ _) o a b t l h = go (two-has g (view a t) (view b t) h)
-  where
-    go : T (has (view a t)) ⊎ T (has (view b t)) → T (any (eqb t) (stamps (a .held) ++ stamps (b .held)))
-    go (inl k) = any-left t (stamps (a .held)) (stamps (b .held)) (found-in (a .held) t k)
-    go (inr k) = any-right t (stamps (a .held)) (stamps (b .held)) (found-in (b .held) t k)
+gives-in (two g _ _) o a b t l h = either-in a b t (two-has g (view a t) (view b t) h)
+gives-in (signal c _ _) o a b t l h = either-in a b t (signal-has c (view a t) (view b t) _ _ h)
 gives-in (last _ _) o a b t l h = found-in (b .held) t (last-has (view b t) _ h)
 gives-in (delay _ _) o a b t l h = go (point-in o b t)
   where
@@ -249,6 +257,7 @@ stop-in (one f _) o a b t l h = absurd h
 stop-in (two g _ _) o a b t l h = absurd h
 stop-in (last _ _) o a b t l h = (t, found-in (b .held) t (T-and-l (has (view b t)) (ltb (a .bound) t) h), l, omega arith, h)
 stop-in (delay _ _) o a b t l h = delay-stop o a b t l h
+stop-in (signal c _ _) o a b t l h = absurd h
 
 pub reach-pick : (e : Eqn) (o a b : Cell) → reach e o a b ≡ pick (stops e o a b) (o .bound) (max (o .bound) (limit e o a b)) (halts e o a b)
 unfolding reach

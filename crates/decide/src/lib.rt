@@ -1,5 +1,6 @@
 // The decision of a move: how far the equation sees, and the first event that it has there.
 ghost use mathlib.Core.Path.{_≡_};
+ghost use mathlib.Core.Bool.{true};
 ghost use mathlib.Core.List.{List};
 ghost use Prim.Native.Nat.{_≤_, _<_};
 ghost use lib.ListN.{length};
@@ -49,6 +50,7 @@ fn stops(l: Look, b: &[u8], t: u64) -> bool
             let z = events::point(k, b, t);
             l.abound < z
         }
+        Op::Signal(_, _, _) => false,
     }
 }
 
@@ -111,6 +113,7 @@ fn candidate(give: bool, l: Look, a: &[u8], s: u64) -> u64
             }
             s + 1
         }
+        Op::Signal(_, _, _) => s,
     }
 }
 
@@ -132,6 +135,15 @@ fn scan(give: bool, l: Look, a: &[u8], b: &[u8], q: &[u8], hi: u64) -> u64
     best
 }
 
+// The stamp of the first event below hi that the equation has where one of its arguments holds one, or hi.
+fn scan_both(l: Look, a: &[u8], b: &[u8], hi: u64) -> u64
+    requires { ⌜ Within l × (length (now a) ≡ 256) × (length (now b) ≡ 256) × (hi ≤ horizon) ⌝ }
+    ensures { λ r. ⌜ r ≡ searchIn true l (now (a .entry)) (now (b .entry)) (searchIn true l (now (a .entry)) (now (b .entry)) hi (heldOf (decRaw (now (b .entry))))) (heldOf (decRaw (now (a .entry)))) ⌝ }
+{
+    let best = scan(true, l, a, b, b, hi);
+    scan(true, l, a, b, a, best)
+}
+
 // The greatest bound that the arguments' bounds allow.
 fn limit(l: Look) -> u64
     requires { ⌜ Within l ⌝ }
@@ -147,6 +159,7 @@ fn limit(l: Look) -> u64
         Op::Two(_, _, _) => streams::smaller(l.abound, l.bbound),
         Op::Last(_, _) => l.bbound,
         Op::Delay(_, _) => streams::smaller(l.bbound + 1, Bound::HORIZON),
+        Op::Signal(_, _, _) => streams::smaller(l.abound, l.bbound),
     }
 }
 
@@ -169,6 +182,7 @@ fn reach(l: Look, a: &[u8], b: &[u8]) -> u64
             let best = scan(false, l, a, b, b, hi);
             closer(false, l, a, b, s.bound, best)
         }
+        Op::Signal(_, _, _) => hi,
     }
 }
 
@@ -184,10 +198,7 @@ fn first(l: Look, a: &[u8], b: &[u8], r: u64) -> u64
         Op::Nil => r,
         Op::Unit => closer(true, l, a, b, 0, r),
         Op::One(_, _) => scan(true, l, a, b, a, r),
-        Op::Two(_, _, _) => {
-            let best = scan(true, l, a, b, b, r);
-            scan(true, l, a, b, a, best)
-        }
+        Op::Two(_, _, _) => scan_both(l, a, b, r),
         Op::Last(_, _) => scan(true, l, a, b, b, r),
         Op::Delay(_, _) => {
             let best = scan(true, l, a, b, b, r);
@@ -195,6 +206,7 @@ fn first(l: Look, a: &[u8], b: &[u8], r: u64) -> u64
             let c = due_at(k, a, k.since);
             closer(true, l, a, b, c, best)
         }
+        Op::Signal(_, _, _) => scan_both(l, a, b, r),
     }
 }
 

@@ -11,12 +11,12 @@ use lib.ListN.{length, take}
 use mir.Syntax.{w64}
 use mir.Val.{ofZ, toZ}
 use mir.Facts.{toZ-ofZ}
-use Rattle.meaning.specs.Plan.{Eqn, input, nil, unit, one, two, last, delay}
+use Rattle.meaning.specs.Plan.{Eqn, input, nil, unit, one, two, last, delay, signal}
 use Rattle.meaning.specs.Arguments.{reads, argA, argB, AllBelow}
 use Rattle.meaning.specs.Events.{Event, ev, horizon}
 use Rattle.machine.specs.State.{Kept, Cell, room}
 use Rattle.operators.specs.Operators.{groupOf, numberOf, valueOf, eqnOf}
-use Rattle.operators.proofs.Laws.{one-group, two-group, number-range, eqn-back}
+use Rattle.operators.proofs.Laws.{one-group, two-group, signal-group, number-range, eqn-back}
 use Rattle.le.proofs.RoundTrip.{All}
 use Rattle.layout.specs.Record.{noSlot}
 use Rattle.layout.proofs.Laws.{RawOk, SlotOk}
@@ -61,6 +61,7 @@ module _ (n : ℕ) (h : n ≤ 256) where
   first-below (two g a b) k = omega (arith, k .0)
   first-below (last a b) k = omega (arith, k .0)
   first-below (delay a b) k = omega (arith, k .0)
+  first-below (signal c a b) k = omega (arith, k .0)
 
   second-below : (e : Eqn) → AllBelow n (reads e) → argB e < 256
   second-below input k = lit< tt
@@ -70,6 +71,7 @@ module _ (n : ℕ) (h : n ≤ 256) where
   second-below (two g a b) k = omega (arith, k .1 .0)
   second-below (last a b) k = omega (arith, k .1 .0)
   second-below (delay a b) k = omega (arith, k .1 .0)
+  second-below (signal c a b) k = omega (arith, k .1 .0)
 
 -- the five numbers of what is kept
 pub record KeptSmall (n : KeptNums) : Type 0 where
@@ -93,6 +95,8 @@ kept-small (last a b) y k h ok =
 kept-small (delay a b) y k h ok =
     let s = ok .since in
     record { flag = flag-below (k .value); priorFlag = flag-below (k .prior); kept = omega arith; value = optional-below (k .value) (ok .value); prior = optional-below (k .prior) (ok .prior) }
+kept-small (signal c a b) y k h ok =
+    record { flag = flag-below (k .prev); priorFlag = flag-below (k .prevB); kept = optional-below (k .prev) (ok .prev); value = optional-below (k .prevB) (ok .prevB); prior = lit< tt }
 
 -- ---- slots
 
@@ -164,11 +168,15 @@ kept-back (one f a) k o y h m ok = rw (one-group f) (sym ok)
 kept-back (two g a b) k o y h m ok = rw (two-group g) (sym ok)
 kept-back (last a b) k o y h m ok =
     let p = optional-back (k .prev) (ok .prev) in
-    λ i. record { prev = p i; since = sym (ok .since) i; value = sym (ok .value) i; prior = sym (ok .prior) i }
+    λ i. record { prev = p i; prevB = sym (ok .prevB) i; since = sym (ok .since) i; value = sym (ok .value) i; prior = sym (ok .prior) i }
 kept-back (delay a b) k o y h m ok =
     let v = optional-back (k .value) (ok .value) in
     let p = optional-back (k .prior) (ok .prior) in
-    λ i. record { prev = sym (ok .prev) i; since = k .since; value = v i; prior = p i }
+    λ i. record { prev = sym (ok .prev) i; prevB = sym (ok .prevB) i; since = k .since; value = v i; prior = p i }
+kept-back (signal c a b) k o y h m ok =
+    let p = optional-back (k .prev) (ok .prev) in
+    let q = optional-back (k .prevB) (ok .prevB) in
+    rw (signal-group c) (λ i. record { prev = p i; prevB = q i; since = sym (ok .since) i; value = sym (ok .value) i; prior = sym (ok .prior) i })
 
 out-back : (b : Bool) → not (eqb (flag b) 0) ≡ b
 out-back true = refl

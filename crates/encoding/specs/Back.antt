@@ -10,7 +10,7 @@ use mir.Syntax.{w64}
 use mir.Val.{toZ}
 use Rattle.meaning.specs.Events.{Event, ev}
 use Rattle.machine.specs.State.{Kept, Cell, State, room, noKept}
-use Rattle.operators.specs.Operators.{groupOf, isLast, isDelay, eqnOf}
+use Rattle.operators.specs.Operators.{groupOf, isLast, isDelay, isSignal, eqnOf}
 use Rattle.layout.specs.Record.{Slot, Raw, num, decode, opF, aF, bF, outF, countF, flagF, priorFlagF, kF, boundF, nextF, keptF, valueF, priorF}
 
 -- what may be absent
@@ -24,12 +24,23 @@ eventOf e = ev (e .stamp) (toZ w64 (e .value))
 unfoldable pub heldOf : Raw → List Event
 heldOf r = map eventOf (take (min (num countF r) room) (r .slots))
 
+-- what a last keeps, a delay, and a signal form
+abbrev pub lastOf : Raw → Kept
+lastOf r = record { prev = optional (num flagF r) (num keptF r); prevB = none; since = 0; value = none; prior = none }
+
+abbrev pub delayOf : Raw → Kept
+delayOf r =
+    record { prev = none; prevB = none; since = num keptF r; value = optional (num flagF r) (num valueF r); prior = optional (num priorFlagF r) (num priorF r) }
+
+abbrev pub signalOf : Raw → Kept
+signalOf r =
+    record { prev = optional (num flagF r) (num keptF r); prevB = optional (num priorFlagF r) (num valueF r); since = 0; value = none; prior = none }
+
 unfoldable pub keptOf : Raw → Kept
 keptOf r =
-    cond (isLast (groupOf (num opF r))) (record { prev = optional (num flagF r) (num keptF r); since = 0; value = none; prior = none })
-    (cond (isDelay (groupOf (num opF r)))
-    (record { prev = none; since = num keptF r; value = optional (num flagF r) (num valueF r); prior = optional (num priorFlagF r) (num priorF r) })
-    noKept)
+    cond (isLast (groupOf (num opF r))) (lastOf r)
+    (cond (isDelay (groupOf (num opF r))) (delayOf r)
+    (cond (isSignal (groupOf (num opF r))) (signalOf r) noKept))
 
 unfoldable pub toCell : Raw → Cell
 unfolding heldOf keptOf

@@ -8,7 +8,7 @@ use lib.Dec.{T}
 use lib.ListN.{length}
 use lib.IntN.{ℤ}
 use lib.Signed.{mag}
-use Rattle.meaning.specs.Plan.{Eqn, input, nil, unit, one, two, last, delay, isInput}
+use Rattle.meaning.specs.Plan.{Eqn, input, nil, unit, one, two, last, delay, signal, isInput}
 use Rattle.meaning.specs.Arguments.{reads, AllBelow}
 use Rattle.meaning.specs.Events.{Event, horizon}
 use Rattle.meaning.specs.Cycle.{Acyclic}
@@ -37,17 +37,28 @@ IsNext false next bound = next ≡ 0
 pub record LastKept (y : ℕ) (k : Kept) : Type 0 where
   pub prev : IsOptional (k .prev)
   pub fresh : y ≡ 0 → k .prev ≡ none
+  pub prevB : k .prevB ≡ none
   pub since : k .since ≡ 0
   pub value : k .value ≡ none
   pub prior : k .prior ≡ none
 
 pub record DelayKept (y : ℕ) (k : Kept) : Type 0 where
   pub prev : k .prev ≡ none
+  pub prevB : k .prevB ≡ none
   pub since : k .since ≤ y
   pub value : IsOptional (k .value)
   pub prior : IsOptional (k .prior)
   pub unset : k .since ≡ 0 → k .value ≡ none
   pub fresh : y ≡ 0 → k .prior ≡ none
+
+pub record SignalKept (y : ℕ) (k : Kept) : Type 0 where
+  pub prev : IsOptional (k .prev)
+  pub prevB : IsOptional (k .prevB)
+  pub fresh : y ≡ 0 → k .prev ≡ none
+  pub freshB : y ≡ 0 → k .prevB ≡ none
+  pub since : k .since ≡ 0
+  pub value : k .value ≡ none
+  pub prior : k .prior ≡ none
 
 abbrev pub IsKept : Eqn → ℕ → Kept → Type 0
 IsKept input y k = k ≡ noKept
@@ -57,6 +68,7 @@ IsKept (one f a) y k = k ≡ noKept
 IsKept (two g a b) y k = k ≡ noKept
 IsKept (last a b) y k = LastKept y k
 IsKept (delay a b) y k = DelayKept y k
+IsKept (signal c a b) y k = SignalKept y k
 
 -- a cell of a state of n streams
 pub record SoundCell (n : ℕ) (c : Cell) : Type 0 where

@@ -11,7 +11,7 @@ use Rattle.meaning.specs.Plan.{Eqn}
 use Rattle.meaning.specs.Arguments.{argA, argB}
 use Rattle.meaning.specs.Events.{Event}
 use Rattle.machine.specs.State.{Kept, Cell, State, room}
-use Rattle.operators.specs.Operators.{isLast, isDelay, eqnGroup, numberOf, valueOf}
+use Rattle.operators.specs.Operators.{isLast, isDelay, isSignal, eqnGroup, numberOf, valueOf}
 use Rattle.layout.specs.Record.{Slot, Raw, Raws, noSlot, encode}
 
 abbrev pub flag : Bool → ℕ
@@ -44,9 +44,15 @@ lastNums k = record { flag = flagOf (k .prev); priorFlag = 0; kept = bitsOf (k .
 abbrev pub delayNums : Kept → KeptNums
 delayNums k = record { flag = flagOf (k .value); priorFlag = flagOf (k .prior); kept = k .since; value = bitsOf (k .value); prior = bitsOf (k .prior) }
 
+abbrev pub signalNums : Kept → KeptNums
+signalNums k = record { flag = flagOf (k .prev); priorFlag = flagOf (k .prevB); kept = bitsOf (k .prev); value = bitsOf (k .prevB); prior = 0 }
+
 -- by the group of the equation
 abbrev pub keptNums : Eqn → Kept → KeptNums
-keptNums e k = cond (isLast (eqnGroup e)) (lastNums k) (cond (isDelay (eqnGroup e)) (delayNums k) noNums)
+keptNums e k =
+    cond (isLast (eqnGroup e)) (lastNums k)
+    (cond (isDelay (eqnGroup e)) (delayNums k)
+    (cond (isSignal (eqnGroup e)) (signalNums k) noNums))
 
 abbrev pub slotOf : Event → Slot
 slotOf e = record { stamp = e .stamp; value = ofZ w64 (e .value) }

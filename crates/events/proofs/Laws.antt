@@ -1,7 +1,7 @@
 -- The laws that the functions of this crate cite: one for each way out.
 use Prim.Native.Nat.{ℕ, zero, suc, pred, _-_, _<_, _≤_, _^_}
 use mathlib.Core.Path.{_≡_, refl, sym, ap, ap₂, _∙_}
-use mathlib.Core.Bool.{Bool, true, false, cond, _&&_}
+use mathlib.Core.Bool.{Bool, true, false, cond, _&&_, _||_}
 use mathlib.Core.Option.{Option, none, some}
 use mathlib.Core.List.{List}
 use native.Mathlib.Omega.{arith}
@@ -11,8 +11,9 @@ use lib.Signed.{mag, ltZ, nonNeg}
 use mir.Syntax.{w64}
 use mir.Val.{Fits}
 use borrow.Author.Tests.{lt-ltb, le-ltb, eq-eqb, ne-eqb, ltb-true}
-use Rattle.meaning.specs.Events.{Stream, orElse}
-use Rattle.meaning.specs.Table.{is, unit-at}
+use Rattle.meaning.specs.Plan.{Calc, calc}
+use Rattle.meaning.specs.Events.{Stream, has, orElse}
+use Rattle.meaning.specs.Table.{is, unit-at, two-at, signal-at}
 use Rattle.machine.specs.Reach as machine
 use Rattle.machine.proofs.Window.{or-none}
 use Rattle.streams.specs.declared.Op.{Op}
@@ -74,3 +75,13 @@ unit-later (suc t) h = refl
 pub gives-arm : (l : Look) (A B : List ℕ) (t : ℕ) {p q : Op} → p ≡ q
     → machine.gives (equation q) (ownOf (l .stream)) (argOf (l .abound) A) (argOf (l .bbound) B) t ≡ machine.gives (equation p) (ownOf (l .stream)) (argOf (l .abound) A) (argOf (l .bbound) B) t
 gives-arm l A B t e = sym (ap (λ (o : Op). machine.gives (equation o) (ownOf (l .stream)) (argOf (l .abound) A) (argOf (l .bbound) B) t) e)
+
+-- a signal form, where neither argument has an event and where one has
+module _ (c : Calc) (u w x y : Option ℤ) where
+  pub signal-none : (has u || has w) ≡ false → none ≡ signal-at c u w x y
+  unfolding signal-at
+  signal-none e = rw e
+
+  pub signal-some : (has u || has w) ≡ true → two-at (calc c) x y ≡ signal-at c u w x y
+  unfolding signal-at
+  signal-some e = rw e

@@ -1,14 +1,17 @@
 // What an equation has at a stamp, from its bound on: from its arguments' held events and what it keeps.
 ghost use mathlib.Core.Path.{_≡_};
-ghost use Prim.Native.Nat.{pred, _≤_, _<_, _^_};
+ghost use Prim.Native.Nat.{suc, pred, _≤_, _<_, _^_};
+ghost use mathlib.Core.Bool.{_||_};
 ghost use lib.ListN.{length};
-ghost use Rattle.meaning.specs.Events.{found, has, orElse, horizon};
-ghost use Rattle.meaning.specs.Table.{latest, last-at, delay-at, unit-at};
+ghost use Rattle.meaning.specs.Events.{found, has, horizon};
+ghost use Rattle.meaning.specs.Table.{last-at, delay-at, signal-at, unit-at};
 ghost use Rattle.machine.specs.Reach as machine;
 ghost use Rattle.layout.specs.Record.{decRaw};
 ghost use Rattle.encoding.specs.Back.{heldOf};
 ghost use Rattle.queue.specs.Found.{asOption};
+ghost use Rattle.apply.specs.Named.{calculation};
 ghost use Rattle.events.specs.Near.{keeping, holding, size, givesIn};
+use apply::Calc;
 use queue::Found;
 use streams::Kept;
 use streams::Look;
@@ -73,18 +76,63 @@ fn due(k: Kept, a: &[u8], z: u64, t: u64) -> bool
     n == t - (z - 1)
 }
 
+// What a stream had latest below t: held in its record, or else kept.
+pub fn held_latest(r: &[u8], t: u64, kept: Found) -> Found
+    requires { ⌜ length (now r) ≡ 256 ⌝ }
+    ensures { λ x. ⌜ asOption x ≡ machine.heldLatest (holding (now (r .entry))) t (asOption kept) ⌝ }
+{
+    let x = queue::latest_before(r, t);
+    apply::or_else(x, kept)
+}
+
 // last: what the first argument had latest before t, held or kept, if the second has an event at t.
 fn last_at(k: Kept, a: &[u8], b: &[u8], t: u64) -> Found
     requires { ⌜ (length (now a) ≡ 256) × (length (now b) ≡ 256) ⌝ }
-    ensures { λ r. ⌜ asOption r ≡ last-at (found (heldOf (decRaw (now (b .entry)))) t) (orElse (latest (found (heldOf (decRaw (now (a .entry))))) t) (asOption (k .prev))) ⌝ }
+    ensures { λ r. ⌜ asOption r ≡ last-at (found (heldOf (decRaw (now (b .entry)))) t) (machine.heldLatest (holding (now (a .entry))) t (asOption (k .prev))) ⌝ }
 {
     let y = queue::find(b, t);
     let Found::Value(_) = y else {
         return Found::Nothing;
     };
-    let v = k.prev;
-    let x = queue::latest_before(a, t);
-    apply::or_else(x, v)
+    let prev = k.prev;
+    held_latest(a, t, prev)
+}
+
+// Whether there is a value.
+pub fn is_some(x: Found) -> bool
+    ensures { λ r. ⌜ r ≡ has (asOption x) ⌝ }
+{
+    match x {
+        Found::Value(_) => true,
+        Found::Nothing => false,
+    }
+}
+
+// Whether one of the two is there.
+fn either(x: Found, y: Found) -> bool
+    ensures { λ r. ⌜ r ≡ (has (asOption x) || has (asOption y)) ⌝ }
+{
+    match x {
+        Found::Value(_) => true,
+        Found::Nothing => is_some(y),
+    }
+}
+
+// sadd to seq: if either argument has an event at t, the calculation on what both had latest at t or before, held or kept.
+fn signal_at(g: Calc, k: Kept, a: &[u8], b: &[u8], t: u64) -> Found
+    requires { ⌜ (length (now a) ≡ 256) × (length (now b) ≡ 256) × (t ≤ horizon) ⌝ }
+    ensures { λ r. ⌜ asOption r ≡ signal-at (calculation g) (found (heldOf (decRaw (now (a .entry)))) t) (found (heldOf (decRaw (now (b .entry)))) t) (machine.heldLatest (holding (now (a .entry))) (suc t) (asOption (k .prev))) (machine.heldLatest (holding (now (b .entry))) (suc t) (asOption (k .prevb))) ⌝ }
+{
+    let x = queue::find(a, t);
+    let y = queue::find(b, t);
+    if !either(x, y) {
+        return Found::Nothing;
+    }
+    let prev = k.prev;
+    let prevb = k.prevb;
+    let v = held_latest(a, t + 1, prev);
+    let w = held_latest(b, t + 1, prevb);
+    apply::calc_at(g, v, w)
 }
 
 // delay: 0, if it is due at t from its latest set point.
@@ -137,15 +185,9 @@ pub fn event_at(l: Look, a: &[u8], b: &[u8], t: u64) -> Found
             let k = s.kept;
             delay_at(k, a, b, t)
         }
-    }
-}
-
-// Whether there is a value.
-pub fn is_some(x: Found) -> bool
-    ensures { λ r. ⌜ r ≡ has (asOption x) ⌝ }
-{
-    match x {
-        Found::Value(_) => true,
-        Found::Nothing => false,
+        Op::Signal(g, _, _) => {
+            let k = s.kept;
+            signal_at(g, k, a, b, t)
+        }
     }
 }

@@ -7,7 +7,7 @@ use mathlib.Core.List.{List}
 use lib.IntN.{ℤ}
 use lib.ListN.{getD}
 use borrow.Author.Tests.{eq-eqb, ne-eqb}
-use Rattle.meaning.specs.Plan.{Eqn, input, nil, unit, one, two, last, delay}
+use Rattle.meaning.specs.Plan.{Calc, Eqn, input, nil, unit, one, two, last, delay, signal}
 use Rattle.meaning.specs.Events.{Event}
 use Rattle.machine.specs.State.{Kept, Cell, withKept}
 use Rattle.machine.specs.Reach.{valueAt}
@@ -17,20 +17,20 @@ use Rattle.layout.proofs.Laws.{RawOk, num-ok}
 use Rattle.encoding.specs.View.{flagOf, bitsOf, keptNums, rawOf, ofCell}
 use Rattle.streams.specs.Look.{argCell}
 use Rattle.streams.proofs.Laws.{keeps}
-use Rattle.keeping.specs.Keep.{movedCell, valueKept, delayKept, keptRow}
+use Rattle.keeping.specs.Keep.{movedCell, valueKept, delayKept, signalKept, keptRow}
 
 -- z is the latest set point, x a's event just below the bound
 module _ (o a b : Cell) (z : ℕ) (ez : z ≡ later o b) (x : Option ℤ) (ex : x ≡ absorb (delay 0 0) o a b .prior) where
-  pub delay-none : z ≡ 0 → record { prev = o .kept .prev; since = z; value = none; prior = x } ≡ absorb (delay 0 0) o a b
+  pub delay-none : z ≡ 0 → record { prev = o .kept .prev; prevB = o .kept .prevB; since = z; value = none; prior = x } ≡ absorb (delay 0 0) o a b
   delay-none h =
       let v : none ≡ absorb (delay 0 0) o a b .value = sym (ap (λ (c : Bool). cond c none (valueAt o a (later o b))) (eq-eqb (later o b) 0 (sym ez ∙ h))) in
-      λ i. record { prev = o .kept .prev; since = ez i; value = v i; prior = ex i }
+      λ i. record { prev = o .kept .prev; prevB = o .kept .prevB; since = ez i; value = v i; prior = ex i }
 
-  pub delay-some : (v : Option ℤ) → v ≡ valueAt o a z → (z ≡ 0 → ⊥) → record { prev = o .kept .prev; since = z; value = v; prior = x } ≡ absorb (delay 0 0) o a b
+  pub delay-some : (v : Option ℤ) → v ≡ valueAt o a z → (z ≡ 0 → ⊥) → record { prev = o .kept .prev; prevB = o .kept .prevB; since = z; value = v; prior = x } ≡ absorb (delay 0 0) o a b
   delay-some v ev h =
       let w : v ≡ absorb (delay 0 0) o a b .value =
       ev ∙ ap (valueAt o a) ez ∙ sym (ap (λ (c : Bool). cond c none (valueAt o a (later o b))) (ne-eqb (later o b) 0 (λ q. h (ez ∙ q)))) in
-      λ i. record { prev = o .kept .prev; since = ez i; value = w i; prior = ex i }
+      λ i. record { prev = o .kept .prev; prevB = o .kept .prevB; since = ez i; value = w i; prior = ex i }
 
 -- no more of the cells is needed than this
 pub absorb-near : (e : Eqn) (o a b : Cell) (x y : ℕ) → absorb e (movedCell (o .bound) (o .held) (o .kept)) (argCell x (a .held)) (argCell y (b .held)) ≡ absorb e o a b
@@ -41,6 +41,7 @@ absorb-near (one f _) o a b x y = refl
 absorb-near (two g _ _) o a b x y = refl
 absorb-near (last _ _) o a b x y = refl
 absorb-near (delay _ _) o a b x y = refl
+absorb-near (signal c _ _) o a b x y = refl
 
 -- ---- the record
 
@@ -60,6 +61,11 @@ module _ (k : Kept) (r : Raw) where
   unfolding delayKept
   delay-is h v p w eh ev ep ew = rw (eh, ev, ep, ew)
 
+  pub signal-is : (h v p w : ℕ) → h ≡ flagOf (k .prev) → v ≡ bitsOf (k .prev) → p ≡ flagOf (k .prevB) → w ≡ bitsOf (k .prevB)
+      → signalKept k r ≡ valueKept priorFlagF valueF p w (valueKept flagF keptF h v r)
+  unfolding signalKept
+  signal-is h v p w eh ev ep ew = rw (eh, ev, ep, ew)
+
   pub row-last : (a b h v : ℕ) → h ≡ flagOf (k .prev) → v ≡ bitsOf (k .prev) → keptRow (last a b) k r ≡ valueKept flagF keptF h v r
   unfolding keptRow
   row-last a b h v eh ev = rw (eh, ev)
@@ -67,6 +73,10 @@ module _ (k : Kept) (r : Raw) where
   pub row-delay : (a b : ℕ) → keptRow (delay a b) k r ≡ delayKept k r
   unfolding keptRow
   row-delay a b = refl
+
+  pub row-signal : (c : Calc) (a b : ℕ) → keptRow (signal c a b) k r ≡ signalKept k r
+  unfolding keptRow
+  row-signal c a b = refl
 
   -- an equation that keeps nothing
   pub row-none : (e : Eqn) → keeps e ≡ false → keptRow e k r ≡ r
@@ -78,6 +88,7 @@ module _ (k : Kept) (r : Raw) where
   row-none (two g a b) h = refl
   row-none (last a b) h = absurd (false≢true (sym h))
   row-none (delay a b) h = absurd (false≢true (sym h))
+  row-none (signal c a b) h = absurd (false≢true (sym h))
 
 -- ---- a cell's record with other kept data is the record of the cell with them
 
@@ -90,6 +101,7 @@ row-of k j (one f a) out y es n = refl
 row-of k j (two g a b) out y es n = refl
 row-of k j (last a b) out y es n = refl
 row-of k j (delay a b) out y es n = refl
+row-of k j (signal c a b) out y es n = refl
 
 pub kept-cell : (k : Kept) (c : Cell) → keptRow (c .eqn) k (ofCell c) ≡ ofCell (withKept k c)
 unfolding ofCell

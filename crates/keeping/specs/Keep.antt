@@ -1,7 +1,7 @@
--- How: what a last or a delay keeps, in the numbers of its record.
+-- How: what a last, a delay or a signal form keeps, in the numbers of its record.
 use Prim.Native.Nat.{ℕ}
 use mathlib.Core.List.{List}
-use Rattle.meaning.specs.Plan.{Eqn, input, nil, unit, one, two, last, delay}
+use Rattle.meaning.specs.Plan.{Eqn, input, nil, unit, one, two, last, delay, signal}
 use Rattle.meaning.specs.Events.{Event}
 use Rattle.machine.specs.State.{Cell, Kept, absent, withBound, withHeld, withKept}
 use Rattle.layout.specs.Record.{Raw, decRaw, withNum, flagF, priorFlagF, keptF, valueF, priorF}
@@ -25,9 +25,13 @@ unfoldable pub delayKept : Kept → Raw → Raw
 unfolding valueKept
 delayKept k r = valueKept priorFlagF priorF (flagOf (k .prior)) (bitsOf (k .prior)) (valueKept flagF valueF (flagOf (k .value)) (bitsOf (k .value)) (withNum keptF (k .since) r))
 
--- a last's and a delay's record with this kept; those of other equations stay as they are
+unfoldable pub signalKept : Kept → Raw → Raw
+unfolding valueKept
+signalKept k r = valueKept priorFlagF valueF (flagOf (k .prevB)) (bitsOf (k .prevB)) (valueKept flagF keptF (flagOf (k .prev)) (bitsOf (k .prev)) r)
+
+-- a last's, a delay's and a signal form's record with this kept; those of other equations stay as they are
 unfoldable pub keptRow : Eqn → Kept → Raw → Raw
-unfolding valueKept delayKept
+unfolding valueKept delayKept signalKept
 keptRow input k r = r
 keptRow nil k r = r
 keptRow unit k r = r
@@ -35,3 +39,4 @@ keptRow (one f a) k r = r
 keptRow (two g a b) k r = r
 keptRow (last a b) k r = valueKept flagF keptF (flagOf (k .prev)) (bitsOf (k .prev)) r
 keptRow (delay a b) k r = delayKept k r
+keptRow (signal c a b) k r = signalKept k r

@@ -3,7 +3,7 @@ ghost use mathlib.Core.Path.{_≡_};
 ghost use Prim.Native.Nat.{_+_, _≤_, _<_};
 ghost use mathlib.Core.List.{List};
 ghost use lib.ListN.{length};
-ghost use Rattle.meaning.specs.Plan.{last, delay};
+ghost use Rattle.meaning.specs.Plan.{Calc, last, delay, signal};
 ghost use Rattle.meaning.specs.Events.{Event};
 ghost use Rattle.machine.specs.State.{Cell};
 ghost use Rattle.machine.specs.Step as machine;
@@ -12,7 +12,7 @@ ghost use Rattle.encoding.specs.View.{flagOf, bitsOf};
 ghost use Rattle.queue.specs.Found.{asOption};
 ghost use Rattle.streams.specs.Look.{lookOf, equation, keptIn};
 ghost use Rattle.events.specs.Near.{holding};
-ghost use Rattle.keeping.specs.Keep.{movedCell, movedOf, valueKept, delayKept, keptRow};
+ghost use Rattle.keeping.specs.Keep.{movedCell, movedOf, valueKept, delayKept, signalKept, keptRow};
 use queue::Found;
 use streams::Kept;
 use streams::Op;
@@ -23,12 +23,33 @@ fn absorb_last(k: Kept, y: u64, a: &[u8]) -> Kept
     ensures { λ r. ⌜ ((es : List Event) (b : Cell) → keptIn r ≡ machine.absorb (last 0 0) (movedCell y es (keptIn k)) (holding (now (a .entry))) b) ⌝ }
 {
     let kept = k.prev;
-    let x = queue::latest_before(a, y);
-    let prev = apply::or_else(x, kept);
+    let prev = events::held_latest(a, y, kept);
+    let prevb = k.prevb;
     let value = k.value;
     let prior = k.prior;
     Kept {
         prev: prev,
+        prevb: prevb,
+        since: k.since,
+        value: value,
+        prior: prior,
+    }
+}
+
+// A signal form: the latest event of each argument below the bound y, held or kept.
+fn absorb_signal(k: Kept, y: u64, a: &[u8], b: &[u8]) -> Kept
+    requires { ⌜ (length (now a) ≡ 256) × (length (now b) ≡ 256) ⌝ }
+    ensures { λ r. ⌜ ((c : Calc) (es : List Event) → keptIn r ≡ machine.absorb (signal c 0 0) (movedCell y es (keptIn k)) (holding (now (a .entry))) (holding (now (b .entry)))) ⌝ }
+{
+    let first = k.prev;
+    let second = k.prevb;
+    let prev = events::held_latest(a, y, first);
+    let prevb = events::held_latest(b, y, second);
+    let value = k.value;
+    let prior = k.prior;
+    Kept {
+        prev: prev,
+        prevb: prevb,
         since: k.since,
         value: value,
         prior: prior,
@@ -52,10 +73,12 @@ fn absorb_delay(k: Kept, y: u64, o: &[u8], a: &[u8], b: &[u8]) -> Kept
 {
     let z = latest_point(k, y, o, b);
     let prev = k.prev;
+    let prevb = k.prevb;
     let prior = queue::find(a, events::before(y));
     if z == 0 {
         return Kept {
             prev: prev,
+            prevb: prevb,
             since: z,
             value: Found::Nothing,
             prior: prior,
@@ -64,6 +87,7 @@ fn absorb_delay(k: Kept, y: u64, o: &[u8], a: &[u8], b: &[u8]) -> Kept
     let value = events::set_value(k, a, z);
     Kept {
         prev: prev,
+        prevb: prevb,
         since: z,
         value: value,
         prior: prior,
@@ -84,6 +108,7 @@ pub fn absorbed(op: Op, k: Kept, y: u64, o: &[u8], a: &[u8], b: &[u8]) -> Kept
         Op::Two(_, _, _) => k,
         Op::Last(_, _) => absorb_last(k, y, a),
         Op::Delay(_, _) => absorb_delay(k, y, o, a, b),
+        Op::Signal(_, _, _) => absorb_signal(k, y, a, b),
     }
 }
 
@@ -132,7 +157,22 @@ fn keep_delay(r: &mut [u8], k: Kept)
     keep_value(r, 6, 5, has_prior, prior_bits);
 }
 
-// Stores what a last or a delay keeps in its record; those of other operators stay as they are.
+// Stores what a signal form keeps.
+fn keep_signal(r: &mut [u8], k: Kept)
+    requires { ⌜ length (now r) ≡ 256 ⌝ }
+    ensures { λ _. ⌜ now (r .exit) ≡ encRaw (signalKept (keptIn k) (decRaw (now (r .entry)))) ⌝ }
+{
+    let prev = k.prev;
+    let prevb = k.prevb;
+    let has_first = flag_of(prev);
+    let first_bits = bits_of(prev);
+    let has_second = flag_of(prevb);
+    let second_bits = bits_of(prevb);
+    keep_value(r, 5, 3, has_first, first_bits);
+    keep_value(r, 6, 4, has_second, second_bits);
+}
+
+// Stores what a last, a delay or a signal form keeps in its record; those of other operators stay as they are.
 pub fn keep(r: &mut [u8], op: Op, k: Kept)
     requires { ⌜ length (now r) ≡ 256 ⌝ }
     ensures { λ _. ⌜ now (r .exit) ≡ encRaw (keptRow (equation op) (keptIn k) (decRaw (now (r .entry)))) ⌝ }
@@ -150,5 +190,6 @@ pub fn keep(r: &mut [u8], op: Op, k: Kept)
             keep_value(r, 5, 3, has, bits);
         }
         Op::Delay(_, _) => keep_delay(r, k),
+        Op::Signal(_, _, _) => keep_signal(r, k),
     }
 }

@@ -54,11 +54,11 @@ outF = 3
 abbrev pub countF : ℕ
 countF = 4
 
--- whether what a last or a delay keeps is there: its value
+-- whether what is kept is there: a last's or a delay's value, a signal form's latest of a
 abbrev pub flagF : ℕ
 flagF = 5
 
--- and a delay's prior
+-- and a delay's prior, a signal form's latest of b
 abbrev pub priorFlagF : ℕ
 priorFlagF = 6
 
@@ -78,11 +78,11 @@ boundF = 9
 abbrev pub nextF : ℕ
 nextF = 10
 
--- a last's value, a delay's since
+-- a last's value, a delay's since, a signal form's latest of a
 abbrev pub keptF : ℕ
 keptF = 11
 
--- a delay's value
+-- a delay's value, a signal form's latest of b
 abbrev pub valueF : ℕ
 valueF = 12
 

@@ -27,9 +27,9 @@ pub const B: usize = 2;
 pub const OUT: usize = 3;
 // How many events are held.
 pub const COUNT: usize = 4;
-// Whether the value that a last or a delay keeps is there.
+// Whether what is kept is there: a last's or a delay's value, a signal form's latest of a.
 pub const FLAG: usize = 5;
-// Whether a delay's prior is there.
+// The same of a delay's prior, a signal form's latest of b.
 pub const PRIOR_FLAG: usize = 6;
 // Unused.
 pub const SMALL: usize = 7;
@@ -42,9 +42,9 @@ pub const K: usize = 0;
 pub const BOUND: usize = 1;
 // Of an output: one past the last collected stamp.
 pub const NEXT: usize = 2;
-// A last's value, a delay's since.
+// A last's value, a delay's since, a signal form's latest of a.
 pub const KEPT: usize = 3;
-// A delay's value.
+// A delay's value, a signal form's latest of b.
 pub const VALUE: usize = 4;
 // A delay's prior.
 pub const PRIOR: usize = 5;

@@ -6,7 +6,7 @@ use mathlib.Core.List.{List, [], _∷_, map}
 use native.Mathlib.Omega.{arith}
 use lib.Dec.{T}
 use lib.ListN.{length}
-use Rattle.meaning.specs.Plan.{Eqn, input, nil, unit, one, two, last, delay, isInput, Plan}
+use Rattle.meaning.specs.Plan.{Eqn, input, nil, unit, one, two, last, delay, signal, isInput, Plan}
 use Rattle.meaning.specs.Cycle.{Acyclic}
 use Rattle.machine.specs.State.{Declared, noKept, fresh, loaded, cellAt, planOf, declaredPlan}
 use Rattle.encoding.specs.Sound.{IsNext, IsKept, SoundCell, Own, Sound}
@@ -23,8 +23,9 @@ kept-fresh nil = refl
 kept-fresh unit = refl
 kept-fresh (one f a) = refl
 kept-fresh (two g a b) = refl
-kept-fresh (last a b) = record { prev = tt; fresh = λ e. refl; since = refl; value = refl; prior = refl }
-kept-fresh (delay a b) = record { prev = refl; since = omega arith; value = tt; prior = tt; unset = λ e. refl; fresh = λ e. refl }
+kept-fresh (last a b) = record { prev = tt; fresh = λ e. refl; prevB = refl; since = refl; value = refl; prior = refl }
+kept-fresh (delay a b) = record { prev = refl; prevB = refl; since = omega arith; value = tt; prior = tt; unset = λ e. refl; fresh = λ e. refl }
+kept-fresh (signal c a b) = record { prev = tt; prevB = tt; fresh = λ e. refl; freshB = λ e. refl; since = refl; value = refl; prior = refl }
 
 no-output : (x o : Bool) → (x && o) ≡ false → T x → o ≡ false
 no-output true o e t = e

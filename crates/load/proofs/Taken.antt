@@ -15,7 +15,7 @@ use Rattle.le.specs.Layout.{encRows, decFields, decRows}
 use Rattle.le.proofs.RoundTrip.{All}
 use Rattle.layout.specs.Record.{Raw, Raws, noSlot, noRaw, change, encRaw, decRaw, decSlot, encode, decode}
 use Rattle.layout.proofs.Laws.{RawOk, raw-ok, raw-dec, decode-encode}
-use Rattle.meaning.specs.Plan.{Eqn, input, nil, unit, one, two, last, delay}
+use Rattle.meaning.specs.Plan.{Eqn, input, nil, unit, one, two, last, delay, signal}
 use Rattle.meaning.specs.Arguments.{argA, argB}
 use Rattle.machine.specs.State.{State, Declared, noKept, fresh, loaded}
 use Rattle.operators.specs.Operators.{numberOf, valueOf}
@@ -71,6 +71,7 @@ kept-fresh (one f a) = refl
 kept-fresh (two g a b) = refl
 kept-fresh (last a b) = refl
 kept-fresh (delay a b) = refl
+kept-fresh (signal c a b) = refl
 
 fresh-plain : (d : Declared) → ofCell (fresh d) ≡ plain (numberOf (d .eqn)) (argA (d .eqn)) (argB (d .eqn)) (flag (d .out)) (ofZ w64 (valueOf (d .eqn)))
 unfolding ofCell padTo

@@ -1,14 +1,14 @@
--- States that no call leaves: a delay ahead of its second argument, or with events of its own. The steps from them,
--- computed by the checker.
+-- States that no call leaves: a delay ahead of its second argument, or with events of its own, and a signal form ahead of an
+-- argument. The steps from them, computed by the checker.
 use mathlib.Core.Path.{_≡_, refl}
 use mathlib.Core.Bool.{true, false}
 use mathlib.Core.Option.{Option, none, some}
 use mathlib.Core.List.{List, [], _∷_, map}
 use Prim.Native.Nat.{ℕ}
-use lib.IntN.{ℤ, pos}
-use Rattle.meaning.specs.Plan.{input, delay}
+use lib.IntN.{ℤ, pos, negsuc}
+use Rattle.meaning.specs.Plan.{sub, input, delay, signal}
 use Rattle.meaning.specs.Events.{Event, ev}
-use Rattle.meaning.specs.Table.{delay-at}
+use Rattle.meaning.specs.Table.{latest, delay-at, signal-at}
 use Rattle.machine.specs.State.{Kept, Cell, State, noKept, cellAt}
 use Rattle.machine.specs.Calls.{Call, reading, progress, moving}
 use Rattle.machine.proofs.Worked.{Result, said, results, bounds, afterAll}
@@ -20,7 +20,13 @@ abbrev delayTo : ℕ → List Event → Kept → Cell
 delayTo y es k = record { eqn = delay 0 1; out = true; bound = y; held = es; next = 0; kept = k }
 
 abbrev kept : ℕ → (value prior : Option ℤ) → Kept
-kept z v p = record { prev = none; since = z; value = v; prior = p }
+kept z v p = record { prev = none; prevB = none; since = z; value = v; prior = p }
+
+abbrev signalTo : ℕ → Kept → Cell
+signalTo y k = record { eqn = signal sub 0 1; out = true; bound = y; held = []; next = 0; kept = k }
+
+abbrev signalKept : (a b : Option ℤ) → Kept
+signalKept a b = record { prev = a; prevB = b; since = 0; value = none; prior = none }
 
 pub record Found : Type 0 where
   pub state : State
@@ -28,7 +34,7 @@ pub record Found : Type 0 where
   pub answers : List Result
   -- of all streams, after the last call
   pub reached : List ℕ
-  -- what the delay then keeps and holds
+  -- what stream 2 then keeps and holds
   pub keeps : Kept
   pub holds : List Event
 
@@ -88,23 +94,41 @@ founds =
       keeps = kept 6 none none;
       holds = ev 5 (pos 0) ∷ [];
     }
+    -- a signal form ahead of its argument is not told of the argument's event: 1 − 3, not 9 − 3
+    ∷ record {
+      state = inputTo 5 [] ∷ inputTo 30 [] ∷ signalTo 10 (signalKept (some (pos 1)) (some (pos 2))) ∷ [];
+      calls = reading 0 6 (pos 9) ∷ progress 0 40 ∷ reading 1 35 (pos 3) ∷ moving 2 ∷ moving 2 ∷ [];
+      answers = said 0 ∷ said 0 ∷ said 0 ∷ said 0 ∷ said 12 ∷ [];
+      reached = 40 ∷ 36 ∷ 36 ∷ [];
+      keeps = signalKept (some (pos 1)) (some (pos 3));
+      holds = ev 35 (negsuc 1) ∷ [];
+    }
+    -- one with a bound above the reach stays, and keeps what it kept
+    ∷ record {
+      state = inputTo 5 [] ∷ inputTo 8 (ev 3 (pos 4) ∷ []) ∷ signalTo 10 (signalKept (some (pos 1)) none) ∷ [];
+      calls = moving 2 ∷ [];
+      answers = said 12 ∷ [];
+      reached = 5 ∷ 8 ∷ 10 ∷ [];
+      keeps = signalKept (some (pos 1)) none;
+      holds = [];
+    }
     ∷ []
 
 abbrev after : Found → Cell
 after f = cellAt (afterAll (f .calls) (f .state)) 2
 
 pub answers-computed : map (λ f. results (f .calls) (f .state)) founds ≡ map (λ f. f .answers) founds
-unfolding results delay-at
+unfolding results latest delay-at signal-at
 answers-computed = refl
 
 pub bounds-computed : map (λ f. bounds (f .calls) (f .state)) founds ≡ map (λ f. f .reached) founds
-unfolding bounds delay-at
+unfolding bounds latest delay-at signal-at
 bounds-computed = refl
 
 pub kept-computed : map (λ f. after f .kept) founds ≡ map (λ f. f .keeps) founds
-unfolding afterAll delay-at
+unfolding afterAll latest delay-at signal-at
 kept-computed = refl
 
 pub held-computed : map (λ f. after f .held) founds ≡ map (λ f. f .holds) founds
-unfolding afterAll delay-at
+unfolding afterAll latest delay-at signal-at
 held-computed = refl

@@ -9,7 +9,7 @@ use native.Mathlib.Decide.{decLt}
 use lib.Dec.{T, eqb, eqb→eq, eqb-refl}
 use lib.ListN.{length, set, length-set}
 use lib.Seq.{set-out, getD-set-same, getD-set-other}
-use Rattle.meaning.specs.Plan.{Eqn, input, nil, unit, one, two, last, delay}
+use Rattle.meaning.specs.Plan.{Eqn, input, nil, unit, one, two, last, delay, signal}
 use Rattle.meaning.specs.Arguments.{reads, Each}
 use Rattle.meaning.specs.Events.{Event, horizon}
 use Rattle.meaning.proofs.Tests.{Is, yes!, no!, look, true-is, T-or, T-or-l, T-or-r}
@@ -20,14 +20,18 @@ use Rattle.machine.proofs.Rising.{drop-nil, drop-again}
 
 -- ---- reading
 
+pair-read : (a b : ℕ) → T (eqb a a || eqb b a) × (T (eqb a b || eqb b b) × Unit {0})
+pair-read a b = (T-or-l (eqb a a) (eqb b a) (eqb-refl a), (T-or-r (eqb a b) (eqb b b) (eqb-refl b), tt))
+
 pub each-read : (e : Eqn) → Each (λ a. T (readsIt a e)) (reads e)
 each-read input = tt
 each-read nil = tt
 each-read unit = tt
 each-read (one f a) = (eqb-refl a, tt)
-each-read (two g a b) = (T-or-l (eqb a a) (eqb b a) (eqb-refl a), (T-or-r (eqb a b) (eqb b b) (eqb-refl b), tt))
-each-read (last a b) = (T-or-l (eqb a a) (eqb b a) (eqb-refl a), (T-or-r (eqb a b) (eqb b b) (eqb-refl b), tt))
-each-read (delay a b) = (T-or-l (eqb a a) (eqb b a) (eqb-refl a), (T-or-r (eqb a b) (eqb b b) (eqb-refl b), tt))
+each-read (two g a b) = pair-read a b
+each-read (last a b) = pair-read a b
+each-read (delay a b) = pair-read a b
+each-read (signal c a b) = pair-read a b
 
 -- the number is one of the list
 abbrev pub among : ℕ → List ℕ → Bool
@@ -53,6 +57,7 @@ read-among s (one f a) h = T-or-l (eqb s a) false (flip a s h)
 read-among s (two g a b) h = pair-among s a b h
 read-among s (last a b) h = pair-among s a b h
 read-among s (delay a b) h = pair-among s a b h
+read-among s (signal c a b) h = pair-among s a b h
 
 -- ---- the least reader
 

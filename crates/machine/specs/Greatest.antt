@@ -3,7 +3,7 @@ use Prim.Native.Nat.{ℕ, suc, _+_, _≤_, _<_}
 use mathlib.Core.Path.{_≡_}
 use mathlib.Core.Logic.{_⊎_}
 use lib.Dec.{T}
-use Rattle.meaning.specs.Plan.{Eqn, input, nil, unit, one, two, last, delay}
+use Rattle.meaning.specs.Plan.{Eqn, input, nil, unit, one, two, last, delay, signal}
 use Rattle.meaning.specs.Events.{has, horizon}
 use Rattle.machine.specs.State.{Cell}
 use Rattle.machine.specs.Reach.{view}
@@ -24,6 +24,7 @@ HeldFixes (one f _) o a b k = k ≤ a .bound
 HeldFixes (two g _ _) o a b k = (k ≤ a .bound) × (k ≤ b .bound)
 HeldFixes (last _ _) o a b k = (k ≤ b .bound) × ((t : ℕ) → T (has (view b t)) → o .bound ≤ t → a .bound < t → k ≤ t)
 HeldFixes (delay _ _) o a b k = (k ≤ suc (b .bound)) × (k ≤ horizon) × ((p : ℕ) → HeldPoint o b p → p + 1 < k → p < a .bound)
+HeldFixes (signal c _ _) o a b k = (k ≤ a .bound) × (k ≤ b .bound)
 
 -- a delay's own held events lie below one past its latest kept set point: so in every state that is not refused 15
 abbrev pub OwnKept : Eqn → Cell → Type 0
@@ -34,3 +35,4 @@ OwnKept (one f _) o = Unit {0}
 OwnKept (two g _ _) o = Unit {0}
 OwnKept (last _ _) o = Unit {0}
 OwnKept (delay _ _) o = (p : ℕ) → T (has (view o p)) → p < o .kept .since
+OwnKept (signal c _ _) o = Unit {0}

@@ -5,9 +5,9 @@ use mathlib.Core.Bool.{Bool, true, false, cond, _&&_}
 use mathlib.Core.Option.{Option, none, some}
 use lib.Dec.{ltb, eqb}
 use lib.IntN.{ℤ}
-use Rattle.meaning.specs.Plan.{Eqn, input, nil, unit, one, two, last, delay}
+use Rattle.meaning.specs.Plan.{Eqn, input, nil, unit, one, two, last, delay, signal}
 use Rattle.meaning.specs.Events.{Stream, found, has, orElse, horizon}
-use Rattle.meaning.specs.Table.{one-at, two-at, unit-at, latest, last-at, is, delay-at}
+use Rattle.meaning.specs.Table.{one-at, two-at, unit-at, latest, last-at, signal-at, is, delay-at}
 use Rattle.machine.specs.State.{Cell}
 
 -- the held events, as a stream
@@ -34,6 +34,7 @@ limit (one f _) o a b = a .bound
 limit (two g _ _) o a b = min (a .bound) (b .bound)
 limit (last _ _) o a b = b .bound
 limit (delay _ _) o a b = min (suc (b .bound)) horizon
+limit (signal c _ _) o a b = min (a .bound) (b .bound)
 
 -- one past a delay's latest set point below t, if the delay itself has no event from its bound on. Its own held events
 -- are counted in `since`: `point-own` in crates/encoding/proofs/Points.antt.
@@ -52,6 +53,7 @@ stops (one f _) o a b t = false
 stops (two g _ _) o a b t = false
 stops (last _ _) o a b t = has (view b t) && ltb (a .bound) t
 stops (delay _ _) o a b t = ltb (a .bound) (point o b t)
+stops (signal c _ _) o a b t = false
 
 -- the reach, from the bound y on: "a reach below y counts as y"
 unfoldable pub reach : Eqn → (o a b : Cell) → ℕ
@@ -66,6 +68,10 @@ valueAt o a z = orElse (view a (pred z)) (cond (eqb z (o .kept .since)) (o .kept
 abbrev pub due : (o a : Cell) → (z t : ℕ) → Bool
 due o a z t = ltb 0 z && is (t - pred z) (valueAt o a z)
 
+-- what stream x had latest below t: held, or else kept
+abbrev pub heldLatest : Cell → ℕ → Option ℤ → Option ℤ
+heldLatest x t kept = orElse (latest (view x) t) kept
+
 -- what the equation has at t, from its bound on and below its reach, if it has no event between
 abbrev pub gives : Eqn → (o a b : Cell) → ℕ → Option ℤ
 gives input o a b t = none
@@ -73,8 +79,9 @@ gives nil o a b t = none
 gives unit o a b t = unit-at t
 gives (one f _) o a b t = one-at f t (view a t)
 gives (two g _ _) o a b t = two-at g (view a t) (view b t)
-gives (last _ _) o a b t = last-at (view b t) (orElse (latest (view a) t) (o .kept .prev))
+gives (last _ _) o a b t = last-at (view b t) (heldLatest a t (o .kept .prev))
 gives (delay _ _) o a b t = delay-at (due o a (point o b t) t)
+gives (signal c _ _) o a b t = signal-at c (view a t) (view b t) (heldLatest a (suc t) (o .kept .prev)) (heldLatest b (suc t) (o .kept .prevB))
 
 -- the stamp of the first event at or above the bound and below the reach, or the reach
 unfoldable pub first : Eqn → (o a b : Cell) → ℕ

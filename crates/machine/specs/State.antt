@@ -12,10 +12,12 @@ use Rattle.meaning.specs.Events.{Event}
 abbrev pub room : ℕ
 room = 16
 
--- What a last or a delay keeps of events that are held no longer
+-- What a last, a delay or a signal form keeps of events that are held no longer
 pub record Kept : Type 0 where
-  -- of a last: the value of a's latest known event below the bound
+  -- of a last and of a signal form: the value of a's latest known event below the bound
   pub prev : Option ℤ
+  -- of a signal form: the value of b's latest known event below the bound
+  pub prevB : Option ℤ
   -- of a delay: one past the latest known set point below the bound, 0 if there is none
   pub since : ℕ
   -- of a delay: a's event at that set point, if known
@@ -40,20 +42,23 @@ abbrev pub State : Type 0
 State = List Cell
 
 abbrev pub noKept : Kept
-noKept = record { prev = none; since = 0; value = none; prior = none }
+noKept = record { prev = none; prevB = none; since = 0; value = none; prior = none }
 
 -- what is kept with another field
 abbrev pub withPrev : Option ℤ → Kept → Kept
-withPrev p k = record { prev = p; since = k .since; value = k .value; prior = k .prior }
+withPrev p k = record { prev = p; prevB = k .prevB; since = k .since; value = k .value; prior = k .prior }
+
+abbrev pub withPrevB : Option ℤ → Kept → Kept
+withPrevB p k = record { prev = k .prev; prevB = p; since = k .since; value = k .value; prior = k .prior }
 
 abbrev pub withSince : ℕ → Kept → Kept
-withSince z k = record { prev = k .prev; since = z; value = k .value; prior = k .prior }
+withSince z k = record { prev = k .prev; prevB = k .prevB; since = z; value = k .value; prior = k .prior }
 
 abbrev pub withValue : Option ℤ → Kept → Kept
-withValue v k = record { prev = k .prev; since = k .since; value = v; prior = k .prior }
+withValue v k = record { prev = k .prev; prevB = k .prevB; since = k .since; value = v; prior = k .prior }
 
 abbrev pub withPrior : Option ℤ → Kept → Kept
-withPrior p k = record { prev = k .prev; since = k .since; value = k .value; prior = p }
+withPrior p k = record { prev = k .prev; prevB = k .prevB; since = k .since; value = k .value; prior = p }
 
 -- A stream as a plan text declares it: its equation, and whether it is an output
 pub record Declared : Type 0 where

@@ -6,12 +6,11 @@ use mathlib.Core.List.{List, [], _∷_, _++_, map}
 use lib.Dec.{leb, ltb, eqb}
 use lib.ListN.{length, set}
 use lib.IntN.{ℤ}
-use Rattle.meaning.specs.Plan.{Eqn, input, nil, unit, one, two, last, delay, isInput}
+use Rattle.meaning.specs.Plan.{Eqn, input, nil, unit, one, two, last, delay, signal, isInput}
 use Rattle.meaning.specs.Arguments.{reads, argA, argB}
-use Rattle.meaning.specs.Events.{Event, ev, horizon, orElse}
-use Rattle.meaning.specs.Table.{latest}
-use Rattle.machine.specs.State.{Kept, Cell, State, cellAt, room, withBound, withHeld, withKept, withPrev, withSince, withValue, withPrior}
-use Rattle.machine.specs.Reach.{view, pastLatest, valueAt, Next, event, silent, decide}
+use Rattle.meaning.specs.Events.{Event, ev, horizon}
+use Rattle.machine.specs.State.{Kept, Cell, State, cellAt, room, withBound, withHeld, withKept, withPrev, withPrevB, withSince, withValue, withPrior}
+use Rattle.machine.specs.Reach.{view, pastLatest, valueAt, heldLatest, Next, event, silent, decide}
 
 -- ---- Write: the bound goes to y, with the new events below it; own kept data follows
 
@@ -29,11 +28,12 @@ absorb nil o a b = o .kept
 absorb unit o a b = o .kept
 absorb (one f _) o a b = o .kept
 absorb (two g _ _) o a b = o .kept
-absorb (last _ _) o a b = withPrev (orElse (latest (view a) (o .bound)) (o .kept .prev)) (o .kept)
+absorb (last _ _) o a b = withPrev (heldLatest a (o .bound) (o .kept .prev)) (o .kept)
 absorb (delay _ _) o a b =
     withSince (later o b)
     (withValue (cond (eqb (later o b) 0) none (valueAt o a (later o b)))
     (withPrior (view a (pred (o .bound))) (o .kept)))
+absorb (signal c _ _) o a b = withPrev (heldLatest a (o .bound) (o .kept .prev)) (withPrevB (heldLatest b (o .bound) (o .kept .prevB)) (o .kept))
 
 unfoldable pub absorbed : ℕ → State → State
 absorbed s M =
@@ -70,7 +70,9 @@ priorTold isA y t v k = withPrior (cond (isA && eqb y (t + 1)) (some v) (k .prio
 abbrev pub sinceTold : Bool → (y t : ℕ) → Kept → Kept
 sinceTold isB y t k = cond (isB && leb (k .since) t) (withSince (t + 1) (withValue (cond (eqb y (t + 1)) (k .prior) none) k)) k
 
--- what an equation with bound y keeps when the event (t, v) of stream s comes in below its bound
+-- what an equation with bound y keeps when the event (t, v) of stream s comes in below its bound. A signal form is never told:
+-- its bound is never above an argument's, so in a run no event of an argument comes in below it (`Ahead` in
+-- crates/runs/proofs/Tracks.antt).
 abbrev pub keptTold : Eqn → (s y t : ℕ) → ℤ → Kept → Kept
 keptTold input s y t v k = k
 keptTold nil s y t v k = k
@@ -79,6 +81,7 @@ keptTold (one f a) s y t v k = k
 keptTold (two g a b) s y t v k = k
 keptTold (last a b) s y t v k = withPrev (cond (eqb a s) (some v) (k .prev)) k
 keptTold (delay a b) s y t v k = sinceTold (eqb b s) y t (priorTold (eqb a s) y t v (valueTold (eqb a s) t v k))
+keptTold (signal c a b) s y t v k = k
 
 unfoldable pub told : (s t : ℕ) → ℤ → Cell → Cell
 told s t v c = withKept (cond (ltb t (c .bound)) (keptTold (c .eqn) s (c .bound) t v (c .kept)) (c .kept)) c

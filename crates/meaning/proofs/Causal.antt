@@ -5,7 +5,7 @@ use Prim.Native.Nat.{ℕ, zero, suc, _<_}
 use native.Mathlib.Nat.{lt-suc-self}
 use native.Mathlib.Omega.{arith}
 use lib.Dec.{T, ltb}
-use Rattle.meaning.specs.Plan.{Eqn, input, nil, unit, one, two, last, delay, isInput}
+use Rattle.meaning.specs.Plan.{Eqn, input, nil, unit, one, two, last, delay, signal, isInput}
 use Rattle.meaning.specs.Arguments.{undelayed, Each}
 use Rattle.meaning.specs.Events.{Stream, Streams, has, events}
 use Rattle.meaning.specs.Table.{latest, any-below, fires, delay-at, at}
@@ -42,6 +42,8 @@ at-cong (two g a b) rd rd′ S S′ s t r now past = rw (now .0, now .1 .0)
 at-cong (last a b) rd rd′ S S′ s t r now past = rw (now .0, latest-cong (S a) (S′ a) t (past a))
 at-cong (delay a b) rd rd′ S S′ s t r now past =
     ap delay-at (fires-cong (S a) (S b) (S s) (S′ a) (S′ b) (S′ s) t (past a) (past b) (past s))
+at-cong (signal c a b) rd rd′ S S′ s t r now past =
+    rw (now .0, now .1 .0, latest-cong (S a) (S′ a) t (past a), latest-cong (S b) (S′ b) t (past b))
 
 -- streams that agree below t have the same events there
 pub events-cong : (f g : Stream) (t : ℕ) → SameBelow t f g → events f t ≡ events g t

@@ -1,6 +1,7 @@
 pub mod Tests
 pub mod Options
 pub mod Each
+pub mod Inputs
 pub mod Induction
 pub mod Clear
 pub mod Free
@@ -15,3 +16,4 @@ pub mod Silence
 pub mod CycleTest
 pub mod Computed
 pub mod CasesHold
+pub mod Spelled

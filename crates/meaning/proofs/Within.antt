@@ -1,14 +1,14 @@
 -- Every argument is a stream of the plan: as a property, and as a test.
-use mathlib.Core.Bool.{Bool}
-use mathlib.Core.List.{List·Memᴰ, List·Memᴰ·not-nil}
+use mathlib.Core.Bool.{Bool, true, false, cond}
+use mathlib.Core.List.{List, [], _∷_, map, List·Memᴰ, List·Memᴰ·not-nil}
 use Prim.Native.Nat.{ℕ, zero, suc, _<_}
 use native.Mathlib.Nat.{not-suc-le-zero}
 use native.Mathlib.Omega.{arith}
 use native.Mathlib.Decide.{decLt}
 use lib.Dec.{T, ltb, ltb→lt}
 use lib.ListN.{length, List·getD-eq-default}
-use Rattle.meaning.specs.Plan.{Eqn, input, nil, unit, one, two, last, delay, Plan, eqnAt}
-use Rattle.meaning.specs.Arguments.{reads, undelayed, Each}
+use Rattle.meaning.specs.Plan.{Eqn, nil, Plan, eqnAt}
+use Rattle.meaning.specs.Arguments.{Argument, arguments, reads, prompts, undelayed, Each}
 use Rattle.meaning.specs.CycleTest.{downFrom}
 use Rattle.meaning.proofs.Each.{all, each-map, each-at, all-each}
 use Rattle.meaning.proofs.Induction.{below-suc}
@@ -28,14 +28,17 @@ unfolding downFrom
 below-each P zero h = tt
 below-each P (suc n) h = (h n (omega arith), below-each P n (λ s l. h s (omega arith)))
 
+each-prompt : (P : ℕ → Type 0) (xs : List Argument) → Each P (map (λ x. x .stream) xs) → Each P (prompts xs)
+each-prompt P [] h = tt
+each-prompt P (x ∷ xs) h = go (x .delayed) (each-prompt P xs (h .1))
+  where
+    go : (late : Bool) → Each P (prompts xs) → Each P (cond late (prompts xs) (x .stream ∷ prompts xs))
+    go true rest = rest
+    go false rest = (h .0, rest)
+
+-- what holds of all arguments holds of the undelayed ones
 pub undelayed-read : (P : ℕ → Type 0) (e : Eqn) → Each P (reads e) → Each P (undelayed e)
-undelayed-read P input h = tt
-undelayed-read P nil h = tt
-undelayed-read P unit h = tt
-undelayed-read P (one f a) h = h
-undelayed-read P (two g a b) h = h
-undelayed-read P (last a b) h = h .1
-undelayed-read P (delay a b) h = h .1
+undelayed-read P e h = each-prompt P (arguments e) h
 
 pub reads-within : (plan : Plan) → ((s : ℕ) → s < length plan → Each (λ a. a < length plan) (reads (eqnAt plan s))) → Within plan
 reads-within plan below s a m = go (decLt s (length plan))

@@ -4,7 +4,7 @@ use mathlib.Core.Bool.{Bool, true, false}
 use mathlib.Core.List.{List, [], _∷_}
 use lib.ListN.{getD}
 use lib.IntN.{ℤ, pos, negsuc}
-use Rattle.meaning.specs.Plan.{Unary, time, neg, set, plus, add, sub, mul, div, rem, lt, le, eq, Binary, calc, keep, merge, input, nil, unit, one, two, last, delay, Plan}
+use Rattle.meaning.specs.Plan.{Unary, time, neg, set, plus, Calc, add, sub, mul, div, rem, lt, le, eq, Binary, calc, keep, merge, input, nil, unit, one, two, last, delay, signal, Plan}
 use Rattle.meaning.specs.Events.{Event, ev, Streams, found}
 
 pub record Case : Type 0 where
@@ -43,6 +43,18 @@ lasting a b e = case (input ∷ input ∷ last 0 1 ∷ []) (a ∷ b ∷ []) 2 6 
 
 abbrev pub delayed : List Event → List Event → List Event → Case
 delayed a b e = case (input ∷ input ∷ delay 0 1 ∷ []) (a ∷ b ∷ []) 2 15 e
+
+abbrev pub signaled : Calc → List Event → List Event → List Event → Case
+signaled c a b e = case (input ∷ input ∷ signal c 0 1 ∷ []) (a ∷ b ∷ []) 2 6 e
+
+-- a signal form as stream 2, and the same spelled out as stream 7
+abbrev pub besideSpelled : Plan
+besideSpelled = input ∷ input ∷ signal add 0 1 ∷ last 0 1 ∷ two merge 0 3 ∷ last 1 0 ∷ two merge 1 5 ∷ two (calc add) 4 6 ∷ []
+
+abbrev pub spelledOut : ℕ → Case
+spelledOut s =
+    case besideSpelled ((ev 3 (pos 7) ∷ ev 5 (pos 8) ∷ ev 6 (pos 1) ∷ []) ∷ (ev 5 (pos 10) ∷ ev 9 (pos 2) ∷ []) ∷ []) s 12
+    (ev 5 (pos 18) ∷ ev 6 (pos 11) ∷ ev 9 (pos 3) ∷ [])
 
 -- the least and the greatest value
 abbrev pub least : ℤ
@@ -97,6 +109,20 @@ cases =
     ∷ binary (calc lt) (ev 1 (pos 1) ∷ ev 2 (pos 2) ∷ ev 3 (pos 3) ∷ []) (ev 1 (pos 2) ∷ ev 2 (pos 2) ∷ ev 3 (pos 2) ∷ []) (ev 1 (pos 1) ∷ ev 2 (pos 0) ∷ ev 3 (pos 0) ∷ [])
     ∷ binary (calc le) (ev 1 (pos 1) ∷ ev 2 (pos 2) ∷ ev 3 (pos 3) ∷ []) (ev 1 (pos 2) ∷ ev 2 (pos 2) ∷ ev 3 (pos 2) ∷ []) (ev 1 (pos 1) ∷ ev 2 (pos 1) ∷ ev 3 (pos 0) ∷ [])
     ∷ binary (calc eq) (ev 1 (pos 1) ∷ ev 2 (pos 2) ∷ ev 3 (pos 3) ∷ []) (ev 1 (pos 2) ∷ ev 2 (pos 2) ∷ ev 3 (pos 2) ∷ []) (ev 1 (pos 0) ∷ ev 2 (pos 1) ∷ ev 3 (pos 0) ∷ [])
+    -- a signal form: none before both have had an event; at one stamp both, the values there
+    ∷ signaled add (ev 3 (pos 7) ∷ []) (ev 5 (pos 10) ∷ []) (ev 5 (pos 17) ∷ [])
+    ∷ signaled add (ev 2 (pos 1) ∷ ev 4 (pos 5) ∷ []) (ev 4 (pos 10) ∷ []) (ev 4 (pos 15) ∷ [])
+    -- a zero divisor gives none and is still the latest value; so with a result outside the range, not made up for later
+    ∷ signaled div (ev 1 (pos 8) ∷ ev 4 (pos 9) ∷ []) (ev 2 (pos 0) ∷ ev 3 (pos 2) ∷ []) (ev 3 (pos 4) ∷ ev 4 (pos 4) ∷ [])
+    ∷ signaled add (ev 1 greatest ∷ []) (ev 1 (pos 1) ∷ ev 3 (pos 0) ∷ []) (ev 3 greatest ∷ [])
+    -- an argument whose own result is missing keeps its older value
+    ∷ case (input ∷ one (plus (pos 1)) 0 ∷ input ∷ signal add 1 2 ∷ []) ((ev 1 (pos 5) ∷ ev 3 greatest ∷ []) ∷ [] ∷ (ev 3 (pos 10) ∷ []) ∷ []) 3 6 (ev 3 (pos 16) ∷ [])
+    -- both arguments one stream; a comparison at every change of either
+    ∷ case (input ∷ signal mul 0 0 ∷ []) ((ev 1 (pos 3) ∷ ev 2 (negsuc 3) ∷ []) ∷ []) 1 4 (ev 1 (pos 9) ∷ ev 2 (pos 16) ∷ [])
+    ∷ signaled lt (ev 1 (pos 5) ∷ ev 2 (pos 4) ∷ []) (ev 1 (pos 5) ∷ ev 3 (pos 3) ∷ []) (ev 1 (pos 0) ∷ ev 2 (pos 1) ∷ ev 3 (pos 0) ∷ [])
+    -- a signal form, and the same spelled out
+    ∷ spelledOut 2
+    ∷ spelledOut 7
     -- nil has no event, unit one of value 0 at stamp 0
     ∷ case (nil ∷ []) [] 0 4 []
     ∷ case (unit ∷ []) [] 0 4 (ev 0 (pos 0) ∷ [])
@@ -129,4 +155,8 @@ verdicts =
     ∷ verdict (input ∷ last 0 1 ∷ []) false
     ∷ verdict (input ∷ delay 0 2 ∷ one time 1 ∷ []) false
     ∷ verdict (input ∷ delay 2 0 ∷ one time 1 ∷ []) true
+    -- neither argument of a signal form is delayed
+    ∷ verdict (input ∷ signal add 1 0 ∷ []) false
+    ∷ verdict (input ∷ signal add 0 1 ∷ []) false
+    ∷ verdict (input ∷ last 2 0 ∷ signal add 0 1 ∷ []) true
     ∷ []

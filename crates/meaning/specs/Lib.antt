@@ -6,3 +6,4 @@ pub mod Cycle
 pub mod CycleTest
 pub mod Meaning
 pub mod Cases
+pub mod Spelled

@@ -24,6 +24,8 @@ pub data Eqn : Type 0 where
   one : Unary → ℕ → Eqn
   two : Binary → ℕ → ℕ → Eqn
   last delay : ℕ → ℕ → Eqn
+  -- sadd ssub smul sdiv srem slt sle seq: the signal form of the arithmetic
+  signal : Calc → ℕ → ℕ → Eqn
 
 abbrev pub Plan : Type 0
 Plan = List Eqn
@@ -40,3 +42,4 @@ isInput (one f a) = false
 isInput (two g a b) = false
 isInput (last a b) = false
 isInput (delay a b) = false
+isInput (signal c a b) = false

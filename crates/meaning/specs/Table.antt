@@ -8,7 +8,7 @@ use lib.IntN.{ℤ, pos, negsuc}
 use Rattle.num.specs.declared.Answer.{Answer}
 use Rattle.num.specs.declared.Answer.the-variants.{Value, Outside, ZeroDivisor}
 use Rattle.num.specs.Arithmetic.{isZero, negated, added, subtracted, multiplied, divided, remainder, less, atMost, equal}
-use Rattle.meaning.specs.Plan.{Unary, time, neg, set, plus, Calc, add, sub, mul, div, rem, lt, le, eq, Binary, calc, keep, merge, Eqn, input, nil, unit, one, two, last, delay, Plan, eqnAt}
+use Rattle.meaning.specs.Plan.{Unary, time, neg, set, plus, Calc, add, sub, mul, div, rem, lt, le, eq, Binary, calc, keep, merge, Eqn, input, nil, unit, one, two, last, delay, signal, Plan, eqnAt}
 use Rattle.meaning.specs.Events.{Stream, Streams, has, orElse}
 
 -- "A result outside the value range, or a zero divisor, gives no event."
@@ -64,6 +64,13 @@ unfoldable pub last-at : Option ℤ → Option ℤ → Option ℤ
 last-at none v = none
 last-at (some x) v = v
 
+-- sadd to seq, where a and b have at t what stands first and x and y are their latest values at t or before: "It has an event
+-- at each stamp where either argument has one and both have had one at that stamp or before, and works on the latest values;
+-- a result outside the range or a zero divisor still gives no event."
+unfoldable pub signal-at : Calc → (a b x y : Option ℤ) → Option ℤ
+unfolding two-at
+signal-at c a b x y = cond (has a || has b) (two-at (calc c) x y) none
+
 -- some stamp below t passes the test
 unfoldable pub any-below : ℕ → (ℕ → Bool) → Bool
 any-below zero f = false
@@ -89,7 +96,7 @@ delay-at false = none
 
 -- the table: what stream s with this equation has at stamp t, of the readings rd and all streams S
 unfoldable pub at : Eqn → (rd S : Streams) → (s t : ℕ) → Option ℤ
-unfolding one-at two-at unit-at last-at latest delay-at fires
+unfolding one-at two-at unit-at last-at latest delay-at fires signal-at
 at input rd S s t = rd s t
 at nil rd S s t = none
 at unit rd S s t = unit-at t
@@ -97,6 +104,7 @@ at (one f a) rd S s t = one-at f t (S a t)
 at (two g a b) rd S s t = two-at g (S a t) (S b t)
 at (last a b) rd S s t = last-at (S b t) (latest (S a) t)
 at (delay a b) rd S s t = delay-at (fires (S a) (S b) (S s) t)
+at (signal c a b) rd S s t = signal-at c (S a t) (S b t) (latest (S a) (suc t)) (latest (S b) (suc t))
 
 -- S solves the plan for the readings rd below the stamp h: each stream has at each stamp what its row says
 pub record Solves (plan : Plan) (rd S : Streams) (h : ℕ) : Type 0 where

@@ -4,7 +4,7 @@ use mathlib.Core.Path.{_≡_, refl, sym, ap, _∙_}
 use mathlib.Core.Bool.{Bool, true, false, not, _&&_}
 use native.Mathlib.Omega.{arith}
 use borrow.Author.Tests.{eq-eqb, ne-eqb}
-use Rattle.meaning.specs.Plan.{Eqn, input, nil, unit, one, two, last, delay, isInput}
+use Rattle.meaning.specs.Plan.{Eqn, input, nil, unit, one, two, last, delay, signal, isInput}
 use Rattle.meaning.specs.Events.{horizon}
 use Rattle.machine.specs.State.{Kept, Cell, noKept}
 use Rattle.machine.specs.Reach.{Next, silent, limit, decide}
@@ -31,6 +31,7 @@ limit-own (one f _) o a b k = refl
 limit-own (two g _ _) o a b k = refl
 limit-own (last _ _) o a b k = refl
 limit-own (delay _ _) o a b k = refl
+limit-own (signal c _ _) o a b k = refl
 
 -- ---- an argument that is not ahead: its bound x and the stream's bound y as they are stored
 
@@ -93,6 +94,7 @@ module _ (n i : ℕ) (st : Raws) where
   not-input (two g _ _) q h = refl
   not-input (last _ _) q h = refl
   not-input (delay _ _) q h = refl
+  not-input (signal c _ _) q h = refl
 
   pub can-moves : (boundRaw (aheadRaw n i st) (num countF (rowAt st i)) ≡ ownIn i st .bound → ⊥) → canRaw n i st ≡ true
   unfolding canRaw

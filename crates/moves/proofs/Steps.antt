@@ -20,6 +20,7 @@ use Rattle.layout.specs.Record.{Slot, Raw, Raws, noRaw, num, withNum, dropped, 
 use Rattle.layout.proofs.Laws.{RawOk, RawsOk, raws-ok, row-ok, change-ok, changeAll-ok, num-ok, num-small, whole-then, encode-decode}
 use Rattle.layout.proofs.Slots.{shift-ok}
 use Rattle.encoding.specs.Back.{heldOf}
+use Rattle.preserve.proofs.Values.{Holds}
 use Rattle.streams.proofs.Laws.{keeps}
 use Rattle.keeping.specs.Keep.{movedCell, keptRow}
 use Rattle.keeping.proofs.Laws.{row-none}
@@ -76,12 +77,11 @@ module _ (n : ℕ) (i : ℕ) (hi : i < n) where
   unfolding absorbedRaw
   absorbed-ok e k y f h st ok =
       let r = rowAt st i in
-      let x = argIn n (argA e) in
       let a = otherIn n (argA e) st in
       let b = otherIn n (argB e) st in
       let o = movedCell y (heldOf r) k in
-      let holds = look-holds (rowAt st x) (row-ok n st x ok (argIn-below n (argA e) (omega arith))) in
-      change-ok n st i (keptRow e (absorb e o a b)) ok (kept-ok e (absorb e o a b) r (absorb-fits e o a b h f holds) (row-ok n st i ok hi))
+      let holds : (x : ℕ) → Holds (otherIn n x st) = λ x. look-holds (rowAt st (argIn n x)) (row-ok n st (argIn n x) ok (argIn-below n x (omega arith))) in
+      change-ok n st i (keptRow e (absorb e o a b)) ok (kept-ok e (absorb e o a b) r (absorb-fits e o a b h f (holds (argA e)) (holds (argB e))) (row-ok n st i ok hi))
 
   bound-ok : (y : ℕ) → y ≤ horizon → (st : Raws) → RawsOk n st → RawsOk n (change i (withNum boundF y) st)
   bound-ok y h st ok = change-ok n st i (withNum boundF y) ok (num-ok (rowAt st i) boundF y (row-ok n st i ok hi) (omega arith))

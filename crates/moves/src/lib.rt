@@ -40,6 +40,17 @@ fn bound_of(state: &[u8], n: usize, a: u8) -> u64
     layout::word_at(layout::row_at(state, i), layout::BOUND)
 }
 
+// Whether the bounds as they are stored say that one of two arguments is not ahead of a bound.
+fn not_ahead(state: &[u8], n: usize, a: u8, b: u8, bound: u64) -> bool
+    requires { ⌜ (n * 256 ≤ length (now state)) × (0 < n) ⌝ }
+    ensures { λ r. ⌜ (r ≡ true → min (otherIn n a (decode n (now (state .entry))) .bound) (otherIn n b (decode n (now (state .entry))) .bound) ≤ min bound horizon) ⌝ }
+{
+    if bound_of(state, n, a) <= bound {
+        return true;
+    }
+    bound_of(state, n, b) <= bound
+}
+
 // Whether the bounds alone, as they are stored, say that a stream with this operator cannot move: it is an input, an
 // argument that it waits for is not ahead of it, or it has none and is known to the end.
 // Most streams that a run looks at cannot move, and end here.
@@ -52,14 +63,10 @@ fn stuck(state: &[u8], n: usize, op: Op, bound: u64) -> bool
         Op::Nil => bound == Bound::HORIZON,
         Op::Unit => bound == Bound::HORIZON,
         Op::One(_, a) => bound_of(state, n, a) <= bound,
-        Op::Two(_, a, b) => {
-            if bound_of(state, n, a) <= bound {
-                return true;
-            }
-            bound_of(state, n, b) <= bound
-        }
+        Op::Two(_, a, b) => not_ahead(state, n, a, b, bound),
         Op::Last(_, b) => bound_of(state, n, b) <= bound,
         Op::Delay(_, b) => bound_of(state, n, b) < bound,
+        Op::Signal(_, a, b) => not_ahead(state, n, a, b, bound),
     }
 }
 
@@ -86,7 +93,7 @@ fn kept(state: &[u8], n: usize, i: usize, op: Op, k: Kept, y: u64) -> Kept
     keeping::absorbed(op, k, y, own, a, b)
 }
 
-// Brings what stream i, a last or a delay, keeps up to date.
+// Brings what stream i, a last, a delay or a signal form, keeps up to date.
 fn keep_row(state: &mut [u8], n: usize, i: usize, op: Op, k: Kept, y: u64)
     requires { ⌜ (n * 256 ≤ length (now state)) × (i < n) ⌝ }
     ensures { λ _. ⌜ now (state .exit) ≡ encode n (absorbedRaw n i (equation op) (keptIn k) y (decode n (now (state .entry)))) ⌝ }
@@ -97,7 +104,7 @@ fn keep_row(state: &mut [u8], n: usize, i: usize, op: Op, k: Kept, y: u64)
     keeping::keep(&mut state[at..end], op, new);
 }
 
-// Brings what stream i keeps up to date: a last or a delay, the others keep nothing.
+// Brings what stream i keeps up to date: a last, a delay or a signal form, the others keep nothing.
 // The operator is made anew in its arm: so the others do not store it for the call.
 fn absorb_row(state: &mut [u8], n: usize, i: usize, op: Op, k: Kept, y: u64)
     requires { ⌜ (n * 256 ≤ length (now state)) × (i < n) ⌝ }
@@ -111,6 +118,7 @@ fn absorb_row(state: &mut [u8], n: usize, i: usize, op: Op, k: Kept, y: u64)
         Op::Two(_, _, _) => {}
         Op::Last(a, b) => keep_row(state, n, i, Op::Last(a, b), k, y),
         Op::Delay(a, b) => keep_row(state, n, i, Op::Delay(a, b), k, y),
+        Op::Signal(g, a, b) => keep_row(state, n, i, Op::Signal(g, a, b), k, y),
     }
 }
 
@@ -145,6 +153,7 @@ fn release_args(state: &mut [u8], n: usize, op: Op)
         Op::Two(_, a, b) => release_two(state, n, a, b),
         Op::Last(a, b) => release_two(state, n, a, b),
         Op::Delay(a, b) => release_two(state, n, a, b),
+        Op::Signal(_, a, b) => release_two(state, n, a, b),
     }
 }
 

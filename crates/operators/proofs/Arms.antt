@@ -7,10 +7,10 @@ use lib.Dec.{eqb, ltb}
 use types.Run.{OneOf, miss}
 use denote.Enum.Declared.{tagOf}
 use Rattle.meaning.specs.Arguments.{prompts}
-use Rattle.operators.specs.Operators.{groupOf, isLast, isDelay, takesFirst, takesSecond, argumentsOf, usesA, usesB, usesK}
+use Rattle.operators.specs.Operators.{groupOf, isLast, isDelay, isSignal, takesFirst, takesSecond, argumentsOf, usesA, usesB, usesK}
 use Rattle.operators.specs.Rules.{argOk, valueOk, outOk, fieldsOk}
 use Rattle.operators.specs.declared.Group.{Group}
-use Rattle.operators.specs.declared.Group.the-variants.{Absent, Input, Plain, One, Two, Last, Delay}
+use Rattle.operators.specs.declared.Group.the-variants.{Absent, Input, Plain, One, Two, Last, Delay, Signal}
 use Rattle.operators.proofs.Group.{the-type}
 use Rattle.operators.proofs.Laws.{hasOne, value-by-group}
 
@@ -27,6 +27,7 @@ bare-prompts One a b h = absurd (miss (0 ∷ 1 ∷ 2 ∷ []) 3 tt h)
 bare-prompts Two a b h = absurd (miss (0 ∷ 1 ∷ 2 ∷ []) 4 tt h)
 bare-prompts Last a b h = absurd (miss (0 ∷ 1 ∷ 2 ∷ []) 5 tt h)
 bare-prompts Delay a b h = absurd (miss (0 ∷ 1 ∷ 2 ∷ []) 6 tt h)
+bare-prompts Signal a b h = absurd (miss (0 ∷ 1 ∷ 2 ∷ []) 7 tt h)
 
 -- only the second argument is undelayed
 pub late-prompts : (g : Group) (a b : ℕ) → OneOf (5 ∷ 6 ∷ []) (tag g) → prompts (argumentsOf g a b) ≡ b ∷ []
@@ -37,16 +38,40 @@ late-prompts One a b h = absurd (miss (5 ∷ 6 ∷ []) 3 tt h)
 late-prompts Two a b h = absurd (miss (5 ∷ 6 ∷ []) 4 tt h)
 late-prompts Last a b h = refl
 late-prompts Delay a b h = refl
+late-prompts Signal a b h = absurd (miss (5 ∷ 6 ∷ []) 7 tt h)
 
--- neither a last nor a delay
-pub neither : (g : Group) → OneOf (0 ∷ 1 ∷ 2 ∷ 3 ∷ 4 ∷ []) (tag g) → (isLast g ≡ false) × (isDelay g ≡ false)
+-- both are
+pub both-prompts : (g : Group) (a b : ℕ) → OneOf (4 ∷ 7 ∷ []) (tag g) → prompts (argumentsOf g a b) ≡ a ∷ b ∷ []
+both-prompts Absent a b h = absurd (miss (4 ∷ 7 ∷ []) 0 tt h)
+both-prompts Input a b h = absurd (miss (4 ∷ 7 ∷ []) 1 tt h)
+both-prompts Plain a b h = absurd (miss (4 ∷ 7 ∷ []) 2 tt h)
+both-prompts One a b h = absurd (miss (4 ∷ 7 ∷ []) 3 tt h)
+both-prompts Two a b h = refl
+both-prompts Last a b h = absurd (miss (4 ∷ 7 ∷ []) 5 tt h)
+both-prompts Delay a b h = absurd (miss (4 ∷ 7 ∷ []) 6 tt h)
+both-prompts Signal a b h = refl
+
+-- the group of an operator that keeps nothing
+pub keepless : (g : Group) → OneOf (0 ∷ 1 ∷ 2 ∷ 3 ∷ 4 ∷ []) (tag g) → (isLast g ≡ false) × ((isDelay g ≡ false) × (isSignal g ≡ false))
+keepless Absent h = (refl, (refl, refl))
+keepless Input h = (refl, (refl, refl))
+keepless Plain h = (refl, (refl, refl))
+keepless One h = (refl, (refl, refl))
+keepless Two h = (refl, (refl, refl))
+keepless Last h = absurd (miss (0 ∷ 1 ∷ 2 ∷ 3 ∷ 4 ∷ []) 5 tt h)
+keepless Delay h = absurd (miss (0 ∷ 1 ∷ 2 ∷ 3 ∷ 4 ∷ []) 6 tt h)
+keepless Signal h = absurd (miss (0 ∷ 1 ∷ 2 ∷ 3 ∷ 4 ∷ []) 7 tt h)
+
+-- the group of an operator that is never told: neither a last nor a delay
+pub neither : (g : Group) → OneOf (0 ∷ 1 ∷ 2 ∷ 3 ∷ 4 ∷ 7 ∷ []) (tag g) → (isLast g ≡ false) × (isDelay g ≡ false)
 neither Absent h = (refl, refl)
 neither Input h = (refl, refl)
 neither Plain h = (refl, refl)
 neither One h = (refl, refl)
 neither Two h = (refl, refl)
-neither Last h = absurd (miss (0 ∷ 1 ∷ 2 ∷ 3 ∷ 4 ∷ []) 5 tt h)
-neither Delay h = absurd (miss (0 ∷ 1 ∷ 2 ∷ 3 ∷ 4 ∷ []) 6 tt h)
+neither Last h = absurd (miss (0 ∷ 1 ∷ 2 ∷ 3 ∷ 4 ∷ 7 ∷ []) 5 tt h)
+neither Delay h = absurd (miss (0 ∷ 1 ∷ 2 ∷ 3 ∷ 4 ∷ 7 ∷ []) 6 tt h)
+neither Signal h = (refl, refl)
 
 -- ---- the rules for the fields of a stream, by the group of its stored number
 
@@ -67,13 +92,15 @@ module _ (n op a b k out : ℕ) where
   plain-fields Two h = absurd (miss (0 ∷ 2 ∷ []) 4 tt h)
   plain-fields Last h = absurd (miss (0 ∷ 2 ∷ []) 5 tt h)
   plain-fields Delay h = absurd (miss (0 ∷ 2 ∷ []) 6 tt h)
+  plain-fields Signal h = absurd (miss (0 ∷ 2 ∷ []) 7 tt h)
 
   -- two arguments
-  pub two-fields : (g : Group) → OneOf (4 ∷ 5 ∷ 6 ∷ []) (tag g) → (ltb a n && (ltb b n && (eqb k 0 && ltb out 2))) ≡ keptBy g
-  two-fields Absent h = absurd (miss (4 ∷ 5 ∷ 6 ∷ []) 0 tt h)
-  two-fields Input h = absurd (miss (4 ∷ 5 ∷ 6 ∷ []) 1 tt h)
-  two-fields Plain h = absurd (miss (4 ∷ 5 ∷ 6 ∷ []) 2 tt h)
-  two-fields One h = absurd (miss (4 ∷ 5 ∷ 6 ∷ []) 3 tt h)
+  pub two-fields : (g : Group) → OneOf (4 ∷ 5 ∷ 6 ∷ 7 ∷ []) (tag g) → (ltb a n && (ltb b n && (eqb k 0 && ltb out 2))) ≡ keptBy g
+  two-fields Absent h = absurd (miss (4 ∷ 5 ∷ 6 ∷ 7 ∷ []) 0 tt h)
+  two-fields Input h = absurd (miss (4 ∷ 5 ∷ 6 ∷ 7 ∷ []) 1 tt h)
+  two-fields Plain h = absurd (miss (4 ∷ 5 ∷ 6 ∷ 7 ∷ []) 2 tt h)
+  two-fields One h = absurd (miss (4 ∷ 5 ∷ 6 ∷ 7 ∷ []) 3 tt h)
   two-fields Two h = refl
   two-fields Last h = refl
   two-fields Delay h = refl
+  two-fields Signal h = refl

@@ -8,11 +8,11 @@ use borrow.Author.Tests.{leb-true, leb-false, lt-leb, ne-eqb}
 use lib.Dec.{leb, eqb, lit≤}
 use lib.ListN.{getD, List·getD-eq-default}
 use lib.IntN.{ℤ, pos}
-use Rattle.meaning.specs.Plan.{Unary, time, neg, set, plus, Calc, add, sub, mul, div, rem, lt, le, eq, Binary, calc, keep, merge, Eqn, input, nil, unit, one, two, last, delay, isInput}
+use Rattle.meaning.specs.Plan.{Unary, time, neg, set, plus, Calc, add, sub, mul, div, rem, lt, le, eq, Binary, calc, keep, merge, Eqn, input, nil, unit, one, two, last, delay, signal, isInput}
 use Rattle.meaning.specs.Arguments.{arguments, argA, argB}
-use Rattle.operators.specs.Operators.{Operator, noOperator, operators, operatorCount, calcs, calcPlace, unaryNumber, binaryNumber, groupOf, eqnOf, numberOf, valueOf, isPresent, isIn, isLast, isDelay, takesFirst, takesSecond, isOperator, usesA, usesB, usesK, argumentsOf, eqnGroup}
+use Rattle.operators.specs.Operators.{Operator, noOperator, operators, operatorCount, calcs, calcPlace, unaryNumber, binaryNumber, groupOf, eqnOf, numberOf, valueOf, isPresent, isIn, isLast, isDelay, isSignal, takesFirst, takesSecond, isOperator, usesA, usesB, usesK, argumentsOf, eqnGroup}
 use Rattle.operators.specs.declared.Group.{Group}
-use Rattle.operators.specs.declared.Group.the-variants.{Absent, One, Two}
+use Rattle.operators.specs.declared.Group.the-variants.{Absent, One, Two, Signal}
 use Rattle.operators.proofs.Tests.{left, right}
 use Rattle.operators.proofs.Numbers.{listed, agree, agreeing}
 
@@ -48,7 +48,7 @@ calc-place eq = lit≤ tt
 by-row : {A : Type 0} (f g : Operator → A) → f noOperator ≡ g noOperator → map f operators ≡ map g operators → (n : ℕ) → f (getD operators n noOperator) ≡ g (getD operators n noOperator)
 by-row f g = agreeing f g operators noOperator
 
--- what two functions of the stored number give at all nineteen, they give at every one
+-- what two functions of the stored number give at all operators, they give at every one
 everywhere : {A : Type 0} (f g : ℕ → A) → listed f 1 operatorCount ≡ listed g 1 operatorCount → (n : ℕ) → 1 ≤ n → n ≤ operatorCount → f n ≡ g n
 everywhere f g e n l h = agree f g 1 operatorCount e n l (omega arith)
 
@@ -89,6 +89,14 @@ two-value (calc g) = every-calc (λ p. usesK (8 + p)) (λ p. false) refl g
 two-value keep = refl
 two-value merge = refl
 
+pub signal-group : (g : Calc) → groupOf (20 + calcPlace g) ≡ Signal
+unfolding groupOf
+signal-group = every-calc (λ p. groupOf (20 + p)) (λ p. Signal) refl
+
+pub signal-value : (g : Calc) → usesK (20 + calcPlace g) ≡ false
+unfolding usesK
+signal-value = every-calc (λ p. usesK (20 + p)) (λ p. false) refl
+
 -- the group of an equation's number, by the shape of the equation
 pub group-of : (e : Eqn) → groupOf (numberOf e) ≡ eqnGroup e
 unfolding groupOf numberOf
@@ -99,6 +107,7 @@ group-of (one f a) = one-group f
 group-of (two g a b) = two-group g
 group-of (last a b) = refl
 group-of (delay a b) = refl
+group-of (signal g a b) = signal-group g
 
 pub in-of : (e : Eqn) → isIn (groupOf (numberOf e)) ≡ isInput e
 in-of e = ap isIn (group-of e) ∙ shape e
@@ -111,6 +120,7 @@ in-of e = ap isIn (group-of e) ∙ shape e
     shape (two g a b) = refl
     shape (last a b) = refl
     shape (delay a b) = refl
+    shape (signal g a b) = refl
 
 -- and its arguments
 pub arguments-of : (e : Eqn) → argumentsOf (groupOf (numberOf e)) (argA e) (argB e) ≡ arguments e
@@ -124,10 +134,11 @@ arguments-of e = ap (λ g. argumentsOf g (argA e) (argB e)) (group-of e) ∙ sha
     shape (two g a b) = refl
     shape (last a b) = refl
     shape (delay a b) = refl
+    shape (signal g a b) = refl
 
 -- ---- from an equation to its row
 
--- every stored number is one of the nineteen
+-- every stored number is an operator's
 pub number-range : (e : Eqn) → (1 ≤ numberOf e) × (numberOf e ≤ operatorCount)
 unfolding numberOf
 number-range input = (lit≤ tt, lit≤ tt)
@@ -142,6 +153,17 @@ number-range (two keep a b) = (lit≤ tt, lit≤ tt)
 number-range (two merge a b) = (lit≤ tt, lit≤ tt)
 number-range (last a b) = (lit≤ tt, lit≤ tt)
 number-range (delay a b) = (lit≤ tt, lit≤ tt)
+number-range (signal g a b) = let r = calc-place g in (omega arith, omega arith)
+
+-- the rows of the calculations, and of their signal forms, by the calculation's place
+module _ (a b : ℕ) (k : ℤ) (p : ℕ) (h : p ≤ 7) where
+  pub calc-row : eqnOf (8 + p) a b k ≡ two (calc (getD calcs p add)) a b
+  unfolding eqnOf
+  calc-row = agree (λ p. eqnOf (8 + p) a b k) (λ p. two (calc (getD calcs p add)) a b) 0 8 refl p (omega arith) (omega arith)
+
+  pub signal-row : eqnOf (20 + p) a b k ≡ signal (getD calcs p add) a b
+  unfolding eqnOf
+  signal-row = agree (λ p. eqnOf (20 + p) a b k) (λ p. signal (getD calcs p add) a b) 0 8 refl p (omega arith) (omega arith)
 
 -- every equation is its number with its fields: the row of its number makes it again
 pub eqn-back : (e : Eqn) → eqnOf (numberOf e) (argA e) (argB e) (valueOf e) ≡ e
@@ -153,24 +175,25 @@ eqn-back (one time a) = refl
 eqn-back (one (set k) a) = refl
 eqn-back (one (plus k) a) = refl
 eqn-back (one neg a) = refl
-eqn-back (two (calc g) a b) = every-calc (λ p. eqnOf (8 + p) a b (pos 0)) (λ p. two (calc (getD calcs p add)) a b) refl g ∙ ap (λ c. two (calc c) a b) (calc-placed g)
+eqn-back (two (calc g) a b) = calc-row a b (pos 0) (calcPlace g) (calc-place g) ∙ ap (λ c. two (calc c) a b) (calc-placed g)
 eqn-back (two keep a b) = refl
 eqn-back (two merge a b) = refl
 eqn-back (last a b) = refl
 eqn-back (delay a b) = refl
+eqn-back (signal g a b) = signal-row a b (pos 0) (calcPlace g) (calc-place g) ∙ ap (λ c. signal c a b) (calc-placed g)
 
 -- ---- from a row to its equation
 
 -- a test of rows that just the numbers from lo to hi pass
-by-range : (f : Operator → Bool) (lo hi : ℕ) → hi ≤ operatorCount → f noOperator ≡ false → listed (λ n. f (getD operators n noOperator)) 0 20 ≡ listed (λ n. leb lo n && leb n hi) 0 20
+by-range : (f : Operator → Bool) (lo hi : ℕ) → hi ≤ operatorCount → f noOperator ≡ false → listed (λ n. f (getD operators n noOperator)) 0 28 ≡ listed (λ n. leb lo n && leb n hi) 0 28
     → (n : ℕ) → f (getD operators n noOperator) ≡ (leb lo n && leb n hi)
 by-range f lo hi t d e n = go (leb n operatorCount) refl
   where
     go : (b : Bool) → leb n operatorCount ≡ b → f (getD operators n noOperator) ≡ (leb lo n && leb n hi)
-    go true q = let h = leb-true n operatorCount q in agree (λ m. f (getD operators m noOperator)) (λ m. leb lo m && leb m hi) 0 20 e n (omega arith) (omega arith)
+    go true q = let h = leb-true n operatorCount q in agree (λ m. f (getD operators m noOperator)) (λ m. leb lo m && leb m hi) 0 28 e n (omega arith) (omega arith)
     go false q = let h = leb-false n operatorCount q in rw (none-above n h, d, lt-leb n hi (omega arith)) (sym (and-false (leb lo n)))
 
--- a number is an operator's just where it is one of the nineteen
+-- a number is an operator's just where it is not above the table
 pub operator-range : (n : ℕ) → isOperator n ≡ (leb 1 n && leb n operatorCount)
 unfolding groupOf
 operator-range = by-range (λ o. isPresent (o .group)) 1 operatorCount (lit≤ tt) refl refl
@@ -183,24 +206,16 @@ pub operator-high : (n : ℕ) → isOperator n ≡ true → n ≤ operatorCount
 operator-high n e = leb-true n operatorCount (right (leb 1 n) (leb n operatorCount) (sym (operator-range n) ∙ e))
 
 -- one number alone passes a test of groups
-by-number : (f : Group → Bool) (m : ℕ) → m ≤ operatorCount → f Absent ≡ false → listed (λ n. f (groupOf n)) 0 20 ≡ listed (λ n. eqb n m) 0 20 → (n : ℕ) → f (groupOf n) ≡ eqb n m
+by-number : (f : Group → Bool) (m : ℕ) → m ≤ operatorCount → f Absent ≡ false → listed (λ n. f (groupOf n)) 0 28 ≡ listed (λ n. eqb n m) 0 28 → (n : ℕ) → f (groupOf n) ≡ eqb n m
 by-number f m t d e n = go (leb n operatorCount) refl
   where
     go : (b : Bool) → leb n operatorCount ≡ b → f (groupOf n) ≡ eqb n m
-    go true q = let h = leb-true n operatorCount q in agree (λ x. f (groupOf x)) (λ x. eqb x m) 0 20 e n (omega arith) (omega arith)
+    go true q = let h = leb-true n operatorCount q in agree (λ x. f (groupOf x)) (λ x. eqb x m) 0 28 e n (omega arith) (omega arith)
     go false q = let h = leb-false n operatorCount q in ap f (absent-above n h) ∙ d ∙ sym (ne-eqb n m (λ z. omega arith))
 
 pub in-number : (n : ℕ) → isIn (groupOf n) ≡ eqb n 1
 unfolding groupOf
 in-number = by-number isIn 1 (lit≤ tt) refl refl
-
-pub last-number : (n : ℕ) → isLast (groupOf n) ≡ eqb n 18
-unfolding groupOf
-last-number = by-number isLast 18 (lit≤ tt) refl refl
-
-pub delay-number : (n : ℕ) → isDelay (groupOf n) ≡ eqb n 19
-unfolding groupOf
-delay-number = by-number isDelay 19 (lit≤ tt) refl refl
 
 -- the group of operators with one argument
 abbrev pub hasOne : Group → Bool
@@ -241,3 +256,16 @@ module _ (a b : ℕ) (k : ℤ) where
   pub input-by-number : (n : ℕ) → isInput (eqnOf n a b k) ≡ isIn (groupOf n)
   unfolding eqnOf groupOf
   input-by-number = by-row (λ o. isInput (o .eqn a b k)) (λ o. isIn (o .group)) refl refl
+
+  -- which of the groups that keep something
+  pub last-by-number : (n : ℕ) → isLast (eqnGroup (eqnOf n a b k)) ≡ isLast (groupOf n)
+  unfolding eqnOf groupOf
+  last-by-number = by-row (λ o. isLast (eqnGroup (o .eqn a b k))) (λ o. isLast (o .group)) refl refl
+
+  pub delay-by-number : (n : ℕ) → isDelay (eqnGroup (eqnOf n a b k)) ≡ isDelay (groupOf n)
+  unfolding eqnOf groupOf
+  delay-by-number = by-row (λ o. isDelay (eqnGroup (o .eqn a b k))) (λ o. isDelay (o .group)) refl refl
+
+  pub signal-by-number : (n : ℕ) → isSignal (eqnGroup (eqnOf n a b k)) ≡ isSignal (groupOf n)
+  unfolding eqnOf groupOf
+  signal-by-number = by-row (λ o. isSignal (eqnGroup (o .eqn a b k))) (λ o. isSignal (o .group)) refl refl

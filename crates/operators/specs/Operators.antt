@@ -5,10 +5,10 @@ use mathlib.Core.Bool.{Bool, true, false}
 use mathlib.Core.List.{List, [], _∷_, _++_, map}
 use lib.ListN.{getD}
 use lib.IntN.{ℤ, pos}
-use Rattle.meaning.specs.Plan.{Unary, time, neg, set, plus, Calc, add, sub, mul, div, rem, lt, le, eq, Binary, calc, keep, merge, Eqn, input, nil, unit, one, two, last, delay}
+use Rattle.meaning.specs.Plan.{Unary, time, neg, set, plus, Calc, add, sub, mul, div, rem, lt, le, eq, Binary, calc, keep, merge, Eqn, input, nil, unit, one, two, last, delay, signal}
 use Rattle.meaning.specs.Arguments.{Argument, prompt, late}
 use Rattle.operators.specs.declared.Group.{Group}
-use Rattle.operators.specs.declared.Group.the-variants.{Absent, Input, Plain, One, Two, Last, Delay}
+use Rattle.operators.specs.declared.Group.the-variants.{Absent, Input, Plain, One, Two, Last, Delay, Signal}
 
 -- An operator: its name in bytes, its group, whether it uses a value k, and its equation with the arguments a and b and the value k.
 -- "In the engine a stream is its operator with just the arguments which that operator uses."
@@ -54,9 +54,14 @@ calcPlace eq = 7
 abbrev pub calcRow : Calc → Operator
 calcRow g = operator (calcName g) Two false (λ a b k. two (calc g) a b)
 
+-- "a signal form with s in front"
+abbrev pub signalRow : Calc → Operator
+signalRow g = operator (115 ∷ calcName g) Signal false (λ a b k. signal g a b)
+
 -- ---- the table
 
--- "The op line names one of nineteen operators." The stored number is the place in this list; place 0 is no operator.
+-- "The op line names one of nineteen operators", and eight signal forms come to them. The stored number is the place in this
+-- list; place 0 is no operator.
 abbrev pub operators : List Operator
 operators =
     noOperator
@@ -72,11 +77,11 @@ operators =
     ∷ operator (109 ∷ 101 ∷ 114 ∷ 103 ∷ 101 ∷ []) Two false (λ a b k. two merge a b)  -- 17 merge
     ∷ operator (108 ∷ 97 ∷ 115 ∷ 116 ∷ []) Last false (λ a b k. last a b)  -- 18 last
     ∷ operator (100 ∷ 101 ∷ 108 ∷ 97 ∷ 121 ∷ []) Delay false (λ a b k. delay a b)  -- 19 delay
-    ∷ []))
+    ∷ map signalRow calcs))  -- 20 sadd to 27 seq
 
 -- how many operators there are, and so the greatest stored number
 abbrev pub operatorCount : ℕ
-operatorCount = 19
+operatorCount = 27
 
 unfoldable pub nameOf : ℕ → List ℕ
 nameOf n = getD operators n noOperator .name
@@ -102,6 +107,7 @@ isPresent One = true
 isPresent Two = true
 isPresent Last = true
 isPresent Delay = true
+isPresent Signal = true
 
 abbrev pub isIn : Group → Bool
 isIn Absent = false
@@ -111,6 +117,7 @@ isIn One = false
 isIn Two = false
 isIn Last = false
 isIn Delay = false
+isIn Signal = false
 
 abbrev pub isLast : Group → Bool
 isLast Absent = false
@@ -120,6 +127,7 @@ isLast One = false
 isLast Two = false
 isLast Last = true
 isLast Delay = false
+isLast Signal = false
 
 abbrev pub isDelay : Group → Bool
 isDelay Absent = false
@@ -129,6 +137,17 @@ isDelay One = false
 isDelay Two = false
 isDelay Last = false
 isDelay Delay = true
+isDelay Signal = false
+
+abbrev pub isSignal : Group → Bool
+isSignal Absent = false
+isSignal Input = false
+isSignal Plain = false
+isSignal One = false
+isSignal Two = false
+isSignal Last = false
+isSignal Delay = false
+isSignal Signal = true
 
 abbrev pub takesFirst : Group → Bool
 takesFirst Absent = false
@@ -138,6 +157,7 @@ takesFirst One = true
 takesFirst Two = true
 takesFirst Last = true
 takesFirst Delay = true
+takesFirst Signal = true
 
 abbrev pub takesSecond : Group → Bool
 takesSecond Absent = false
@@ -147,6 +167,7 @@ takesSecond One = false
 takesSecond Two = true
 takesSecond Last = true
 takesSecond Delay = true
+takesSecond Signal = true
 
 -- the first argument of a last or a delay is delayed
 abbrev pub delaysFirst : Group → Bool
@@ -157,6 +178,7 @@ delaysFirst One = false
 delaysFirst Two = false
 delaysFirst Last = true
 delaysFirst Delay = true
+delaysFirst Signal = false
 
 -- the arguments that an operator of the group makes of a and b
 abbrev pub argumentsOf : Group → ℕ → ℕ → List Argument
@@ -167,6 +189,7 @@ argumentsOf One a b = prompt a ∷ []
 argumentsOf Two a b = prompt a ∷ prompt b ∷ []
 argumentsOf Last a b = late a ∷ prompt b ∷ []
 argumentsOf Delay a b = late a ∷ prompt b ∷ []
+argumentsOf Signal a b = prompt a ∷ prompt b ∷ []
 
 abbrev pub isOperator : ℕ → Bool
 isOperator n = isPresent (groupOf n)
@@ -190,6 +213,7 @@ eqnGroup (one f a) = One
 eqnGroup (two g a b) = Two
 eqnGroup (last a b) = Last
 eqnGroup (delay a b) = Delay
+eqnGroup (signal c a b) = Signal
 
 abbrev pub unaryNumber : Unary → ℕ
 unaryNumber time = 4
@@ -210,6 +234,7 @@ numberOf (one f a) = unaryNumber f
 numberOf (two g a b) = binaryNumber g
 numberOf (last a b) = 18
 numberOf (delay a b) = 19
+numberOf (signal c a b) = 20 + calcPlace c
 
 abbrev pub unaryValue : Unary → ℤ
 unaryValue time = pos 0
@@ -225,3 +250,4 @@ valueOf (one f a) = unaryValue f
 valueOf (two g a b) = pos 0
 valueOf (last a b) = pos 0
 valueOf (delay a b) = pos 0
+valueOf (signal c a b) = pos 0

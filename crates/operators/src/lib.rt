@@ -22,6 +22,8 @@ pub enum Group {
     Last,
     // delay: two arguments, the first delayed.
     Delay,
+    // sadd to seq: two arguments.
+    Signal,
 }
 
 // The group of a stored number: the code's one table of operators.
@@ -40,6 +42,7 @@ pub fn group_of(number: u64) -> Group
             18 => Group::Last,
             _ => Group::Delay,
         },
+        20..=27 => Group::Signal,
         _ => Group::Absent,
     }
 }
@@ -65,6 +68,7 @@ pub fn is_present(g: Group) -> bool
         Group::Two => true,
         Group::Last => true,
         Group::Delay => true,
+        Group::Signal => true,
     }
 }
 
@@ -79,6 +83,7 @@ pub fn is_in(g: Group) -> bool
         Group::Two => false,
         Group::Last => false,
         Group::Delay => false,
+        Group::Signal => false,
     }
 }
 
@@ -93,6 +98,7 @@ pub fn takes_first(g: Group) -> bool
         Group::Two => true,
         Group::Last => true,
         Group::Delay => true,
+        Group::Signal => true,
     }
 }
 
@@ -107,6 +113,7 @@ pub fn takes_second(g: Group) -> bool
         Group::Two => true,
         Group::Last => true,
         Group::Delay => true,
+        Group::Signal => true,
     }
 }
 
@@ -121,6 +128,7 @@ pub fn delays_first(g: Group) -> bool
         Group::Two => false,
         Group::Last => true,
         Group::Delay => true,
+        Group::Signal => false,
     }
 }
 
@@ -187,7 +195,7 @@ pub fn fields_ok(n: u64, op: u64, a: u64, b: u64, k: u64, out: u64) -> bool
         Group::Input => none_ok(a, b, k, out == 0),
         Group::Absent | Group::Plain => none_ok(a, b, k, out < 2),
         Group::One => one_ok(n, op, a, b, k, out < 2),
-        Group::Two | Group::Last | Group::Delay => two_ok(n, a, b, k, out < 2),
+        Group::Two | Group::Last | Group::Delay | Group::Signal => two_ok(n, a, b, k, out < 2),
     }
 }
 

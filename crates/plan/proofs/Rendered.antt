@@ -12,7 +12,7 @@ use borrow.Author.Tests.{le-ltb, eq-eqb}
 use mir.Syntax.{w64}
 use mir.Val.{toZ}
 use mir.Facts.{toZ-pos, toZ-neg}
-use Rattle.meaning.specs.Plan.{Eqn, input, nil, unit, one, two, last, delay, eqnAt, isInput}
+use Rattle.meaning.specs.Plan.{Eqn, input, nil, unit, one, two, last, delay, signal, eqnAt, isInput}
 use Rattle.meaning.specs.Arguments.{reads, argA, argB, AllBelow}
 use Rattle.meaning.specs.CycleTest.{acyclic}
 use Rattle.meaning.proofs.Within.{reads-within}
@@ -47,6 +47,7 @@ first-small n (one f a) b h = omega arith
 first-small n (two g a c) b h = omega arith
 first-small n (last a c) b h = omega arith
 first-small n (delay a c) b h = omega arith
+first-small n (signal g a c) b h = omega arith
 
 second-small : (n : ℕ) (e : Eqn) → AllBelow n (reads e) → n ≤ mostStreams → argB e < 10 ^ 3
 second-small n input b h = lit< tt
@@ -56,6 +57,7 @@ second-small n (one f a) b h = lit< tt
 second-small n (two g a c) b h = omega arith
 second-small n (last a c) b h = omega arith
 second-small n (delay a c) b h = omega arith
+second-small n (signal g a c) b h = omega arith
 
 -- the fields that a stream is written with
 abbrev fieldsOf : Declared → ℕ → Fields

@@ -6,7 +6,7 @@ use Prim.Native.Nat.{ℕ}
 use Prim.Native.String.{String, _++_}
 use lib.IntN.{pos, negsuc}
 use lib.ListN.{replicate}
-use Rattle.meaning.specs.Plan.{time, neg, set, plus, add, sub, mul, div, rem, lt, le, eq, calc, keep, merge, Eqn, input, nil, unit, one, two, last, delay}
+use Rattle.meaning.specs.Plan.{time, neg, set, plus, add, sub, mul, div, rem, lt, le, eq, calc, keep, merge, Eqn, input, nil, unit, one, two, last, delay, signal}
 use Rattle.meaning.specs.CycleTest.{acyclic}
 use Rattle.machine.specs.State.{Declared}
 use Rattle.operators.specs.Operators.{groupOf, usesK, eqnOf}
@@ -44,6 +44,9 @@ rows =
     ∷ row (pair "op=nil\na=0\nb=0\nk=0\nout=0\n") 2
     ∷ row (pair "op=nil\na=0\nb=0\nk=0\nout=2\nop=f\n") 2
     ∷ row (pair "op=f\na=0\nb=0\nk=0\nout=0\nop=Nil\n") 4
+    -- there are eight signal forms
+    ∷ row (alone "op=sneg\na=0\nb=0\nk=0\nout=0\n") 4
+    ∷ row (alone "op=sadds\na=0\nb=0\nk=0\nout=0\n") 4
     -- form comes before rule 5
     ∷ row (pair "op=nil\na=1\nb=0\nk=0\nout=0\nop=f\n") 4
     ∷ row (alone "op=in\na=0\nb=0\nk=9223372036854775808\nout=0\n") 2
@@ -55,11 +58,16 @@ rows =
     ∷ row (pair "op=time\na=2\nb=0\nk=0\nout=0\nop=in\na=0\nb=0\nk=0\nout=0\n") 5
     ∷ row (pair "op=last\na=1\nb=2\nk=0\nout=0\nop=in\na=0\nb=0\nk=0\nout=0\n") 5
     ∷ row (alone "op=in\na=0\nb=0\nk=0\nout=1\n") 5
+    ∷ row (pair "op=in\na=0\nb=0\nk=0\nout=0\nop=slt\na=0\nb=0\nk=1\nout=0\n") 5
+    ∷ row (pair "op=in\na=0\nb=0\nk=0\nout=0\nop=srem\na=0\nb=2\nk=0\nout=0\n") 5
     -- then 6, a cycle without a delayed argument: of one stream, of two, by the second argument of a last or a delay
     ∷ row (alone "op=merge\na=0\nb=0\nk=0\nout=0\n") 6
     ∷ row (pair "op=neg\na=1\nb=0\nk=0\nout=0\nop=time\na=0\nb=0\nk=0\nout=0\n") 6
     ∷ row (alone "op=last\na=0\nb=0\nk=0\nout=0\n") 6
     ∷ row (alone "op=delay\na=0\nb=0\nk=0\nout=0\n") 6
+    -- and by either argument of a signal form
+    ∷ row (alone "op=sadd\na=0\nb=0\nk=0\nout=1\n") 6
+    ∷ row (pair "op=in\na=0\nb=0\nk=0\nout=0\nop=seq\na=0\nb=1\nk=0\nout=0\n") 6
     -- 5 before 6, and bytes left over before both
     ∷ row (pair "op=merge\na=0\nb=0\nk=0\nout=0\nop=nil\na=1\nb=0\nk=0\nout=0\n") 5
     ∷ row (alone "op=nil\na=1\nb=0\nk=0\nout=0\n\n") 2
@@ -104,14 +112,16 @@ negates a = "op=neg\na=" ++ (a ++ "\nb=0\nk=0\nout=0\n")
 
 unfoldable pub takens : List Taken
 takens =
-    -- last of itself
+    -- last of itself, and a signal form in a cycle by way of a last's first argument
     taken (pair "op=last\na=0\nb=1\nk=0\nout=1\nop=in\na=0\nb=0\nk=0\nout=0\n") (outer (last 0 1) ∷ inner input ∷ [])
+    ∷ taken ("plan=1\nstreams=3\n" ++ "op=in\na=0\nb=0\nk=0\nout=0\n" ++ "op=last\na=2\nb=0\nk=0\nout=0\n" ++ "op=sadd\na=0\nb=1\nk=0\nout=1\n")
+    (inner input ∷ inner (last 2 0) ∷ outer (signal add 0 1) ∷ [])
     -- a chain of as many streams as there can be
     ∷ taken ("plan=1\nstreams=32\nop=in\na=0\nb=0\nk=0\nout=0\n" ++ joined (map negates ("0" ∷ "1" ∷ "2" ∷ "3" ∷ "4" ∷ "5" ∷ "6" ∷ "7" ∷ "8" ∷ "9" ∷ "10" ∷ "11" ∷ "12" ∷ "13" ∷ "14" ∷ "15" ∷ "16" ∷ "17" ∷ "18" ∷ "19" ∷ "20" ∷ "21" ∷ "22" ∷ "23" ∷ "24" ∷ "25" ∷ "26" ∷ "27" ∷ "28" ∷ "29" ∷ "30" ∷ [])))
     (inner input ∷ map {A = ℕ} (λ a. inner (one neg a)) (0 ∷ 1 ∷ 2 ∷ 3 ∷ 4 ∷ 5 ∷ 6 ∷ 7 ∷ 8 ∷ 9 ∷ 10 ∷ 11 ∷ 12 ∷ 13 ∷ 14 ∷ 15 ∷ 16 ∷ 17 ∷ 18 ∷ 19 ∷ 20 ∷ 21 ∷ 22 ∷ 23 ∷ 24 ∷ 25 ∷ 26 ∷ 27 ∷ 28 ∷ 29 ∷ 30 ∷ []))
     -- every operator
     ∷ taken
-    ("plan=1\nstreams=19\n"
+    ("plan=1\nstreams=27\n"
     ++ "op=in\na=0\nb=0\nk=0\nout=0\n"
     ++ "op=nil\na=0\nb=0\nk=0\nout=0\n"
     ++ "op=unit\na=0\nb=0\nk=0\nout=1\n"
@@ -130,7 +140,15 @@ takens =
     ++ "op=keep\na=12\nb=13\nk=0\nout=0\n"
     ++ "op=merge\na=13\nb=14\nk=0\nout=0\n"
     ++ "op=last\na=17\nb=15\nk=0\nout=0\n"
-    ++ "op=delay\na=18\nb=16\nk=0\nout=1\n")
+    ++ "op=delay\na=18\nb=16\nk=0\nout=1\n"
+    ++ "op=sadd\na=15\nb=16\nk=0\nout=0\n"
+    ++ "op=ssub\na=16\nb=19\nk=0\nout=0\n"
+    ++ "op=smul\na=20\nb=20\nk=0\nout=0\n"
+    ++ "op=sdiv\na=21\nb=0\nk=0\nout=0\n"
+    ++ "op=srem\na=22\nb=21\nk=0\nout=0\n"
+    ++ "op=slt\na=23\nb=22\nk=0\nout=0\n"
+    ++ "op=sle\na=24\nb=23\nk=0\nout=0\n"
+    ++ "op=seq\na=25\nb=24\nk=0\nout=1\n")
     (inner input
     ∷ inner nil
     ∷ outer unit
@@ -150,6 +168,14 @@ takens =
     ∷ inner (two merge 13 14)
     ∷ inner (last 17 15)
     ∷ outer (delay 18 16)
+    ∷ inner (signal add 15 16)
+    ∷ inner (signal sub 16 19)
+    ∷ inner (signal mul 20 20)
+    ∷ inner (signal div 21 0)
+    ∷ inner (signal rem 22 21)
+    ∷ inner (signal lt 23 22)
+    ∷ inner (signal le 24 23)
+    ∷ outer (signal eq 25 24)
     ∷ [])
     ∷ []
 

@@ -10,9 +10,10 @@ use lib.Dec.{T, ltb, leb, nltb→le, nleb→lt}
 use lib.IntN.{ℤ}
 use lib.ListN.{length, set}
 use borrow.Author.Tests.{ltb-true}
-use Rattle.meaning.specs.Plan.{Eqn, input, nil, unit, one, two, last, delay, isInput}
+use Rattle.meaning.specs.Plan.{Eqn, input, nil, unit, one, two, last, delay, signal, isInput}
 use Rattle.meaning.specs.Arguments.{argA, argB}
 use Rattle.meaning.specs.Events.{Event, ev, horizon}
+use Rattle.meaning.proofs.Inputs.{input-is}
 use Rattle.meaning.proofs.Tests.{Is, yes!, no!, look}
 use Rattle.machine.specs.State.{Cell, State, cellAt, room, withNext}
 use Rattle.machine.specs.Reach.{stops, limit, reach, first, gives, Next, event, nextOf, decide}
@@ -44,6 +45,7 @@ limit-top (one f _) o a b h k l = k
 limit-top (two g _ _) o a b h k l = omega arith
 limit-top (last _ _) o a b h k l = l
 limit-top (delay _ _) o a b h k l = omega arith
+limit-top (signal c _ _) o a b h k l = omega arith
 
 reach-top : (e : Eqn) (o a b : Cell) → o .bound ≤ horizon → a .bound ≤ horizon → b .bound ≤ horizon → reach e o a b ≤ horizon
 unfolding reach
@@ -113,6 +115,10 @@ module _ {cap : ℕ} (M : State) (ok : Sound cap M) (s : ℕ) (l : s < length M)
 
 -- ---- the calls
 
+twice : (p : Bool) → T (not (not p)) → T p
+twice true t = tt
+twice false t = t
+
 pub reading-sound : {cap : ℕ} (i t : ℕ) (v : ℤ) (M : State) → Sound cap M → t < horizon → IsValue v → Sound cap (offerReading i t v M .state)
 unfolding offerReading
 reading-sound {cap} i t v M ok h k =
@@ -122,19 +128,6 @@ reading-sound {cap} i t v M ok h k =
     let p = nltb→le t (cellAt M i .bound) y in
     raise-sound i (suc t) (ev t v ∷ []) M ok (input-there M i (twice (isInput (cellAt M i .eqn)) x)) (omega arith) (omega arith)
     (one-event t v p refl k (nleb→lt room (length (cellAt M i .held)) z)))))
-  where
-    twice : (p : Bool) → T (not (not p)) → T p
-    twice true t = tt
-    twice false t = t
-
-is-input : (e : Eqn) → T (not (not (isInput e))) → e ≡ input
-is-input input h = refl
-is-input nil h = absurd h
-is-input unit h = absurd h
-is-input (one f a) h = absurd h
-is-input (two g a b) h = absurd h
-is-input (last a b) h = absurd h
-is-input (delay a b) h = absurd h
 
 pub progress-sound : {cap : ℕ} (i y : ℕ) (M : State) → Sound cap M → Sound cap (offerProgress i y M .state)
 unfolding offerProgress
@@ -142,7 +135,7 @@ progress-sound {cap} i y M ok =
     unless-cases (λ o. Sound cap (o .state)) (noInput i M) 7 M _ (λ x. ok) (λ x.
     unless-cases (λ o. Sound cap (o .state)) (ltb horizon y) 10 M _ (λ z. ok) (λ z.
     unless-cases (λ o. Sound cap (o .state)) (ltb y (cellAt M i .bound)) 8 M _ (λ w. ok) (λ w.
-    let e = is-input (cellAt M i .eqn) x in
+    let e = input-is (cellAt M i .eqn) (twice (isInput (cellAt M i .eqn)) x) in
     bound-sound i y M ok (input-there M i (rw e tt)) e (nltb→le y (cellAt M i .bound) w) (nltb→le horizon y z))))
 
 pub move-one-sound : {cap : ℕ} (s : ℕ) (M : State) → Sound cap M → Sound cap (moveOne s M .state)

@@ -11,10 +11,9 @@ use lib.IntN.{ℤ}
 use lib.ListN.{length, getD, length-set, length-map, length-append, set}
 use lib.Seq.{ext-getD, set-set}
 use borrow.Author.Tests.{ltb-true, eqb-true, eq-eqb}
-use Rattle.meaning.specs.Plan.{Eqn, input, nil, unit, one, two, last, delay}
+use Rattle.meaning.specs.Plan.{Eqn, input, nil, unit, one, two, last, delay, signal}
 use Rattle.meaning.specs.Arguments.{reads, argA, argB}
 use Rattle.meaning.specs.Events.{Event, ev, horizon}
-use Rattle.meaning.specs.Table.{latest}
 use Rattle.meaning.specs.Cycle.{Acyclic}
 use Rattle.machine.specs.State.{Kept, Cell, State, absent, cellAt, room, planOf, withBound, withHeld, withNext, withKept, withSince, withValue}
 use Rattle.machine.specs.Reach.{view, valueAt}
@@ -26,7 +25,7 @@ use Rattle.machine.proofs.Release.{among, release-at, release-size, releases-at
 use Rattle.encoding.specs.Sound.{IsValue, Rising, IsNext, DelayKept, IsKept, SoundCell, Own, Sound}
 use Rattle.preserve.proofs.Rising.{rising-top, rising-snoc, rising-drop}
 use Rattle.preserve.proofs.Own.{dropped-own, and-true, own-told, absorb-own}
-use Rattle.preserve.proofs.Values.{or-value, cond-value, latest-value, Holds, holds}
+use Rattle.preserve.proofs.Values.{or-value, cond-value, held-latest, Holds, holds}
 
 -- ---- a state with the same equations, every cell sound
 
@@ -89,6 +88,7 @@ module _ (y t : ℕ) (v : ℤ) (l : t < y) (hv : IsValue v) where
   value-kept p k ok =
       record {
         prev = ok .prev;
+        prevB = ok .prevB;
         since = ok .since;
         value = cond-value (p && eqb (k .since) (t + 1)) (some v) (k .value) hv (ok .value);
         prior = ok .prior;
@@ -100,6 +100,7 @@ module _ (y t : ℕ) (v : ℤ) (l : t < y) (hv : IsValue v) where
   prior-kept p k ok =
       record {
         prev = ok .prev;
+        prevB = ok .prevB;
         since = ok .since;
         value = ok .value;
         prior = cond-value (p && eqb y (t + 1)) (some v) (k .prior) hv (ok .prior);
@@ -111,7 +112,7 @@ module _ (y t : ℕ) (v : ℤ) (l : t < y) (hv : IsValue v) where
   since-kept p k ok = go (p && leb (k .since) t)
     where
       go : (b : Bool) → DelayKept y (cond b (withSince (t + 1) (withValue (cond (eqb y (t + 1)) (k .prior) none) k)) k)
-      go true = record { prev = ok .prev; since = omega (arith, l); value = cond-value (eqb y (t + 1)) (k .prior) none (ok .prior) tt; prior = ok .prior; unset = λ z. absurd (omega arith); fresh = ok .fresh }
+      go true = record { prev = ok .prev; prevB = ok .prevB; since = omega (arith, l); value = cond-value (eqb y (t + 1)) (k .prior) none (ok .prior) tt; prior = ok .prior; unset = λ z. absurd (omega arith); fresh = ok .fresh }
       go false = ok
 
   kept-told : (e : Eqn) (s : ℕ) (k : Kept) → IsKept e y k → IsKept e y (keptTold e s y t v k)
@@ -120,8 +121,9 @@ module _ (y t : ℕ) (v : ℤ) (l : t < y) (hv : IsValue v) where
   kept-told unit s k ok = ok
   kept-told (one f a) s k ok = ok
   kept-told (two g a b) s k ok = ok
-  kept-told (last a b) s k ok = record { prev = cond-value (eqb a s) (some v) (k .prev) hv (ok .prev); fresh = λ z. absurd (omega (arith, l)); since = ok .since; value = ok .value; prior = ok .prior }
+  kept-told (last a b) s k ok = record { prev = cond-value (eqb a s) (some v) (k .prev) hv (ok .prev); fresh = λ z. absurd (omega (arith, l)); prevB = ok .prevB; since = ok .since; value = ok .value; prior = ok .prior }
   kept-told (delay a b) s k ok = since-kept (eqb b s) (priorTold (eqb a s) y t v (valueTold (eqb a s) t v k)) (prior-kept (eqb a s) (valueTold (eqb a s) t v k) (value-kept (eqb a s) k ok))
+  kept-told (signal c a b) s k ok = ok
 
 with-kept : (n : ℕ) (c : Cell) (k : Kept) → SoundCell n c → IsKept (c .eqn) (c .bound) k → SoundCell n (withKept k c)
 with-kept n c k ok h = record { arguments = ok .arguments; value = ok .value; out = ok .out; bound = ok .bound; few = ok .few; held = ok .held; next = ok .next; kept = h }
@@ -159,8 +161,9 @@ kept-up nil x y k h z ok = ok
 kept-up unit x y k h z ok = ok
 kept-up (one f a) x y k h z ok = ok
 kept-up (two g a b) x y k h z ok = ok
-kept-up (last a b) x y k h z ok = record { prev = ok .prev; fresh = λ q. absurd (z q); since = ok .since; value = ok .value; prior = ok .prior }
-kept-up (delay a b) x y k h z ok = let s = ok .since in record { prev = ok .prev; since = omega arith; value = ok .value; prior = ok .prior; unset = ok .unset; fresh = λ q. absurd (z q) }
+kept-up (last a b) x y k h z ok = record { prev = ok .prev; fresh = λ q. absurd (z q); prevB = ok .prevB; since = ok .since; value = ok .value; prior = ok .prior }
+kept-up (delay a b) x y k h z ok = let s = ok .since in record { prev = ok .prev; prevB = ok .prevB; since = omega arith; value = ok .value; prior = ok .prior; unset = ok .unset; fresh = λ q. absurd (z q) }
+kept-up (signal c a b) x y k h z ok = record { prev = ok .prev; prevB = ok .prevB; fresh = λ q. absurd (z q); freshB = λ q. absurd (z q); since = ok .since; value = ok .value; prior = ok .prior }
 
 -- what comes in with a bound that goes up to y: nothing, or one event just below it
 pub data Comes (y : ℕ) (c : Cell) : List Event → Type 0 where
@@ -192,26 +195,37 @@ advance-sound n y c new ok l h cm =
     rises silence = rw append-nil (rising-top 0 (c .bound) y (c .held) (omega (arith, l)) (ok .held))
     rises (one-event t v a e k r) = rw e (rising-snoc 0 (c .bound) t v (c .held) a k (ok .held))
 
-absorb-kept : (e : Eqn) (o a b : Cell) → 0 < o .bound → IsKept e (o .bound) (o .kept) → Holds a → IsKept e (o .bound) (absorb e o a b)
-absorb-kept input o a b z ok ha = ok
-absorb-kept nil o a b z ok ha = ok
-absorb-kept unit o a b z ok ha = ok
-absorb-kept (one f _) o a b z ok ha = ok
-absorb-kept (two g _ _) o a b z ok ha = ok
-absorb-kept (last _ _) o a b z ok ha =
-    record { prev = or-value (latest (view a) (o .bound)) (o .kept .prev) (latest-value (view a) ha (o .bound)) (ok .prev); fresh = λ q. absurd (omega arith); since = ok .since; value = ok .value; prior = ok .prior }
-absorb-kept (delay _ _) o a b z ok ha =
+absorb-kept : (e : Eqn) (o a b : Cell) → 0 < o .bound → IsKept e (o .bound) (o .kept) → Holds a → Holds b → IsKept e (o .bound) (absorb e o a b)
+absorb-kept input o a b z ok ha hb = ok
+absorb-kept nil o a b z ok ha hb = ok
+absorb-kept unit o a b z ok ha hb = ok
+absorb-kept (one f _) o a b z ok ha hb = ok
+absorb-kept (two g _ _) o a b z ok ha hb = ok
+absorb-kept (last _ _) o a b z ok ha hb =
+    record { prev = held-latest a (o .bound) (o .kept .prev) ha (ok .prev); fresh = λ q. absurd (omega arith); prevB = ok .prevB; since = ok .since; value = ok .value; prior = ok .prior }
+absorb-kept (delay _ _) o a b z ok ha hb =
     let s = ok .since in
     let p = past-le (view b) (o .bound) in
     let q = past-le (view o) (o .bound) in
     record {
       prev = ok .prev;
+      prevB = ok .prevB;
       since = omega arith;
       value = cond-value (eqb (later o b) 0) none (valueAt o a (later o b)) tt
           (or-value (view a (pred (later o b))) (cond (eqb (later o b) (o .kept .since)) (o .kept .value) none) (ha (pred (later o b))) (cond-value (eqb (later o b) (o .kept .since)) (o .kept .value) none (ok .value) tt));
       prior = ha (pred (o .bound));
       unset = λ u. rw (eq-eqb (later o b) 0 u);
       fresh = λ q. absurd (omega arith);
+    }
+absorb-kept (signal c _ _) o a b z ok ha hb =
+    record {
+      prev = held-latest a (o .bound) (o .kept .prev) ha (ok .prev);
+      prevB = held-latest b (o .bound) (o .kept .prevB) hb (ok .prevB);
+      fresh = λ q. absurd (omega arith);
+      freshB = λ q. absurd (omega arith);
+      since = ok .since;
+      value = ok .value;
+      prior = ok .prior;
     }
 
 absent-holds : Holds absent
@@ -235,7 +249,7 @@ write-sound s y new M ok l h top cm =
     let k = absorb e c (cellAt N (argA e)) (cellAt N (argB e)) in
     let all = set-cases (λ i. Holds) M s c l (λ i n. cell-holds M ok i) (holds (length M) c fine) in
     let sound = set-sound M s (withKept k c) ok l refl
-    (with-kept (length M) c k fine (absorb-kept e c (cellAt N (argA e)) (cellAt N (argB e)) (omega arith) (fine .kept) (all (argA e))))
+    (with-kept (length M) c k fine (absorb-kept e c (cellAt N (argA e)) (cellAt N (argB e)) (omega arith) (fine .kept) (all (argA e)) (all (argB e))))
     (absorb-own e c (cellAt N (argA e)) (cellAt N (argB e)) (fine .held)) in
     rw (q, set-set M s c (withKept k c)) sound
 

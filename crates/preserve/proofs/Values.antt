@@ -1,7 +1,7 @@
 -- Whatever an equation gives or keeps of sound cells is a value.
 use Prim.Native.Nat.{ℕ, zero, suc, _-_, _^_, _<_}
 use mathlib.Core.Path.{_≡_, refl}
-use mathlib.Core.Bool.{Bool, true, false, cond}
+use mathlib.Core.Bool.{Bool, true, false, cond, _||_}
 use mathlib.Core.Option.{Option, none, some}
 use mathlib.Core.List.{List, [], _∷_}
 use native.Mathlib.Omega.{arith}
@@ -11,11 +11,11 @@ use lib.Signed.{ltZ, leZ, quotZ, remZ}
 use borrow.Author.Tests.{ltb-true, leb-true}
 use Rattle.num.specs.declared.Answer.the-variants.{Value, Outside, ZeroDivisor}
 use Rattle.num.specs.Arithmetic.{fit, isZero, truth, same, negated, added, subtracted, multiplied, divided, remainder, less, atMost, equal}
-use Rattle.meaning.specs.Plan.{Unary, time, neg, set, plus, Calc, add, sub, mul, div, rem, lt, le, eq, Binary, calc, keep, merge, Eqn, input, nil, unit, one, two, last, delay}
-use Rattle.meaning.specs.Events.{Event, Stream, found, orElse, horizon}
-use Rattle.meaning.specs.Table.{valueOf, one-at, calculated, two-at, unit-at, latest, last-at, delay-at}
+use Rattle.meaning.specs.Plan.{Unary, time, neg, set, plus, Calc, add, sub, mul, div, rem, lt, le, eq, Binary, calc, keep, merge, Eqn, input, nil, unit, one, two, last, delay, signal}
+use Rattle.meaning.specs.Events.{Event, Stream, found, has, orElse, horizon}
+use Rattle.meaning.specs.Table.{valueOf, one-at, calculated, two-at, unit-at, latest, last-at, signal-at, delay-at}
 use Rattle.machine.specs.State.{Cell, Kept}
-use Rattle.machine.specs.Reach.{view, due, point, gives}
+use Rattle.machine.specs.Reach.{view, heldLatest, due, point, gives}
 use Rattle.operators.specs.Operators as operators
 use Rattle.encoding.specs.Sound.{IsValue, IsOptional, Rising, IsKept, SoundCell}
 
@@ -108,6 +108,10 @@ unfolding delay-at
 delay-value true = lit< tt
 delay-value false = tt
 
+signal-value : (c : Calc) (a b x y : Option ℤ) → IsOptional x → IsOptional y → IsOptional (signal-at c a b x y)
+unfolding signal-at
+signal-value c a b x y h k = cond-value (has a || has b) (two-at (calc c) x y) none (two-value (calc c) x y h k) tt
+
 -- a cell's held events are values
 abbrev pub Holds : Cell → Type 0
 Holds c = (t : ℕ) → IsOptional (view c t)
@@ -115,14 +119,19 @@ Holds c = (t : ℕ) → IsOptional (view c t)
 pub holds : (n : ℕ) (c : Cell) → SoundCell n c → Holds c
 holds n c ok = found-value 0 (c .bound) (c .held) (ok .held)
 
-kept-value : (e : Eqn) (y : ℕ) (k : Kept) → IsKept e y k → IsOptional (k .prev) × IsOptional (k .value) × IsOptional (k .prior)
-kept-value input y k ok = rw ok (tt, tt, tt)
-kept-value nil y k ok = rw ok (tt, tt, tt)
-kept-value unit y k ok = rw ok (tt, tt, tt)
-kept-value (one f a) y k ok = rw ok (tt, tt, tt)
-kept-value (two g a b) y k ok = rw ok (tt, tt, tt)
-kept-value (last a b) y k ok = (ok .prev, rw (ok .value) tt, rw (ok .prior) tt)
-kept-value (delay a b) y k ok = (rw (ok .prev) tt, ok .value, ok .prior)
+-- what a stream had latest, held or kept
+pub held-latest : (x : Cell) (t : ℕ) (o : Option ℤ) → Holds x → IsOptional o → IsOptional (heldLatest x t o)
+held-latest x t o h k = or-value (latest (view x) t) o (latest-value (view x) h t) k
+
+kept-value : (e : Eqn) (y : ℕ) (k : Kept) → IsKept e y k → IsOptional (k .prev) × IsOptional (k .prevB) × IsOptional (k .value) × IsOptional (k .prior)
+kept-value input y k ok = rw ok (tt, tt, tt, tt)
+kept-value nil y k ok = rw ok (tt, tt, tt, tt)
+kept-value unit y k ok = rw ok (tt, tt, tt, tt)
+kept-value (one f a) y k ok = rw ok (tt, tt, tt, tt)
+kept-value (two g a b) y k ok = rw ok (tt, tt, tt, tt)
+kept-value (last a b) y k ok = (ok .prev, rw (ok .prevB) tt, rw (ok .value) tt, rw (ok .prior) tt)
+kept-value (delay a b) y k ok = (rw (ok .prev) tt, rw (ok .prevB) tt, ok .value, ok .prior)
+kept-value (signal c a b) y k ok = (ok .prev, ok .prevB, rw (ok .value) tt, rw (ok .prior) tt)
 
 -- what an equation gives at a stamp
 pub gives-value : (n : ℕ) (e : Eqn) (o a b : Cell) (t : ℕ) → t < horizon → IsKept e (o .bound) (o .kept) → IsValue (operators.valueOf e) → Holds a → Holds b → IsOptional (gives e o a b t)
@@ -132,5 +141,7 @@ gives-value n nil o a b t h k v ha hb = tt
 gives-value n unit o a b t h k v ha hb = unit-value t
 gives-value n (one f _) o a b t h k v ha hb = one-value f t (view a t) h v
 gives-value n (two g _ _) o a b t h k v ha hb = two-value g (view a t) (view b t) (ha t) (hb t)
-gives-value n (last x y) o a b t h k v ha hb = last-value (view b t) (orElse (latest (view a) t) (o .kept .prev)) (or-value (latest (view a) t) (o .kept .prev) (latest-value (view a) ha t) (kept-value (last x y) (o .bound) (o .kept) k .0))
+gives-value n (last x y) o a b t h k v ha hb = last-value (view b t) (heldLatest a t (o .kept .prev)) (held-latest a t (o .kept .prev) ha (kept-value (last x y) (o .bound) (o .kept) k .0))
 gives-value n (delay x y) o a b t h k v ha hb = delay-value (due o a (point o b t) t)
+gives-value n (signal c x y) o a b t h k v ha hb =
+    signal-value c (view a t) (view b t) (heldLatest a (suc t) (o .kept .prev)) (heldLatest b (suc t) (o .kept .prevB)) (held-latest a (suc t) (o .kept .prev) ha (k .prev)) (held-latest b (suc t) (o .kept .prevB) hb (k .prevB))

@@ -12,7 +12,7 @@ use lib.Seq.{getD-set-same}
 use borrow.Author.Tests.{lt-ltb, leb-false}
 use mir.Syntax.{w64}
 use mir.Val.{ofZ}
-use Rattle.meaning.specs.Plan.{Eqn, input, nil, unit, one, two, last, delay, isInput}
+use Rattle.meaning.specs.Plan.{Eqn, input, nil, unit, one, two, last, delay, signal, isInput}
 use Rattle.meaning.specs.Arguments.{reads, argA, argB, AllBelow}
 use Rattle.meaning.specs.Events.{Event, ev, horizon}
 use Rattle.machine.specs.State.{Kept, Cell, State, absent, cellAt, room, withKept}
@@ -48,6 +48,7 @@ since-below (one f a) y k ok = rw ok (omega arith)
 since-below (two g a b) y k ok = rw ok (omega arith)
 since-below (last a b) y k ok = let s = ok .since in omega arith
 since-below (delay a b) y k ok = ok .since
+since-below (signal c a b) y k ok = let s = ok .since in omega arith
 
 look-of : (n : ℕ) (c : Cell) → SoundCell n c → lookOf (ofCell c) ≡ c
 look-of n c ok = look-cell c (cell-back n c ok) (ok .bound) (since-below (c .eqn) (c .bound) (c .kept) (ok .kept))
@@ -62,6 +63,7 @@ first-below n (one f a) h k = k .0
 first-below n (two g a b) h k = k .0
 first-below n (last a b) h k = k .0
 first-below n (delay a b) h k = k .0
+first-below n (signal c a b) h k = k .0
 
 second-below : (n : ℕ) (e : Eqn) → 0 < n → AllBelow n (reads e) → argB e < n
 second-below n input h k = h
@@ -71,6 +73,7 @@ second-below n (one f a) h k = h
 second-below n (two g a b) h k = k .1 .0
 second-below n (last a b) h k = k .1 .0
 second-below n (delay a b) h k = k .1 .0
+second-below n (signal c a b) h k = k .1 .0
 
 count-in : (c : Cell) → num countF (ofCell c) ≡ length (c .held)
 unfolding ofCell

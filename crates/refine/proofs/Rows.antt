@@ -1,19 +1,19 @@
 -- What each raw step makes of a cell's record is the record of what the machine makes of the cell.
 use Prim.Native.Nat.{ℕ, _+_, min}
-use mathlib.Core.Path.{_≡_, refl, ap, _∙_}
+use mathlib.Core.Path.{_≡_, refl, sym, ap, _∙_}
 use mathlib.Core.List.{List, map}
 use mathlib.Core.Bool.{Bool, true, false, cond}
 use lib.Dec.{leb, ltb, eqb}
 use lib.IntN.{ℤ}
 use mir.Syntax.{w64}
 use mir.Val.{ofZ}
-use Rattle.meaning.specs.Plan.{Eqn, input, nil, unit, one, two, last, delay}
+use Rattle.meaning.specs.Plan.{Eqn, input, nil, unit, one, two, last, delay, signal}
 use Rattle.meaning.specs.Arguments.{Argument}
 use Rattle.meaning.specs.Events.{Event}
 use Rattle.machine.specs.State.{Kept, Cell}
 use Rattle.machine.specs.Step.{anyOf, readsIt, valueTold, priorTold, sinceTold, keptTold, told}
 use Rattle.operators.specs.Operators.{groupOf, numberOf}
-use Rattle.operators.proofs.Laws.{one-group, two-group, arguments-of}
+use Rattle.operators.proofs.Laws.{one-group, two-group, signal-group, arguments-of}
 use Rattle.layout.specs.Record.{Raw}
 use Rattle.encoding.specs.View.{keptNums, flag, rawOf, ofCell}
 use Rattle.readers.specs.Step.{readsRow, toldLast, toldAt, toldValue, toldPrior, toldSince, toldDelay, toldRow, lowered, waitingRow}
@@ -103,6 +103,9 @@ told-raw s t v (two g a b) o y h m k = rw (two-group g) (cond-same (ltb t y) (ra
 told-raw s t v (last a b) o y h m k = last-told s t v a b o y h m k (ltb t y) (eqb a s) refl refl
 told-raw s t v (delay a b) o y h m k =
     delay-told s t a b o y h m v k (ltb t y) refl
+told-raw s t v (signal c a b) o y h m k =
+    let raw : Kept → Raw = λ x. rawOf (signal c a b) o y h m (keptNums (signal c a b) x) in
+    rw (signal-group c) (cond-same (ltb t y) (raw k) ∙ ap raw (sym (cond-same (ltb t y) k)))
 
 pub told-of : (s t : ℕ) (v : ℤ) (c : Cell) → toldRow s t (ofZ w64 v) (ofCell c) ≡ ofCell (told s t v c)
 unfolding ofCell told

@@ -119,7 +119,7 @@ op-case {A = A} s at op q e c = by-word (skip s at opKey) refl e
     by-word (Past p) r t = named-case s p (nameAt s p 5) op q t (c p r)
     by-word Absent r t = no-fault t
 
--- a stream's stored number is one of the nineteen
+-- a stream's stored number is an operator's
 pub op-range : (s : List ℕ) (at : ℕ) (f : Fields) → stream s at ≡ Lines.Stream f → (1 ≤ f .op) × (f .op ≤ operatorCount)
 op-range s at f e =
     stream-case s at f e

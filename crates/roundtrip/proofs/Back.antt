@@ -14,16 +14,16 @@ use mir.Val.{ofZ, toZ}
 use mir.Facts.{ofZ-toZ}
 use Rattle.meaning.specs.Events.{horizon}
 use Rattle.machine.specs.State.{room, noKept}
-use Rattle.operators.specs.Operators.{groupOf, isIn, isLast, isDelay}
+use Rattle.operators.specs.Operators.{groupOf, isIn, isLast, isDelay, isSignal}
 use Rattle.operators.specs.Rules.{valueOk, outOk}
 use Rattle.operators.specs.declared.Group.{Group}
 use Rattle.le.specs.Bytes.{allZero}
 use Rattle.layout.specs.Record.{Raw, num, decRaw, opF, outF, countF, flagF, priorFlagF, smallF, boundF, nextF, keptF, valueF, priorF, lastF}
 use Rattle.layout.proofs.Laws.{RawOk, num-small}
-use Rattle.encoding.specs.View.{flag, flagOf, bitsOf, noNums, lastNums, delayNums}
+use Rattle.encoding.specs.View.{flag, flagOf, bitsOf, noNums, lastNums, delayNums, signalNums}
 use Rattle.encoding.specs.Back.{optional, keptOf}
-use Rattle.encoding.specs.Sound.{IsValue, IsOptional, LastKept, DelayKept}
-use Rattle.valid.specs.Valid.{planOk, nextOk, sizesOk, risen, flagOk, noneIf, noneOk, lastOk, ownOk, delayOk, keptOk, rowOk}
+use Rattle.encoding.specs.Sound.{IsValue, IsOptional, LastKept, DelayKept, SignalKept}
+use Rattle.valid.specs.Valid.{planOk, nextOk, sizesOk, risen, flagOk, noneIf, noneOk, latestOk, lastOk, signalOk, ownOk, delayOk, keptOk, rowOk}
 use Rattle.valid.proofs.Tests.{left, right}
 use Rattle.valid.proofs.Link.{PlanFacts, plan-facts}
 use Rattle.roundtrip.proofs.Tail.{bits-value}
@@ -142,22 +142,45 @@ module _ (r : Raw) (ok : RawOk r) where
       go (suc (suc (suc (suc (suc (suc (suc (suc (suc (suc (suc (suc (suc (suc zero)))))))))))))) l h q = q
       go (suc (suc (suc (suc (suc (suc (suc (suc (suc (suc (suc (suc (suc (suc (suc j))))))))))))))) l h q = absurd (omega arith)
 
+  -- the value of an argument's latest event
+  latest-facts : (f j : ℕ) → 8 ≤ j → j < 15 → latestOk f j r ≡ true → FlagFacts (num f r) (num j r) × (num boundF r ≡ 0 → optional (num f r) (num j r) ≡ none)
+  unfolding latestOk
+  latest-facts f j l h e =
+      let a : Bool = flagOk (num f r) (num j r) in
+      let b : Bool = noneIf (num boundF r) (num f r) in
+      (flag-facts (num f r) (num j r) (word j l h) (left a b e), absent (num boundF r) (num f r) (num j r) (right a b e))
+
   pub last-kept : lastOk r ≡ true → isLast (groupOf (num opF r)) ≡ true → LastKept (num boundF r) (keptOf r) × (lastNums (keptOf r) ≡ record { flag = num flagF r; priorFlag = num priorFlagF r; kept = num keptF r; value = num valueF r; prior = num priorF r })
   unfolding lastOk keptOf
   last-kept e op =
-      let a : Bool = flagOk (num flagF r) (num keptF r) in
-      let b : Bool = noneIf (num boundF r) (num flagF r) in
+      let a : Bool = latestOk flagF keptF r in
       let c : Bool = eqb (num priorFlagF r) 0 in
       let d : Bool = eqb (num valueF r) 0 in
       let f : Bool = eqb (num priorF r) 0 in
-      let e₁ = right a (b && (c && (d && f))) e in
-      let e₂ = right b (c && (d && f)) e₁ in
-      let e₃ = right c (d && f) e₂ in
-      let g = flag-facts (num flagF r) (num keptF r) (word keptF (lit≤ tt) (lit< tt)) (left a (b && (c && (d && f))) e) in
-      let z = absent (num boundF r) (num flagF r) (num keptF r) (left b (c && (d && f)) e₁) in
+      let e₁ = right a (c && (d && f)) e in
+      let e₂ = right c (d && f) e₁ in
+      let x = latest-facts flagF keptF (lit≤ tt) (lit< tt) (left a (c && (d && f)) e) in
+      let g = x .0 in
       rw op (
-        record { prev = g .isOptional; fresh = z; since = refl; value = refl; prior = refl },
-        λ i. record { flag = g .flag i; priorFlag = sym (eqb-true (num priorFlagF r) 0 (left c (d && f) e₂)) i; kept = g .bits i; value = sym (eqb-true (num valueF r) 0 (left d f e₃)) i; prior = sym (eqb-true (num priorF r) 0 (right d f e₃)) i },
+        record { prev = g .isOptional; fresh = x .1; prevB = refl; since = refl; value = refl; prior = refl },
+        λ i. record { flag = g .flag i; priorFlag = sym (eqb-true (num priorFlagF r) 0 (left c (d && f) e₁)) i; kept = g .bits i; value = sym (eqb-true (num valueF r) 0 (left d f e₂)) i; prior = sym (eqb-true (num priorF r) 0 (right d f e₂)) i },
+      )
+
+  pub signal-kept : signalOk r ≡ true → isLast (groupOf (num opF r)) ≡ false → isDelay (groupOf (num opF r)) ≡ false → isSignal (groupOf (num opF r)) ≡ true
+      → SignalKept (num boundF r) (keptOf r) × (signalNums (keptOf r) ≡ record { flag = num flagF r; priorFlag = num priorFlagF r; kept = num keptF r; value = num valueF r; prior = num priorF r })
+  unfolding signalOk keptOf
+  signal-kept e l m op =
+      let a : Bool = latestOk flagF keptF r in
+      let b : Bool = latestOk priorFlagF valueF r in
+      let f : Bool = eqb (num priorF r) 0 in
+      let e₁ = right a (b && f) e in
+      let x = latest-facts flagF keptF (lit≤ tt) (lit< tt) (left a (b && f) e) in
+      let y = latest-facts priorFlagF valueF (lit≤ tt) (lit< tt) (left b f e₁) in
+      let g = x .0 in
+      let h = y .0 in
+      rw (l, m, op) (
+        record { prev = g .isOptional; prevB = h .isOptional; fresh = x .1; freshB = y .1; since = refl; value = refl; prior = refl },
+        λ i. record { flag = g .flag i; priorFlag = h .flag i; kept = g .bits i; value = h .bits i; prior = sym (eqb-true (num priorF r) 0 (right b f e₁)) i },
       )
 
   pub delay-kept : delayOk r ≡ true → isLast (groupOf (num opF r)) ≡ false → isDelay (groupOf (num opF r)) ≡ true → DelayKept (num boundF r) (keptOf r) × (delayNums (keptOf r) ≡ record { flag = num flagF r; priorFlag = num priorFlagF r; kept = num keptF r; value = num valueF r; prior = num priorF r })
@@ -177,6 +200,7 @@ module _ (r : Raw) (ok : RawOk r) where
       rw (l, op) (
         record {
           prev = refl;
+          prevB = refl;
           since = leb-true (num keptF r) (num boundF r) (right w (leb (num keptF r) (num boundF r)) (right d f e₃));
           value = g .isOptional;
           prior = h .isOptional;
@@ -197,9 +221,9 @@ module _ (r : Raw) (ok : RawOk r) where
       let f : Bool = w && leb (num keptF r) (num boundF r) in
       left w (leb (num keptF r) (num boundF r)) (right d f (right c (d && f) (right b (c && (d && f)) (right a (b && (c && (d && f))) e))))
 
-  pub none-kept : noneOk r ≡ true → isLast (groupOf (num opF r)) ≡ false → isDelay (groupOf (num opF r)) ≡ false → (keptOf r ≡ noKept) × (noNums ≡ record { flag = num flagF r; priorFlag = num priorFlagF r; kept = num keptF r; value = num valueF r; prior = num priorF r })
+  pub none-kept : noneOk r ≡ true → isLast (groupOf (num opF r)) ≡ false → isDelay (groupOf (num opF r)) ≡ false → isSignal (groupOf (num opF r)) ≡ false → (keptOf r ≡ noKept) × (noNums ≡ record { flag = num flagF r; priorFlag = num priorFlagF r; kept = num keptF r; value = num valueF r; prior = num priorF r })
   unfolding noneOk keptOf
-  none-kept e l m =
+  none-kept e l m n =
       let a : Bool = eqb (num flagF r) 0 in
       let b : Bool = eqb (num priorFlagF r) 0 in
       let c : Bool = eqb (num keptF r) 0 in
@@ -208,6 +232,6 @@ module _ (r : Raw) (ok : RawOk r) where
       let e₁ = right a (b && (c && (d && f))) e in
       let e₂ = right b (c && (d && f)) e₁ in
       let e₃ = right c (d && f) e₂ in (
-        rw (l, m),
+        rw (l, m, n),
         λ i. record { flag = sym (eqb-true (num flagF r) 0 (left a (b && (c && (d && f))) e)) i; priorFlag = sym (eqb-true (num priorFlagF r) 0 (left b (c && (d && f)) e₁)) i; kept = sym (eqb-true (num keptF r) 0 (left c (d && f) e₂)) i; value = sym (eqb-true (num valueF r) 0 (left d f e₃)) i; prior = sym (eqb-true (num priorF r) 0 (right d f e₃)) i },
       )

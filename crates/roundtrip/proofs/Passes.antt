@@ -12,11 +12,11 @@ use lib.Seq.{drop-append-add}
 use borrow.Author.Tests.{le-leb, lt-ltb, eq-eqb, ne-eqb}
 use mir.Syntax.{w64}
 use mir.Val.{ofZ}
-use Rattle.meaning.specs.Plan.{Eqn, input, nil, unit, one, two, last, delay}
+use Rattle.meaning.specs.Plan.{Eqn, input, nil, unit, one, two, last, delay, signal}
 use Rattle.meaning.specs.Events.{Event, horizon}
 use Rattle.machine.specs.State.{Kept, Cell, room}
 use Rattle.operators.specs.Operators.{groupOf, isDelay, isPresent, isOperator, eqnGroup, numberOf}
-use Rattle.operators.proofs.Laws.{one-group, two-group, group-of}
+use Rattle.operators.proofs.Laws.{one-group, two-group, signal-group, group-of}
 use Rattle.operators.proofs.Rules.{out-pass, fields-pass}
 use Rattle.le.specs.Bytes.{allZero}
 use Rattle.le.specs.Layout.{encFields, encRows}
@@ -27,7 +27,7 @@ use Rattle.layout.proofs.Slots.{slot-zeros}
 use Rattle.encoding.specs.View.{flag, flagOf, bitsOf, keptNums, slotOf, padTo, rawOf, ofCell}
 use Rattle.encoding.specs.Sound.{Rising, IsNext, IsKept, SoundCell, Own}
 use Rattle.encoding.proofs.Widths.{cell-raw, pad-length}
-use Rattle.valid.specs.Valid.{planOk, nextOk, sizesOk, risen, flagOk, noneIf, noneOk, lastOk, ownOk, delayOk, keptOk, rowOk}
+use Rattle.valid.specs.Valid.{planOk, nextOk, sizesOk, risen, flagOk, noneIf, noneOk, latestOk, lastOk, signalOk, ownOk, delayOk, keptOk, rowOk}
 
 -- ---- the plan part
 
@@ -42,6 +42,7 @@ op-passes e = ap isPresent (group-of e) ∙ shape e
     shape (two g a b) = refl
     shape (last a b) = refl
     shape (delay a b) = refl
+    shape (signal c a b) = refl
 
 flag-small : (b : Bool) → flag b < 2
 flag-small true = lit< tt
@@ -89,13 +90,15 @@ newest-passes lo top (suc n) zero (e ∷ d ∷ es) h r l = absurd (omega arith)
 newest-passes lo top (suc n) (suc j) (e ∷ es) h r l = newest-passes (suc (e .stamp)) top n j es (omega arith) (r .2) (omega arith)
 
 kept-passes : (e : Eqn) (o : Bool) (y : ℕ) (h : List Event) (m : ℕ) (k : Kept) → IsKept e y k → length h ≤ room → (T (isDelay (eqnGroup e)) → Rising 0 (k .since) h) → keptOk (rawOf e o y h m (keptNums e k)) ≡ true
-unfolding keptOk noneOk lastOk delayOk ownOk groupOf numberOf
+unfolding keptOk noneOk latestOk lastOk signalOk delayOk ownOk groupOf numberOf
 kept-passes input o y h m k ok few own = refl
 kept-passes nil o y h m k ok few own = refl
 kept-passes unit o y h m k ok few own = refl
 kept-passes (one f a) o y h m k ok few own = rw (one-group f)
 kept-passes (two g a b) o y h m k ok few own = rw (two-group g)
 kept-passes (last a b) o y h m k ok few own = rw (flag-passes (k .prev), none-passes y (k .prev) (ok .fresh))
+kept-passes (signal c a b) o y h m k ok few own =
+    rw (signal-group c, flag-passes (k .prev), none-passes y (k .prev) (ok .fresh), flag-passes (k .prevB), none-passes y (k .prevB) (ok .freshB))
 kept-passes (delay a b) o y h m k ok few own =
     rw (flag-passes (k .value), flag-passes (k .prior), none-passes (k .since) (k .value) (ok .unset), none-passes y (k .prior) (ok .fresh), newest h few (own tt)) (le-leb (k .since) y (ok .since))
   where

@@ -10,9 +10,9 @@ use lib.Seq.{length-take-le}
 use borrow.Author.Tests.{eqb-true, ltb-true, leb-true, ne-eqb}
 use mir.Syntax.{w64}
 use mir.Val.{ofZ, toZ}
-use Rattle.meaning.specs.Plan.{Eqn, input, nil, unit, one, two, last, delay, isInput}
+use Rattle.meaning.specs.Plan.{Eqn, input, nil, unit, one, two, last, delay, signal, isInput}
 use Rattle.machine.specs.State.{Kept, room, noKept}
-use Rattle.operators.specs.Operators.{groupOf, isLast, isDelay, eqnGroup, usesK, numberOf}
+use Rattle.operators.specs.Operators.{groupOf, isLast, isDelay, isSignal, eqnGroup, usesK, numberOf}
 use Rattle.operators.specs.declared.Group.{Group}
 use Rattle.operators.proofs.Laws.{group-of, number-back, value-back, input-by-number}
 use Rattle.operators.proofs.Rules.{value-ok, out-ok, fields-first, fields-second, fields-reads}
@@ -21,25 +21,27 @@ use Rattle.le.specs.Layout.{decFields}
 use Rattle.layout.specs.Record.{Raw, noSlot, num, slotAt, decRaw, opF, aF, bF, outF, countF, flagF, priorFlagF, kF, boundF, nextF, keptF, valueF, priorF}
 use Rattle.layout.proofs.Laws.{RawOk, raw-ok}
 use Rattle.layout.proofs.Slots.{slots-many}
-use Rattle.encoding.specs.View.{flag, KeptNums, noNums, lastNums, delayNums, keptNums, slotOf, padTo, ofCell}
+use Rattle.encoding.specs.View.{flag, KeptNums, noNums, lastNums, delayNums, signalNums, keptNums, slotOf, padTo, ofCell}
 use Rattle.encoding.specs.Back.{eventOf, heldOf, keptOf, toCell}
-use Rattle.encoding.specs.Sound.{IsValue, Rising, IsNext, LastKept, DelayKept, IsKept, SoundCell, Own}
-use Rattle.valid.specs.Valid.{nextOk, lastOk, ownOk, delayOk, noneOk, keptOk}
+use Rattle.encoding.specs.Sound.{IsValue, Rising, IsNext, LastKept, DelayKept, SignalKept, IsKept, SoundCell, Own}
+use Rattle.valid.specs.Valid.{nextOk, lastOk, ownOk, delayOk, signalOk, noneOk, keptOk}
 use Rattle.valid.proofs.Link.{eqnIn}
 use Rattle.roundtrip.proofs.Tail.{slots-back, stamps-back, stamps-under}
-use Rattle.roundtrip.proofs.Back.{RowFacts, k-is, k-value, out-is, no-input, word, last-kept, delay-kept, own-kept, none-kept}
+use Rattle.roundtrip.proofs.Back.{RowFacts, k-is, k-value, out-is, no-input, word, last-kept, delay-kept, signal-kept, own-kept, none-kept}
 
 -- ---- kept data by the equation's group
 
 is-kept : (e : Eqn) (y : ℕ) (k : Kept) → (isLast (eqnGroup e) ≡ true → LastKept y k) → (isLast (eqnGroup e) ≡ false → isDelay (eqnGroup e) ≡ true → DelayKept y k)
-    → (isLast (eqnGroup e) ≡ false → isDelay (eqnGroup e) ≡ false → k ≡ noKept) → IsKept e y k
-is-kept input y k l d n = n refl refl
-is-kept nil y k l d n = n refl refl
-is-kept unit y k l d n = n refl refl
-is-kept (one f a) y k l d n = n refl refl
-is-kept (two g a b) y k l d n = n refl refl
-is-kept (last a b) y k l d n = l refl
-is-kept (delay a b) y k l d n = d refl refl
+    → (isLast (eqnGroup e) ≡ false → isDelay (eqnGroup e) ≡ false → isSignal (eqnGroup e) ≡ true → SignalKept y k)
+    → (isLast (eqnGroup e) ≡ false → isDelay (eqnGroup e) ≡ false → isSignal (eqnGroup e) ≡ false → k ≡ noKept) → IsKept e y k
+is-kept input y k l d x n = n refl refl refl
+is-kept nil y k l d x n = n refl refl refl
+is-kept unit y k l d x n = n refl refl refl
+is-kept (one f a) y k l d x n = n refl refl refl
+is-kept (two g a b) y k l d x n = n refl refl refl
+is-kept (last a b) y k l d x n = l refl
+is-kept (delay a b) y k l d x n = d refl refl
+is-kept (signal c a b) y k l d x n = x refl refl refl
 
 a-delay : (e : Eqn) → T (isDelay (eqnGroup e)) → (isLast (eqnGroup e) ≡ false) × (isDelay (eqnGroup e) ≡ true)
 a-delay input t = absurd t
@@ -49,6 +51,7 @@ a-delay (one f a) t = absurd t
 a-delay (two g a b) t = absurd t
 a-delay (last a b) t = absurd t
 a-delay (delay a b) t = (refl, refl)
+a-delay (signal c a b) t = absurd t
 
 abbrev storedNums : Raw → KeptNums
 storedNums r = record { flag = num flagF r; priorFlag = num priorFlagF r; kept = num keptF r; value = num valueF r; prior = num priorF r }
@@ -62,9 +65,13 @@ module _ (r : Raw) (ok : RawOk r) (e : keptOk r ≡ true) where
   unfolding keptOk
   as-delay l d = rw (l, d) at e
 
-  as-none : isLast (groupOf (num opF r)) ≡ false → isDelay (groupOf (num opF r)) ≡ false → noneOk r ≡ true
+  as-signal : isLast (groupOf (num opF r)) ≡ false → isDelay (groupOf (num opF r)) ≡ false → isSignal (groupOf (num opF r)) ≡ true → signalOk r ≡ true
   unfolding keptOk
-  as-none l d = rw (l, d) at e
+  as-signal l d x = rw (l, d, x) at e
+
+  as-none : isLast (groupOf (num opF r)) ≡ false → isDelay (groupOf (num opF r)) ≡ false → isSignal (groupOf (num opF r)) ≡ false → noneOk r ≡ true
+  unfolding keptOk
+  as-none l d x = rw (l, d, x) at e
 
   -- q is the equation whose stored number the record has
   module _ (q : Eqn) (n : numberOf q ≡ num opF r) where
@@ -76,18 +83,20 @@ module _ (r : Raw) (ok : RawOk r) (e : keptOk r ≡ true) where
         is-kept q (num boundF r) (keptOf r)
         (λ l. let l′ = ap isLast same-group ∙ l in last-kept r ok (as-last l′) l′ .0)
         (λ l d. let l′ = ap isLast same-group ∙ l in let d′ = ap isDelay same-group ∙ d in delay-kept r ok (as-delay l′ d′) l′ d′ .0)
-        (λ l d. let l′ = ap isLast same-group ∙ l in let d′ = ap isDelay same-group ∙ d in none-kept r ok (as-none l′ d′) l′ d′ .0)
+        (λ l d x. let l′ = ap isLast same-group ∙ l in let d′ = ap isDelay same-group ∙ d in let x′ = ap isSignal same-group ∙ x in signal-kept r ok (as-signal l′ d′ x′) l′ d′ x′ .0)
+        (λ l d x. let l′ = ap isLast same-group ∙ l in let d′ = ap isDelay same-group ∙ d in let x′ = ap isSignal same-group ∙ x in none-kept r ok (as-none l′ d′ x′) l′ d′ x′ .0)
 
     kept-nums : keptNums q (keptOf r) ≡ storedNums r
-    kept-nums = sym (ap (λ (g : Group). numsBy g) same-group) ∙ go (isLast (groupOf (num opF r))) refl (isDelay (groupOf (num opF r))) refl
+    kept-nums = sym (ap (λ (g : Group). numsBy g) same-group) ∙ go (isLast (groupOf (num opF r))) refl (isDelay (groupOf (num opF r))) refl (isSignal (groupOf (num opF r))) refl
       where
         numsBy : Group → KeptNums
-        numsBy g = cond (isLast g) (lastNums (keptOf r)) (cond (isDelay g) (delayNums (keptOf r)) noNums)
+        numsBy g = cond (isLast g) (lastNums (keptOf r)) (cond (isDelay g) (delayNums (keptOf r)) (cond (isSignal g) (signalNums (keptOf r)) noNums))
 
-        go : (l : Bool) → isLast (groupOf (num opF r)) ≡ l → (d : Bool) → isDelay (groupOf (num opF r)) ≡ d → numsBy (groupOf (num opF r)) ≡ storedNums r
-        go true l d m = rw l (last-kept r ok (as-last l) l .1)
-        go false l true m = rw (l, m) (delay-kept r ok (as-delay l m) l m .1)
-        go false l false m = rw (l, m) (none-kept r ok (as-none l m) l m .1)
+        go : (l : Bool) → isLast (groupOf (num opF r)) ≡ l → (d : Bool) → isDelay (groupOf (num opF r)) ≡ d → (x : Bool) → isSignal (groupOf (num opF r)) ≡ x → numsBy (groupOf (num opF r)) ≡ storedNums r
+        go true l d m x n = rw l (last-kept r ok (as-last l) l .1)
+        go false l true m x n = rw (l, m) (delay-kept r ok (as-delay l m) l m .1)
+        go false l false m true n = rw (l, m, n) (signal-kept r ok (as-signal l m n) l m n .1)
+        go false l false m false n = rw (l, m, n) (none-kept r ok (as-none l m n) l m n .1)
 
 -- ---- the record
 

@@ -9,16 +9,15 @@ use native.Mathlib.Omega.{arith}
 use lib.Dec.{T, leb, ltb, ltb→lt, nltb→le}
 use lib.ListN.{length}
 use lib.IntN.{ℤ}
-use Rattle.meaning.specs.Plan.{Eqn, input, nil, unit, one, two, last, delay}
+use Rattle.meaning.specs.Plan.{Calc, Eqn, input, nil, unit, one, two, last, delay, signal}
 use Rattle.meaning.specs.Arguments.{reads, Each, argA, argB}
-use Rattle.meaning.specs.Events.{Event, ev, Stream, Streams, has, orElse, horizon}
-use Rattle.meaning.specs.Table.{latest, last-at, is, fires, delay-at, at}
+use Rattle.meaning.specs.Events.{Event, ev, Stream, Streams, has, horizon}
+use Rattle.meaning.specs.Table.{latest, last-at, signal-at, is, fires, delay-at, at}
 use Rattle.meaning.proofs.Tests.{Is, yes!, no!, look}
 use Rattle.meaning.proofs.Each.{each-map}
-use Rattle.meaning.proofs.Causal.{latest-cong}
 use Rattle.meaning.proofs.Induction.{strong}
 use Rattle.machine.specs.State.{Cell, State, cellAt, room}
-use Rattle.machine.specs.Reach.{view, pastLatest, limit, point, stops, reach, valueAt, due, gives, first, Next, event, silent, nextOf, decide}
+use Rattle.machine.specs.Reach.{view, pastLatest, limit, point, stops, reach, valueAt, due, heldLatest, gives, first, Next, event, silent, nextOf, decide}
 use Rattle.machine.specs.Step.{leastWaiting, newBound, added}
 use Rattle.machine.specs.Step as step
 use Rattle.machine.proofs.Search.{least-ge, least-le, least-before, least-hit}
@@ -26,7 +25,7 @@ use Rattle.machine.proofs.Window.{Seen, has-none, latest-seam, past-cong, past-
 use Rattle.machine.proofs.Release.{each-read, waiting-le-reader}
 use Rattle.runs.specs.Inside.{knownIn, below}
 use Rattle.runs.proofs.Kept.{keptOf, pointOf, point-le, point-new, value-seam}
-use Rattle.runs.proofs.Tracks.{cut-yes, Ahead, Tracks, New, quiet, new-none, held-shows}
+use Rattle.runs.proofs.Tracks.{cut-yes, cut-latest, Ahead, Tracks, New, quiet, new-none, held-shows}
 use Rattle.runs.proofs.Tracks as tracks
 use Rattle.runs.proofs.Fires.{fires-latest}
 
@@ -77,10 +76,14 @@ module _ (S : Streams) (M : State) (inv : Tracks S M) where
     known-past : (a t : ℕ) → t ≤ C a .bound → pastLatest (knownIn S M a) t ≡ pastLatest (S a) t
     known-past a t l = past-cong (knownIn S M a) (S a) t (λ p m. cut-yes (S a) (C a .bound) p (omega arith))
 
+    -- what an argument had latest: held, or kept
+    latest-is : (a t : ℕ) {v : Option ℤ} → floor a ≤ y → v ≡ latest (knownIn S M a) y → y ≤ t → t ≤ C a .bound → heldLatest (C a) t v ≡ latest (S a) t
+    latest-is a t la k l m = rw (k, latest-seam (knownIn S M a) (view (C a)) (floor a) (shows-now a) y t la l) (cut-latest (S a) (C a .bound) t m)
+
     last-gives : (a b t : ℕ) → floor a ≤ y → floor b ≤ y → C s .kept ≡ keptOf (last a b) (knownIn S M) s y → y ≤ t → t < C b .bound
-        → T (not (has (view (C b) t) && ltb (C a .bound) t)) → last-at (view (C b) t) (orElse (latest (view (C a)) t) (C s .kept .prev)) ≡ last-at (S b t) (latest (S a) t)
+        → T (not (has (view (C b) t) && ltb (C a .bound) t)) → last-at (view (C b) t) (heldLatest (C a) t (C s .kept .prev)) ≡ last-at (S b t) (latest (S a) t)
     last-gives a b t la lb k l m n =
-        rw (arg-at b t lb l m) (cases (S b t) (λ i. before (nltb→le (C a .bound) t (right (has (S b t)) (ltb (C a .bound) t) i (rw (arg-at b t lb l m) at n)))))
+        rw (arg-at b t lb l m) (cases (S b t) (λ i. latest-is a t la (ap (λ c. c .prev) k) l (nltb→le (C a .bound) t (right (has (S b t)) (ltb (C a .bound) t) i (rw (arg-at b t lb l m) at n)))))
       where
         cases : (o : Option ℤ) {u v : Option ℤ} → (T (has o) → u ≡ v) → last-at o u ≡ last-at o v
         cases none h = unfold last-at in refl
@@ -90,10 +93,15 @@ module _ (S : Streams) (M : State) (inv : Tracks S M) where
         right true q h k = k
         right false q h k = absurd h
 
-        before : t ≤ C a .bound → orElse (latest (view (C a)) t) (C s .kept .prev) ≡ latest (S a) t
-        before j =
-            rw k (latest-seam (knownIn S M a) (view (C a)) (floor a) (shows-now a) y t la l)
-            ∙ latest-cong (knownIn S M a) (S a) t (λ p i. cut-yes (S a) (C a .bound) p (omega arith))
+    signal-gives : (c : Calc) (a b t : ℕ) → floor a ≤ y → floor b ≤ y → C s .kept ≡ keptOf (signal c a b) (knownIn S M) s y → y ≤ t → t < C a .bound → t < C b .bound
+        → gives (signal c a b) (C s) (C a) (C b) t ≡ signal-at c (S a t) (S b t) (latest (S a) (suc t)) (latest (S b) (suc t))
+    signal-gives c a b t la lb k l m n =
+        rw (
+          arg-at a t la l m,
+          arg-at b t lb l n,
+          latest-is a (suc t) la (ap (λ c. c .prev) k) (omega arith) m,
+          latest-is b (suc t) lb (ap (λ c. c .prevB) k) (omega arith) n,
+        )
 
     module _ (a b t : ℕ) (la : floor a ≤ y) (lb : floor b ≤ y) (k : C s .kept ≡ keptOf (delay a b) (knownIn S M) s y) (l : y ≤ t) (m : t ≤ C b .bound)
         (q : (p : ℕ) → y ≤ p → p < t → S s p ≡ none) where
@@ -145,6 +153,7 @@ module _ (S : Streams) (M : State) (inv : Tracks S M) where
     gives-at (last x z) t l k row a h b c n i = last-gives x z t (l .0) (l .1 .0) k a b c
     gives-at (delay x z) t l k row a h b c n i =
         ap delay-at (delay-gives x z t (l .0) (l .1 .0) k a (omega arith) n c (fires-latest (S x) (S z) (S s) horizon row t (omega arith)))
+    gives-at (signal g x z) t l k row a h b c n i = signal-gives g x z t (l .0) (l .1 .0) k a (omega arith) (omega arith)
 
     limit-le : (e : Eqn) → limit e (C s) (C (argA e)) (C (argB e)) ≤ horizon
     limit-le input = inv .top s
@@ -154,6 +163,7 @@ module _ (S : Streams) (M : State) (inv : Tracks S M) where
     limit-le (two g a b) = let x = inv .top a in omega arith
     limit-le (last a b) = inv .top b
     limit-le (delay a b) = omega arith
+    limit-le (signal c a b) = let x = inv .top a in omega arith
 
     ahead-limit : (e : Eqn) (x : ℕ) → Ahead e M y → x ≤ max y (limit e (C s) (C (argA e)) (C (argB e))) → Ahead e M x
     ahead-limit input x k l = tt
@@ -163,6 +173,7 @@ module _ (S : Streams) (M : State) (inv : Tracks S M) where
     ahead-limit (two g a b) x k l = tt
     ahead-limit (last a b) x k l = tt
     ahead-limit (delay a b) x k l = omega arith
+    ahead-limit (signal c a b) x k l = let u = k .0 in let v = k .1 in (omega arith, omega arith)
 
     module _ (row : (p : ℕ) → p < horizon → S s p ≡ at (cellAt M s .eqn) rd S s p) (equation : cellAt M s .eqn ≡ input → ⊥) where
       abbrev pub e : Eqn

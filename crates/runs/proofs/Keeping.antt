@@ -1,17 +1,18 @@
--- What a last or a delay keeps, told by the solution: the machine's search for the latest set point finds the latest.
+-- What a last, a delay or a signal form keeps, told by the solution: the machine's search for the latest set point finds the
+-- latest, and what a signal form needs of its arguments is known.
 use mathlib.Core.Path.{_≡_, refl, ap}
 use mathlib.Core.Logic.{inl, inr}
 use Prim.Native.Nat.{ℕ, zero, suc, pred, _≤_, _<_, max}
 use native.Mathlib.Omega.{arith}
 use native.Mathlib.Decide.{decLe}
-use Rattle.meaning.specs.Plan.{Eqn, input, nil, unit, one, two, last, delay}
+use Rattle.meaning.specs.Plan.{Eqn, input, nil, unit, one, two, last, delay, signal}
 use Rattle.meaning.specs.Events.{Stream, Streams}
 use Rattle.machine.specs.State.{State, cellAt}
 use Rattle.machine.specs.Reach.{pastLatest}
 use Rattle.machine.proofs.Window.{past-max, past-hit}
 use Rattle.runs.specs.Inside.{knownIn, SetPoint, PastLatest, never, past, KeptAs}
 use Rattle.runs.proofs.Kept.{keptOf, pointOf, point-le}
-use Rattle.runs.proofs.Tracks.{Tracks}
+use Rattle.runs.proofs.Tracks.{cut-latest, Ahead, Tracks}
 
 -- every set point below y is counted
 pub point-max : (b d : Stream) (y p : ℕ) → p < y → SetPoint b d p → p < pointOf b d y
@@ -36,14 +37,15 @@ point-latest b d y = go (pointOf b d y) refl
         let q : pred (pointOf b d y) ≡ p = ap pred e in
         past {p = p} (omega arith) (rw q at (point-hit b d y (omega arith))) (λ r i j s. let m = point-max b d y r j s in absurd (omega arith))
 
-kept-of : (e : Eqn) (K : Streams) (s y : ℕ) → KeptAs e K s y (keptOf e K s y)
-kept-of input K s y = refl
-kept-of nil K s y = refl
-kept-of unit K s y = refl
-kept-of (one f a) K s y = refl
-kept-of (two g a b) K s y = refl
-kept-of (last a b) K s y = record { prev = refl; others = (refl, refl, refl) }
-kept-of (delay a b) K s y = record { prev = refl; since = point-latest (K b) (K s) y; value = refl; prior = refl }
+kept-of : (e : Eqn) (S : Streams) (M : State) (s y : ℕ) → Ahead e M y → KeptAs e S (knownIn S M) s y (keptOf e (knownIn S M) s y)
+kept-of input S M s y h = refl
+kept-of nil S M s y h = refl
+kept-of unit S M s y h = refl
+kept-of (one f a) S M s y h = refl
+kept-of (two g a b) S M s y h = refl
+kept-of (last a b) S M s y h = record { prev = refl; others = (refl, refl, refl, refl) }
+kept-of (delay a b) S M s y h = record { prev = refl; prevB = refl; since = point-latest (knownIn S M b) (knownIn S M s) y; value = refl; prior = refl }
+kept-of (signal c a b) S M s y h = record { prev = cut-latest (S a) (cellAt M a .bound) y (h .0); prevB = cut-latest (S b) (cellAt M b .bound) y (h .1); others = (refl, refl, refl) }
 
-pub kept-as : (S : Streams) (M : State) → Tracks S M → (s : ℕ) → KeptAs (cellAt M s .eqn) (knownIn S M) s (cellAt M s .bound) (cellAt M s .kept)
-kept-as S M inv s = rw (inv .kept s) (kept-of (cellAt M s .eqn) (knownIn S M) s (cellAt M s .bound))
+pub kept-as : (S : Streams) (M : State) → Tracks S M → (s : ℕ) → KeptAs (cellAt M s .eqn) S (knownIn S M) s (cellAt M s .bound) (cellAt M s .kept)
+kept-as S M inv s = rw (inv .kept s) (kept-of (cellAt M s .eqn) S M s (cellAt M s .bound) (inv .ahead s))

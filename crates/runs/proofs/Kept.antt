@@ -1,6 +1,6 @@
--- What a last or a delay keeps, as a function of the known events; how it follows when a bound goes up or an event comes in.
--- K i is what is known of stream i: its events below its bound. Of an equation with bound y the kept data depends on K
--- below y alone.
+-- What a last, a delay or a signal form keeps, as a function of the known events; how it follows when a bound goes up or an
+-- event comes in. K i is what is known of stream i: its events below its bound. Of an equation with bound y the kept data
+-- depends on K below y alone.
 use mathlib.Core.Path.{_≡_, refl, sym, _∙_, ap}
 use mathlib.Core.Bool.{Bool, true, false, cond, _&&_}
 use mathlib.Core.Option.{Option, none, some}
@@ -11,14 +11,14 @@ use native.Mathlib.Decide.{decLt}
 use lib.Dec.{leb, eqb, eqb→eq, eqb-refl}
 use borrow.Author.Tests.{leb-false}
 use lib.IntN.{ℤ}
-use Rattle.meaning.specs.Plan.{Eqn, input, nil, unit, one, two, last, delay}
+use Rattle.meaning.specs.Plan.{Eqn, input, nil, unit, one, two, last, delay, signal}
 use Rattle.meaning.specs.Arguments.{reads, Each, argA, argB}
 use Rattle.meaning.specs.Events.{Stream, Streams, orElse}
 use Rattle.meaning.specs.Table.{latest}
 use Rattle.meaning.proofs.Tests.{Is, yes!, no!, look, true-is}
 use Rattle.meaning.proofs.Causal.{latest-cong}
 use Rattle.machine.specs.State.{Kept, Cell, noKept}
-use Rattle.machine.specs.Reach.{view, pastLatest, valueAt}
+use Rattle.machine.specs.Reach.{view, pastLatest, valueAt, heldLatest}
 use Rattle.machine.specs.Step.{absorb, later, keptTold}
 use Rattle.machine.proofs.Cells.{ne-eqb, eqb-ne}
 use Rattle.runs.specs.Inside.{below}
@@ -29,10 +29,13 @@ abbrev pub pointOf : (b d : Stream) → ℕ → ℕ
 pointOf b d y = max (pastLatest b y) (pastLatest d y)
 
 abbrev pub ofLast : Option ℤ → Kept
-ofLast v = record { prev = v; since = 0; value = none; prior = none }
+ofLast v = record { prev = v; prevB = none; since = 0; value = none; prior = none }
 
 abbrev pub ofDelay : ℕ → (value prior : Option ℤ) → Kept
-ofDelay z v p = record { prev = none; since = z; value = v; prior = p }
+ofDelay z v p = record { prev = none; prevB = none; since = z; value = v; prior = p }
+
+abbrev pub ofSignal : (a b : Option ℤ) → Kept
+ofSignal a b = record { prev = a; prevB = b; since = 0; value = none; prior = none }
 
 -- what stream s with this equation and the bound y keeps
 abbrev pub keptOf : Eqn → Streams → (s y : ℕ) → Kept
@@ -43,6 +46,7 @@ keptOf (one f a) K s y = noKept
 keptOf (two g a b) K s y = noKept
 keptOf (last a b) K s y = ofLast (latest (K a) y)
 keptOf (delay a b) K s y = ofDelay (pointOf (K b) (K s) y) (below (K a) (pointOf (K b) (K s) y)) (below (K a) y)
+keptOf (signal c a b) K s y = ofSignal (latest (K a) y) (latest (K b) y)
 
 below-cong : (f g : Stream) (z y : ℕ) → z ≤ y → ((p : ℕ) → p < y → f p ≡ g p) → below f z ≡ below g z
 below-cong f g zero y l h = refl
@@ -65,10 +69,11 @@ kept-cong (delay a b) K L s y h =
       below-cong (K a) (L a) (pointOf (L b) (L s) y) y (point-le (L b) (L s) y) (h a),
       below-cong (K a) (L a) y y (omega arith) (h a),
     )
+kept-cong (signal c a b) K L s y h = rw (latest-cong (K a) (L a) y (h a), latest-cong (K b) (L b) y (h b))
 
 -- ---- an event (t, v) comes into stream s: L is what is known then
 
--- a delay is at most one ahead of its second argument
+-- of an equation whose bound y is above t: a delay is at most one ahead of its second argument, a signal form ahead of none
 abbrev pub Edge : Eqn → (s t y : ℕ) → Type 0
 Edge input s t y = Unit
 Edge nil s t y = Unit
@@ -77,6 +82,7 @@ Edge (one f a) s t y = Unit
 Edge (two g a b) s t y = Unit
 Edge (last a b) s t y = Unit
 Edge (delay a b) s t y = b ≡ s → y ≡ suc t
+Edge (signal c a b) s t y = (a ≡ s → ⊥) × (b ≡ s → ⊥)
 
 module _ (K L : Streams) (s t : ℕ) (v : ℤ) (other : (i p : ℕ) → (i ≡ s → p ≡ t → ⊥) → K i p ≡ L i p) (here : L s t ≡ some v) (above : (p : ℕ) → t < p → L s p ≡ none) where
   told-value : (a z : ℕ) → cond (eqb a s && eqb z (t + 1)) (some v) (below (K a) z) ≡ below (L a) z
@@ -96,12 +102,16 @@ module _ (K L : Streams) (s t : ℕ) (v : ℤ) (other : (i p : ℕ) → (i ≡ s
       go (yes! q x) (no! j y) = rw (q, j) (other a p (λ e f. eqb-ne (suc p) (t + 1) y (omega arith)))
       go (no! q x) d = rw q (other a p (λ e f. eqb-ne a s x e))
 
+  -- of another stream nothing new is known
+  latest-other : (a y : ℕ) → (a ≡ s → ⊥) → latest (K a) y ≡ latest (L a) y
+  latest-other a y n = latest-cong (K a) (L a) y (λ p m. other a p (λ e f. n e))
+
   told-prev : (a y : ℕ) → t < y → cond (eqb a s) (some v) (latest (K a) y) ≡ latest (L a) y
   told-prev a y l = go (look (eqb a s))
     where
       go : Is (eqb a s) → cond (eqb a s) (some v) (latest (K a) y) ≡ latest (L a) y
       go (yes! q x) = let e = eqb→eq a s x in rw (q, e, latest-flat (L s) (suc t) y l (λ p m n. above p m), latest-suc (L s) t, here)
-      go (no! q x) = rw q (latest-cong (K a) (L a) y (λ p m. other a p (λ e f. eqb-ne a s x e)))
+      go (no! q x) = rw q (latest-other a y (eqb-ne a s x))
 
   pub kept-told : (e : Eqn) (r y : ℕ) → t < y → ((p : ℕ) → K r p ≡ L r p) → Edge e s t y → keptTold e s y t v (keptOf e K r y) ≡ keptOf e L r y
   kept-told input r y l own g = refl
@@ -132,6 +142,7 @@ module _ (K L : Streams) (s t : ℕ) (v : ℤ) (other : (i p : ℕ) → (i ≡ s
           either (yes! p x) f = let m : t + 1 ≡ y = omega arith in rw (p, m)
           either (no! p x) f = let m : z ≡ y = let h = point-le (K b) (K r) y in let k = leb-false z t p in omega arith in rw (p, m)
       go (no! q x) w = rw (q, past-cong (K b) (L b) y (λ p m. other b p (λ e f. eqb-ne b s x e)), past-cong (K r) (L r) y (λ p m. own p))
+  kept-told (signal c a b) r y l own g = rw (latest-other a y (g .0), latest-other b y (g .1))
 
 -- ---- the bound of stream s goes from y to x: L is what is known then, C the cells, and each shows L from some stamp on
 
@@ -165,9 +176,8 @@ below-pred f (suc p) l = refl
 
 module _ (K L : Streams) (s y x : ℕ) (grows : y < x) (same : (i p : ℕ) → p < y → K i p ≡ L i p)
     (C : ℕ → Cell) (lo : ℕ → ℕ) (shows : (i : ℕ) → Seen (L i) (lo i) (view (C i))) (own : lo s ≤ y) (at : C s .bound ≡ x) where
-  absorbed-last : (a b : ℕ) → lo a ≤ y → C s .kept ≡ keptOf (last a b) K s y → absorb (last a b) (C s) (C a) (C b) ≡ keptOf (last a b) L s x
-  absorbed-last a b l k =
-      rw (k, at, latest-cong (K a) (L a) y (same a), latest-seam (L a) (view (C a)) (lo a) (shows a) y x l (omega arith))
+  absorbed-latest : (a : ℕ) {v : Option ℤ} → lo a ≤ y → v ≡ latest (K a) y → heldLatest (C a) (C s .bound) v ≡ latest (L a) x
+  absorbed-latest a l k = rw (k, at, latest-cong (K a) (L a) y (same a), latest-seam (L a) (view (C a)) (lo a) (shows a) y x l (omega arith))
 
   module _ (a b : ℕ) (la : lo a ≤ y) (lb : lo b ≤ y) (k : C s .kept ≡ keptOf (delay a b) K s y) where
     since-is : C s .kept .since ≡ pointOf (L b) (L s) y
@@ -196,7 +206,7 @@ module _ (K L : Streams) (s y x : ℕ) (grows : y < x) (same : (i p : ℕ) → p
             (value-seam (L a) (view (C a)) (K a) (lo a) y z (C s .kept .since) (shows a) la (same a) (omega arith) (λ n. point-new (L b) (L s) y x (omega arith) (λ q. n (q ∙ sym e))) d)
 
     absorbed-delay : absorb (delay a b) (C s) (C a) (C b) ≡ keptOf (delay a b) L s x
-    absorbed-delay = rw (value-is, later-is, at, shows a .from (pred x) (omega arith), below-pred (L a) x (omega arith), ap (λ c. c .prev) k)
+    absorbed-delay = rw (value-is, later-is, at, shows a .from (pred x) (omega arith), below-pred (L a) x (omega arith), ap (λ c. c .prev) k, ap (λ c. c .prevB) k)
 
   pub kept-absorbed : (e : Eqn) → Each (λ i. lo i ≤ y) (reads e) → C s .kept ≡ keptOf e K s y → absorb e (C s) (C (argA e)) (C (argB e)) ≡ keptOf e L s x
   kept-absorbed input l k = k
@@ -204,5 +214,6 @@ module _ (K L : Streams) (s y x : ℕ) (grows : y < x) (same : (i p : ℕ) → p
   kept-absorbed unit l k = k
   kept-absorbed (one f a) l k = k
   kept-absorbed (two g a b) l k = k
-  kept-absorbed (last a b) l k = absorbed-last a b (l .0) k
+  kept-absorbed (last a b) l k = rw (absorbed-latest a (l .0) (ap (λ c. c .prev) k), k)
   kept-absorbed (delay a b) l k = absorbed-delay a b (l .0) (l .1 .0) k
+  kept-absorbed (signal c a b) l k = rw (absorbed-latest a (l .0) (ap (λ c. c .prev) k), absorbed-latest b (l .1 .0) (ap (λ c. c .prevB) k), k)

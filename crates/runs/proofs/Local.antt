@@ -9,7 +9,7 @@ use lib.Dec.{eqb, eqb→eq}
 use lib.ListN.{set, length-set}
 use lib.Seq.{getD-set-same, getD-set-other}
 use lib.IntN.{ℤ}
-use Rattle.meaning.specs.Plan.{Eqn, input, nil, unit, one, two, last, delay}
+use Rattle.meaning.specs.Plan.{Eqn, input, nil, unit, one, two, last, delay, signal}
 use Rattle.meaning.specs.Arguments.{argA, argB}
 use Rattle.meaning.specs.Events.{Event, Streams, events}
 use Rattle.meaning.proofs.Tests.{Is, yes!, no!, look}
@@ -36,6 +36,7 @@ refreshed-same (one f x) o a b c d p q = refl
 refreshed-same (two g x y) o a b c d p q = refl
 refreshed-same (last x y) o a b c d p q = rw p
 refreshed-same (delay x y) o a b c d p q = rw (p, q)
+refreshed-same (signal g x y) o a b c d p q = rw (p, q)
 
 -- a stream whose bound went up is brought up to date as the step does it
 refreshed-stale : (e : Eqn) (K : Streams) (s y : ℕ) (o a b : Cell) → o .kept ≡ keptOf e K s y → 0 < o .bound → refreshed e (stale o) a b ≡ absorb e o a b
@@ -50,6 +51,7 @@ refreshed-stale (delay x z) K s y o a b k l = rw (ne-eqb (o .bound) 0 (λ e. ome
     gone : (c : Bool) → _≡_ {A = Option ℤ} (cond c none none) none
     gone true = refl
     gone false = refl
+refreshed-stale (signal g x z) K s y o a b k l = rw k
 
 module _ (S : Streams) (M : State) (inv : Tracks S M) (s y : ℕ) (new : List Event) (rise : Rise S M s y new) where
   abbrev C : ℕ → Cell

@@ -8,8 +8,9 @@ use native.Mathlib.Omega.{arith}
 use lib.Dec.{T, eqb}
 use lib.ListN.{length, set}
 use lib.Seq.{getD-set-other}
-use Rattle.meaning.specs.Plan.{Eqn, input, nil, unit, one, two, last, delay, isInput}
+use Rattle.meaning.specs.Plan.{Eqn, isInput}
 use Rattle.meaning.specs.Events.{Event, Streams, events, horizon}
+use Rattle.meaning.proofs.Inputs.{input-is}
 use Rattle.meaning.proofs.Tests.{Is, yes!, no!, look}
 use Rattle.machine.specs.State.{Cell, State, absent, cellAt, withBound, withNext, withHeld}
 use Rattle.machine.specs.Step.{readsIt, dropBelow, leastWaiting, release}
@@ -19,15 +20,6 @@ use Rattle.machine.proofs.Release.{waiting-grows, looser-waiting, release-at, r
 use Rattle.runs.specs.Inside.{cut, knownIn}
 use Rattle.runs.proofs.Kept.{keptOf, kept-cong}
 use Rattle.runs.proofs.Tracks.{cut-quiet, Ahead, ahead-grows, Tracks}
-
-pub input-is : (e : Eqn) → T (isInput e) → e ≡ input
-input-is input h = refl
-input-is nil h = absurd h
-input-is unit h = absurd h
-input-is (one f a) h = absurd h
-input-is (two g a b) h = absurd h
-input-is (last a b) h = absurd h
-input-is (delay a b) h = absurd h
 
 -- an input reads nothing
 reads-none : (i : ℕ) (e : Eqn) → T (isInput e) → T (readsIt i e) → ⊥

@@ -15,7 +15,7 @@ use lib.Dec.{T, leb, ltb, leb→le, nleb→lt, ltb→lt, nltb→le, lt→ltb, T-
 use lib.ListN.{length}
 use lib.Seq.{ext-getD}
 use lib.IntN.{ℤ}
-use Rattle.meaning.specs.Plan.{Eqn, input, nil, unit, one, two, last, delay}
+use Rattle.meaning.specs.Plan.{Eqn, input, nil, unit, one, two, last, delay, signal}
 use Rattle.meaning.specs.Arguments.{reads, Each, argA, argB}
 use Rattle.meaning.specs.Events.{Event, Streams, events, has, horizon}
 use Rattle.meaning.specs.Table.{Solves}
@@ -91,6 +91,7 @@ module _ (ds : List Declared) (rd S : Streams) (sol : Solves (declaredPlan ds) r
     limit-grows (two g a b) n = let p = behind .bounds a in let q = behind .bounds b in omega arith
     limit-grows (last a b) n = behind .bounds b
     limit-grows (delay a b) n = let q = behind .bounds b in omega arith
+    limit-grows (signal c a b) n = let p = behind .bounds a in let q = behind .bounds b in omega arith
 
     module _ (past : top < goal s X) where
       -- what X finds lies at top or later
@@ -132,6 +133,7 @@ module _ (ds : List Declared) (rd S : Streams) (sol : Solves (declaredPlan ds) r
           let m = nltb→le (cellAt X a .bound) (point (cellAt X s) (cellAt X b) top) n in
           not-T (ltb (cellAt Z a .bound) (point (cellAt Z s) (cellAt Z b) top)) (λ h.
           let v = ltb→lt (cellAt Z a .bound) (point (cellAt Z s) (cellAt Z b) top) h in absurd (omega arith))
+      no-stop (signal c a b) lx lz kx kz l n = tt
 
       far-z : top < reachOf s Z
       far-z =

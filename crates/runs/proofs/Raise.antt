@@ -13,7 +13,7 @@ use lib.Dec.{T, ltb, eqb, eqb→eq, ltb→lt, nltb→le, T-not}
 use lib.ListN.{set, length-set}
 use lib.Seq.{getD-set-same, getD-set-other}
 use lib.IntN.{ℤ}
-use Rattle.meaning.specs.Plan.{Eqn, input, nil, unit, one, two, last, delay}
+use Rattle.meaning.specs.Plan.{Eqn, input, nil, unit, one, two, last, delay, signal}
 use Rattle.meaning.specs.Arguments.{reads, argA, argB}
 use Rattle.meaning.specs.Events.{Event, ev, Streams, events, horizon}
 use Rattle.meaning.proofs.Tests.{Is, yes!, no!, look, not-or-l, not-or-r}
@@ -29,25 +29,21 @@ use Rattle.runs.specs.Inside.{cut, knownIn}
 use Rattle.runs.proofs.Kept.{keptOf, kept-cong, kept-told, kept-absorbed, Edge}
 use Rattle.runs.proofs.Tracks.{cut-yes, cut-no, cut-quiet, cut-event, Ahead, ahead-grows, Tracks, New, quiet, event, Rise, new-none, new-events, held-shows}
 
--- ---- a reader ahead of the new event, a delay of it, is just ahead
+-- ---- of the streams that read s, a delay ahead of the new event is just ahead; a signal form never is ahead
 
-edge-other : (e : Eqn) (M : State) (s t y : ℕ) → Ahead e M y → cellAt M s .bound ≤ t → t < y → Edge e s t y
-edge-other input M s t y a l m = tt
-edge-other nil M s t y a l m = tt
-edge-other unit M s t y a l m = tt
-edge-other (one f c) M s t y a l m = tt
-edge-other (two g c d) M s t y a l m = tt
-edge-other (last c d) M s t y a l m = tt
-edge-other (delay c d) M s t y a l m = λ q. let k : y ≤ suc (cellAt M s .bound) = rw q at a in omega arith
+-- an argument that is known beyond the event's stamp is not the stream that it comes into
+beyond : (M : State) (c s t y : ℕ) → y ≤ cellAt M c .bound → cellAt M s .bound ≤ t → t < y → c ≡ s → ⊥
+beyond M c s t y a l m q = let k : y ≤ cellAt M s .bound = rw q at a in omega arith
 
-edge-self : (e : Eqn) (s t y : ℕ) → y ≡ suc t → Edge e s t y
-edge-self input s t y q = tt
-edge-self nil s t y q = tt
-edge-self unit s t y q = tt
-edge-self (one f c) s t y q = tt
-edge-self (two g c d) s t y q = tt
-edge-self (last c d) s t y q = tt
-edge-self (delay c d) s t y q = λ p. q
+ahead-edge : (e : Eqn) (M : State) (s t y : ℕ) → Ahead e M y → cellAt M s .bound ≤ t → t < y → Edge e s t y
+ahead-edge input M s t y a l m = tt
+ahead-edge nil M s t y a l m = tt
+ahead-edge unit M s t y a l m = tt
+ahead-edge (one f c) M s t y a l m = tt
+ahead-edge (two g c d) M s t y a l m = tt
+ahead-edge (last c d) M s t y a l m = tt
+ahead-edge (delay c d) M s t y a l m = λ q. let k : y ≤ suc (cellAt M s .bound) = rw q at a in omega arith
+ahead-edge (signal g c d) M s t y a l m = (beyond M c s t y (a .0) l m, beyond M d s t y (a .1) l m)
 
 module _ (S : Streams) (M : State) (inv : Tracks S M) (s y : ℕ) (new : List Event) (rise : Rise S M s y new) where
   -- ---- the bound goes up
@@ -77,6 +73,9 @@ module _ (S : Streams) (M : State) (inv : Tracks S M) (s y : ℕ) (new : List Ev
 
   pub C-up : (i : ℕ) → cellAt M i .bound ≤ C i .bound
   C-up = C-cases (λ i c. cellAt M i .bound ≤ c .bound) (λ i n. omega arith) (omega arith)
+
+  near : (i : ℕ) → Ahead (C i .eqn) M (C i .bound)
+  near = C-cases (λ i c. Ahead (c .eqn) M (c .bound)) (λ i n. inv .ahead i) (rise .near)
 
   pub C-new : (i : ℕ) → (es : List Event) × New (S i) (cellAt M i .bound) (C i .bound) es × (C i .held ≡ cellAt M i .held ++ es)
   C-new =
@@ -141,15 +140,14 @@ module _ (S : Streams) (M : State) (inv : Tracks S M) (s y : ℕ) (new : List Ev
     above p k = rw self-bound (cut-no (S s) (suc t) p k)
 
     told-cell : (K : Streams) (i : ℕ) → ((i p : ℕ) → (i ≡ s → p ≡ t → ⊥) → K i p ≡ knownIn S M₁ i p) → ((p : ℕ) → K i p ≡ knownIn S M₁ i p)
-        → (t < C i .bound → Edge (C i .eqn) s t (C i .bound))
         → told s t v (withKept (keptOf (C i .eqn) K i (C i .bound)) (C i)) ≡ withKept (keptOf (C i .eqn) (knownIn S M₁) i (C i .bound)) (C i)
     unfolding told
-    told-cell K i other own edge = ap (λ k. withKept k (C i)) (go (look (ltb t (C i .bound))))
+    told-cell K i other own = ap (λ k. withKept k (C i)) (go (look (ltb t (C i .bound))))
       where
         go : Is (ltb t (C i .bound)) → cond (ltb t (C i .bound)) (keptTold (C i .eqn) s (C i .bound) t v (keptOf (C i .eqn) K i (C i .bound))) (keptOf (C i .eqn) K i (C i .bound)) ≡ keptOf (C i .eqn) (knownIn S M₁) i (C i .bound)
         go (yes! j x) =
             let m = ltb→lt t (C i .bound) x in
-            rw j (kept-told K (knownIn S M₁) s t v other here above (C i .eqn) i (C i .bound) m own (edge m))
+            rw j (kept-told K (knownIn S M₁) s t v other here above (C i .eqn) i (C i .bound) m own (ahead-edge (C i .eqn) M s t (C i .bound) (near i) l m))
         go (no! j x) =
             let m = nltb→le t (C i .bound) x in
             rw j (kept-cong (C i .eqn) K (knownIn S M₁) i (C i .bound) (λ a p n. other a p (λ f g. omega arith)))
@@ -160,16 +158,10 @@ module _ (S : Streams) (M : State) (inv : Tracks S M) (s y : ℕ) (new : List Ev
         go : Is (eqb i s) → told s t v (cellAt M₂ i) ≡ withKept (keptOf (C i .eqn) (knownIn S M₁) i (C i .bound)) (C i)
         go (yes! j x) =
             let d = eqb→eq i s x in
-            rw (d, self₂) (told-cell (knownIn S M₁) s (λ a p n. refl) (λ p. refl) (λ m. edge-self (C s .eqn) s t (C s .bound) self-bound))
+            rw (d, self₂) (told-cell (knownIn S M₁) s (λ a p n. refl) (λ p. refl))
         go (no! j x) =
             let n = eqb-ne i s x in
-            rw (other₂ i n) (told-cell (knownIn S M) i changed (λ p. changed i p (λ f g. n f)) (λ m. edge i n m))
-          where
-            edge : (i : ℕ) → (i ≡ s → ⊥) → t < C i .bound → Edge (C i .eqn) s t (C i .bound)
-            edge i n m =
-                let c = C-other i n in
-                let near : Ahead (C i .eqn) M (C i .bound) = rw c (inv .ahead i) in
-                edge-other (C i .eqn) M s t (C i .bound) near l m
+            rw (other₂ i n) (told-cell (knownIn S M) i changed (λ p. changed i p (λ f g. n f)))
 
   abbrev M₃ : State
   M₃ = tell s new M₂
@@ -260,9 +252,6 @@ module _ (S : Streams) (M : State) (inv : Tracks S M) (s y : ℕ) (new : List Ev
           let w : leastWaiting i M₃ ≡ leastWaiting i M = omega arith in
           rw (j, c, w) (inv .held i)
 
-  ahead₄ : (i : ℕ) → Ahead (C i .eqn) M (C i .bound)
-  ahead₄ = C-cases (λ i c. Ahead (c .eqn) M (c .bound)) (λ i n. inv .ahead i) (rise .near)
-
   raise-is : raise s y new M ≡ M₄
   unfolding raise
   raise-is = refl
@@ -271,7 +260,7 @@ module _ (S : Streams) (M : State) (inv : Tracks S M) (s y : ℕ) (new : List Ev
   tracks₄ = record {
     held = λ i. ap (λ c. c .held) (cells₄ i) ∙ rw (waiting₄ i, bound₄ i) (held₄ i);
     kept = λ i. ap (λ c. c .kept) (cells₄ i) ∙ rw (eqn₄ i, bound₄ i) (kept-cong (C i .eqn) (knownIn S M₁) (knownIn S M₄) i (C i .bound) (λ j p l. ap (λ k. cut (S j) k p) (sym (bound₄ j))));
-    ahead = λ i. rw (eqn₄ i, bound₄ i) (ahead-grows (C i .eqn) M M₄ (C i .bound) (λ j. let x = C-up j in let z = bound₄ j in omega arith) (ahead₄ i));
+    ahead = λ i. rw (eqn₄ i, bound₄ i) (ahead-grows (C i .eqn) M M₄ (C i .bound) (λ j. let x = C-up j in let z = bound₄ j in omega arith) (near i));
     top = λ i. rw (bound₄ i) (C-cases (λ i c. c .bound ≤ horizon) (λ i n. inv .top i) (rise .top) i);
     taken = λ i. let e = ap (λ c. c .next) (cells₄ i) in let f = bound₄ i in let x = C-next i in let z = C-up i in let u = inv .taken i in omega arith;
   }

@@ -11,7 +11,7 @@ use native.Mathlib.Omega.{arith}
 use native.Mathlib.Decide.{decLt}
 use lib.Dec.{T, leb, ltb, leb→le, ltb→lt, lt→ltb, le→leb, nltb→le, T-not}
 use lib.ListN.{length}
-use Rattle.meaning.specs.Plan.{Eqn, input, nil, unit, one, two, last, delay, isInput}
+use Rattle.meaning.specs.Plan.{Eqn, input, nil, unit, one, two, last, delay, signal, isInput}
 use Rattle.meaning.specs.Arguments.{argA, argB}
 use Rattle.meaning.specs.Events.{Stream, Streams, has, horizon}
 use Rattle.meaning.specs.Table.{Solves}
@@ -100,14 +100,24 @@ module _ (S : Streams) (M : State) (inv : Tracks S M) (rd : Streams) (s : ℕ) w
   abbrev C : ℕ → Cell
   C i = cellAt M i
 
+  abbrev stopsAt : Eqn → ℕ → Bool
+  stopsAt e t = stops e (C s) (C (argA e)) (C (argB e)) t
+
+  abbrev limitOf : Eqn → ℕ
+  limitOf e = limit e (C s) (C (argA e)) (C (argB e))
+
   record Reached (e : Eqn) : Type 0 where
     reach : ℕ
     isReach : IsReach e S Y s reach
-    agrees : Agrees (S s) (Y s) (least (stops e (C s) (C (argA e)) (C (argB e))) (Y s) (limit e (C s) (C (argA e)) (C (argB e)) - Y s)) reach
+    agrees : Agrees (S s) (Y s) (least (stopsAt e) (Y s) (limitOf e - Y s)) reach
 
   -- nothing stops: the reach is the limit
-  plain : (n : ℕ) → Agrees (S s) (Y s) (least (λ t. false) (Y s) (n - Y s)) n
-  plain n = searches-agree (S s) (λ t. false) (λ t. false) (Y s) n n (omega arith) (λ l. absurd (omega arith)) (λ t x. absurd x) (λ t a b q. refl) (λ t a x. x)
+  plain : (e : Eqn) → ((t : ℕ) → stopsAt e t ≡ false) → Fixes e S Y s (limitOf e) → ((k : ℕ) → Fixes e S Y s k → k ≤ limitOf e) → Reached e
+  plain e never fixes greatest = record {
+    reach = limitOf e;
+    isReach = record { fixes = fixes; greatest = greatest };
+    agrees = searches-agree (S s) (stopsAt e) (λ t. false) (Y s) (limitOf e) (limitOf e) (omega arith) (λ l. absurd (omega arith)) (λ t x. absurd x) (λ t a b q. sym (never t)) (λ t a x. x);
+  }
 
   -- ---- last: an event of b, at y or later, above a's bound
   module _ (a b : ℕ) (lb : floor S M inv b ≤ Y s) where
@@ -203,16 +213,13 @@ module _ (S : Streams) (M : State) (inv : Tracks S M) (rd : Streams) (s : ℕ) w
   -- one case for each operator
   reached : (e : Eqn) → C s .eqn ≡ e → (e ≡ input → ⊥) → Reached e
   reached input q n = absurd (n refl)
-  reached nil q n = record { reach = horizon; isReach = record { fixes = omega arith; greatest = λ k h. h }; agrees = plain horizon }
-  reached unit q n = record { reach = horizon; isReach = record { fixes = omega arith; greatest = λ k h. h }; agrees = plain horizon }
-  reached (one f a) q n = record { reach = Y a; isReach = record { fixes = omega arith; greatest = λ k h. h }; agrees = plain (Y a) }
-  reached (two g a b) q n = record {
-    reach = min (Y a) (Y b);
-    isReach = record { fixes = (omega arith, omega arith); greatest = λ k h. let u = h .0 in let v = h .1 in omega arith };
-    agrees = plain (min (Y a) (Y b));
-  }
+  reached nil q n = plain nil (λ t. refl) (omega arith) (λ k h. h)
+  reached unit q n = plain unit (λ t. refl) (omega arith) (λ k h. h)
+  reached (one f a) q n = plain (one f a) (λ t. refl) (omega arith) (λ k h. h)
+  reached (two g a b) q n = plain (two g a b) (λ t. refl) (omega arith, omega arith) (λ k h. let u = h .0 in let v = h .1 in omega arith)
   reached (last a b) q n = last-reached a b (rw q at (floor-read S M inv s) .1 .0)
   reached (delay a b) q n = let l = rw q at (floor-read S M inv s) in delay-reached a b (l .0) (l .1 .0) (rw q at (inv .kept s))
+  reached (signal c a b) q n = plain (signal c a b) (λ t. refl) (omega arith, omega arith) (λ k h. let u = h .0 in let v = h .1 in omega arith)
 
 -- ---- the bound after a move, made or refused
 

@@ -5,7 +5,7 @@ use mathlib.Core.List.{List, [], _∷_}
 use Prim.Native.Nat.{ℕ, zero, suc}
 use native.Mathlib.Omega.{arith}
 use lib.ListN.{length, length-map}
-use Rattle.meaning.specs.Plan.{Eqn, input, nil, unit, one, two, last, delay, eqnAt}
+use Rattle.meaning.specs.Plan.{Eqn, input, nil, unit, one, two, last, delay, signal, eqnAt}
 use Rattle.meaning.specs.Events.{Streams}
 use Rattle.meaning.specs.Table.{latest}
 use Rattle.machine.specs.State.{Declared, State, fresh, noKept, cellAt, loaded, declaredPlan}
@@ -49,6 +49,7 @@ fresh-kept (one f a) K s = refl
 fresh-kept (two g a b) K s = refl
 fresh-kept (last a b) K s = refl
 fresh-kept (delay a b) K s = refl
+fresh-kept (signal c a b) K s = refl
 
 fresh-ahead : (e : Eqn) (M : State) → Ahead e M 0
 fresh-ahead input M = tt
@@ -58,6 +59,7 @@ fresh-ahead (one f a) M = tt
 fresh-ahead (two g a b) M = tt
 fresh-ahead (last a b) M = tt
 fresh-ahead (delay a b) M = omega arith
+fresh-ahead (signal c a b) M = (omega arith, omega arith)
 
 pub loaded-tracks : (ds : List Declared) (S : Streams) → Tracks S (loaded ds)
 loaded-tracks ds S = record {

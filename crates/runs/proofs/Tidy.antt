@@ -3,19 +3,20 @@
 -- Both sides are the one state that tracks the solution at the new bounds.
 use mathlib.Core.Path.{_≡_, refl, sym, _∙_, ap}
 use mathlib.Core.Bool.{cond}
-use mathlib.Core.Option.{none}
+use mathlib.Core.Option.{Option, none}
 use Prim.Native.Nat.{ℕ, zero, suc, pred, _≤_, _<_, min, max}
 use native.Mathlib.Omega.{arith}
 use native.Mathlib.Decide.{decLt}
 use lib.Dec.{eqb, eqb→eq}
-use Rattle.meaning.specs.Plan.{Eqn, input, nil, unit, one, two, last, delay}
+use lib.IntN.{ℤ}
+use Rattle.meaning.specs.Plan.{Eqn, input, nil, unit, one, two, last, delay, signal}
 use Rattle.meaning.specs.Arguments.{reads, Each, argA, argB}
 use Rattle.meaning.specs.Events.{Streams, events, orElse}
 use Rattle.meaning.specs.Table.{latest}
 use Rattle.meaning.proofs.Tests.{Is, yes!, no!, look, eqb-self}
 use Rattle.meaning.proofs.Causal.{latest-cong}
-use Rattle.machine.specs.State.{Kept, Cell, State, cellAt, withHeld, withKept}
-use Rattle.machine.specs.Reach.{view, pastLatest}
+use Rattle.machine.specs.State.{Kept, Cell, State, cellAt, withHeld, withKept, withPrev, withPrevB, withPrior}
+use Rattle.machine.specs.Reach.{view, pastLatest, heldLatest}
 use Rattle.machine.specs.Step.{later, dropBelow, leastWaiting}
 use Rattle.machine.proofs.Cells.{ne-eqb, eqb-ne}
 use Rattle.machine.proofs.Window.{Seen, seen-or, or-none, latest-flat, latest-seam, past-cong, past-flat, past-below, past-seam}
@@ -34,16 +35,17 @@ refreshed nil o a b = o .kept
 refreshed unit o a b = o .kept
 refreshed (one f _) o a b = o .kept
 refreshed (two g _ _) o a b = o .kept
-refreshed (last _ _) o a b =
-    record { prev = orElse (latest (view a) (o .bound)) (o .kept .prev); since = o .kept .since; value = o .kept .value; prior = o .kept .prior }
+refreshed (last _ _) o a b = withPrev (heldLatest a (o .bound) (o .kept .prev)) (o .kept)
 refreshed (delay _ _) o a b =
     record {
       prev = o .kept .prev;
+      prevB = o .kept .prevB;
       since = later o b;
       value = cond (eqb (later o b) 0) none
           (orElse (view a (pred (later o b))) (cond (eqb (later o b) (o .kept .since)) (o .kept .value) (cond (eqb (later o b) (o .bound)) (o .kept .prior) none)));
       prior = cond (eqb (o .bound) 0) none (orElse (view a (pred (o .bound))) (o .kept .prior));
     }
+refreshed (signal c _ _) o a b = withPrev (heldLatest a (o .bound) (o .kept .prev)) (withPrevB (heldLatest b (o .bound) (o .kept .prevB)) (o .kept))
 
 -- every stream brought up to date, and released
 abbrev pub tidied : State → ℕ → Cell
@@ -53,7 +55,7 @@ tidied M i =
 
 -- of a stream whose bound goes up: what lay just below the old bound no longer does
 abbrev pub stale : Cell → Cell
-stale c = withKept (record { prev = c .kept .prev; since = c .kept .since; value = c .kept .value; prior = none }) c
+stale c = withKept (withPrior none (c .kept)) c
 
 -- ---- a stream whose bound stays
 
@@ -66,6 +68,7 @@ Near (one f a) B y = Unit
 Near (two g a b) B y = Unit
 Near (last a b) B y = Unit
 Near (delay a b) B y = y ≤ suc (B b)
+Near (signal c a b) B y = Unit
 
 module _ (K L : Streams) (B lo : ℕ → ℕ) (C : ℕ → Cell) (r y : ℕ) (old : (i p : ℕ) → p < B i → K i p ≡ L i p) (over : (i p : ℕ) → B i ≤ p → K i p ≡ none)
     (low : (i : ℕ) → lo i ≤ B i) (shows : (i : ℕ) → Seen (L i) (lo i) (view (C i))) (at : C r .bound ≡ y) (own : B r ≡ y) where
@@ -73,6 +76,11 @@ module _ (K L : Streams) (B lo : ℕ → ℕ) (C : ℕ → Cell) (r y : ℕ) (ol
   latest-old i =
       latest-flat (K i) (min y (B i)) y (omega arith) (λ p a b. over i p (omega arith))
       ∙ latest-cong (K i) (L i) (min y (B i)) (λ p l. old i p (omega arith))
+
+  latest-is : (i : ℕ) {v : Option ℤ} → lo i ≤ y → v ≡ latest (K i) y → heldLatest (C i) (C r .bound) v ≡ latest (L i) y
+  latest-is i l k =
+      let w = low i in
+      rw (k, at, latest-old i, latest-seam (L i) (view (C i)) (lo i) (shows i) (min y (B i)) y (omega arith) (omega arith))
 
   past-old : (i : ℕ) → pastLatest (K i) y ≡ pastLatest (L i) (min y (B i))
   past-old i =
@@ -132,7 +140,7 @@ module _ (K L : Streams) (B lo : ℕ → ℕ) (C : ℕ → Cell) (r y : ℕ) (ol
             rw (j, p, e, eqb-self y) (seen-below a y)
 
     refreshed-delay : refreshed (delay a b) (C r) (C a) (C b) ≡ keptOf (delay a b) L r y
-    refreshed-delay = rw (value-is, later-is, at, ap (λ c. c .prior) k, ap (λ c. c .prev) k, seen-below a y)
+    refreshed-delay = rw (value-is, later-is, at, ap (λ c. c .prior) k, ap (λ c. c .prev) k, ap (λ c. c .prevB) k, seen-below a y)
 
   pub refreshed-is : (e : Eqn) → Each (λ i. lo i ≤ y) (reads e) → Near e B y → C r .kept ≡ keptOf e K r y → refreshed e (C r) (C (argA e)) (C (argB e)) ≡ keptOf e L r y
   refreshed-is input l n k = k
@@ -140,10 +148,9 @@ module _ (K L : Streams) (B lo : ℕ → ℕ) (C : ℕ → Cell) (r y : ℕ) (ol
   refreshed-is unit l n k = k
   refreshed-is (one f a) l n k = k
   refreshed-is (two g a b) l n k = k
-  refreshed-is (last a b) l n k =
-      let x = l .0 in let w = low a in
-      rw (k, at, latest-old a, latest-seam (L a) (view (C a)) (lo a) (shows a) (min y (B a)) y (omega arith) (omega arith))
+  refreshed-is (last a b) l n k = rw (latest-is a (l .0) (ap (λ c. c .prev) k), k)
   refreshed-is (delay a b) l n k = refreshed-delay a b (l .0) (l .1 .0) n k
+  refreshed-is (signal c a b) l n k = rw (latest-is a (l .0) (ap (λ c. c .prev) k), latest-is b (l .1 .0) (ap (λ c. c .prevB) k), k)
 
 pub near-of : (e : Eqn) (M : State) (y : ℕ) → Ahead e M y → Near e (λ i. cellAt M i .bound) y
 near-of input M y h = tt
@@ -153,6 +160,7 @@ near-of (one f a) M y h = tt
 near-of (two g a b) M y h = tt
 near-of (last a b) M y h = tt
 near-of (delay a b) M y h = h
+near-of (signal c a b) M y h = tt
 
 -- a state that tracks a solution is tidy: tidying changes nothing
 pub tracks-tidy : (S : Streams) (M : State) → Tracks S M → (i : ℕ) → tidied M i ≡ cellAt M i

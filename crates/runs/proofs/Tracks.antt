@@ -1,6 +1,6 @@
 -- The invariant: in a run the state is determined by the solution, the bounds and the marks of collection.
 -- Each stream holds its events from the least waiting reader on and below its bound; what is kept is what is known below
--- the bound; a delay is at most one ahead of its second argument.
+-- the bound; a delay is at most one ahead of its second argument, a signal form ahead of none.
 use mathlib.Core.Path.{_≡_, refl, sym, _∙_, ap}
 use mathlib.Core.Option.{none, some}
 use mathlib.Core.List.{List, [], _∷_, _++_, append-nil}
@@ -11,9 +11,11 @@ use native.Mathlib.Decide.{decLt}
 use lib.Dec.{T, ltb, lt→ltb, ltb→lt, not-T}
 use lib.ListN.{length}
 use lib.IntN.{ℤ}
-use Rattle.meaning.specs.Plan.{Eqn, input, nil, unit, one, two, last, delay}
+use Rattle.meaning.specs.Plan.{Eqn, input, nil, unit, one, two, last, delay, signal}
 use Rattle.meaning.specs.Events.{Event, ev, Stream, Streams, found, events, orElse, horizon}
+use Rattle.meaning.specs.Table.{latest}
 use Rattle.meaning.proofs.Tests.{true-is, false-is, eqb-self}
+use Rattle.meaning.proofs.Causal.{latest-cong}
 use Rattle.machine.specs.State.{State, cellAt}
 use Rattle.machine.specs.Step.{dropBelow, leastWaiting}
 use Rattle.machine.proofs.Cells.{ne-eqb}
@@ -31,9 +33,12 @@ cut-yes f k p l = rw (true-is (ltb p k) (lt→ltb p k l))
 pub cut-no : (f : Stream) (k p : ℕ) → k ≤ p → cut f k p ≡ none
 cut-no f k p l = rw (false-is (ltb p k) (not-T (ltb p k) (λ y. let z = ltb→lt p k y in absurd (omega arith))))
 
+pub cut-latest : (f : Stream) (k t : ℕ) → t ≤ k → latest (cut f k) t ≡ latest f t
+cut-latest f k t l = latest-cong (cut f k) f t (λ p m. cut-yes f k p (omega arith))
+
 -- ---- the invariant
 
--- a delay's bound against those of its arguments
+-- the bound of a delay or of a signal form against those of its arguments
 abbrev pub Ahead : Eqn → State → ℕ → Type 0
 Ahead input M y = Unit
 Ahead nil M y = Unit
@@ -42,6 +47,7 @@ Ahead (one f a) M y = Unit
 Ahead (two g a b) M y = Unit
 Ahead (last a b) M y = Unit
 Ahead (delay a b) M y = y ≤ suc (cellAt M b .bound)
+Ahead (signal c a b) M y = (y ≤ cellAt M a .bound) × (y ≤ cellAt M b .bound)
 
 pub record Tracks (S : Streams) (M : State) : Type 0 where
   pub held : (s : ℕ) → cellAt M s .held ≡ dropBelow (leastWaiting s M) (events (S s) (cellAt M s .bound))
@@ -68,6 +74,7 @@ ahead-grows (one f a) M N y g h = tt
 ahead-grows (two k a b) M N y g h = tt
 ahead-grows (last a b) M N y g h = tt
 ahead-grows (delay a b) M N y g h = let x = g b in omega arith
+ahead-grows (signal c a b) M N y g h = let x = g a in let z = g b in let u = h .0 in let v = h .1 in (omega arith, omega arith)
 
 -- ---- what comes in when a bound goes from lo to y: nothing, or one event just below y
 

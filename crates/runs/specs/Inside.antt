@@ -9,7 +9,7 @@ use mathlib.Core.List.{List, [], _++_, List·Memᴰ}
 use lib.Dec.{T, leb, ltb}
 use lib.ListN.{length}
 use lib.IntN.{ℤ}
-use Rattle.meaning.specs.Plan.{Eqn, input, nil, unit, one, two, last, delay}
+use Rattle.meaning.specs.Plan.{Eqn, input, nil, unit, one, two, last, delay, signal}
 use Rattle.meaning.specs.Arguments.{reads}
 use Rattle.meaning.specs.Events.{Event, Stream, Streams, here, has, horizon}
 use Rattle.meaning.specs.Table.{latest}
@@ -61,6 +61,7 @@ below f (suc p) = f p
 -- a delay with bound y keeps its latest known set point, and what is known of a there and just below y
 pub record DelayKeeps (a b d : Stream) (y : ℕ) (k : Kept) : Type 0 where
   pub prev : k .prev ≡ none
+  pub prevB : k .prevB ≡ none
   pub since : PastLatest b d y (k .since)
   pub value : k .value ≡ below a (k .since)
   pub prior : k .prior ≡ below a y
@@ -68,17 +69,25 @@ pub record DelayKeeps (a b d : Stream) (y : ℕ) (k : Kept) : Type 0 where
 -- a last keeps the value of a's latest known event
 pub record LastKeeps (a : Stream) (y : ℕ) (k : Kept) : Type 0 where
   pub prev : k .prev ≡ latest a y
+  pub others : (k .prevB ≡ none) × (k .since ≡ 0) × (k .value ≡ none) × (k .prior ≡ none)
+
+-- a signal form keeps the values that a and b had latest: "The state keeps those latest values." They are those of the
+-- solution, not only of what is known of it: its bound y is never above an argument's.
+pub record SignalKeeps (a b : Stream) (y : ℕ) (k : Kept) : Type 0 where
+  pub prev : k .prev ≡ latest a y
+  pub prevB : k .prevB ≡ latest b y
   pub others : (k .since ≡ 0) × (k .value ≡ none) × (k .prior ≡ none)
 
--- of what is known, K, a stream s with this equation and the bound y keeps k
-abbrev pub KeptAs : Eqn → Streams → (s y : ℕ) → Kept → Type 0
-KeptAs input K s y k = k ≡ noKept
-KeptAs nil K s y k = k ≡ noKept
-KeptAs unit K s y k = k ≡ noKept
-KeptAs (one f a) K s y k = k ≡ noKept
-KeptAs (two g a b) K s y k = k ≡ noKept
-KeptAs (last a b) K s y k = LastKeeps (K a) y k
-KeptAs (delay a b) K s y k = DelayKeeps (K a) (K b) (K s) y k
+-- of the solution S and what is known of it, K, a stream s with this equation and the bound y keeps k
+abbrev pub KeptAs : Eqn → (S K : Streams) → (s y : ℕ) → Kept → Type 0
+KeptAs input S K s y k = k ≡ noKept
+KeptAs nil S K s y k = k ≡ noKept
+KeptAs unit S K s y k = k ≡ noKept
+KeptAs (one f a) S K s y k = k ≡ noKept
+KeptAs (two g a b) S K s y k = k ≡ noKept
+KeptAs (last a b) S K s y k = LastKeeps (K a) y k
+KeptAs (delay a b) S K s y k = DelayKeeps (K a) (K b) (K s) y k
+KeptAs (signal c a b) S K s y k = SignalKeeps (S a) (S b) y k
 
 -- ## Moved
 
@@ -94,6 +103,7 @@ Fixes (one f a) S Y s k = k ≤ Y a
 Fixes (two g a b) S Y s k = (k ≤ Y a) × (k ≤ Y b)
 Fixes (last a b) S Y s k = (k ≤ Y b) × ((t : ℕ) → T (has (S b t)) → Y s ≤ t → Y a < t → k ≤ t)
 Fixes (delay a b) S Y s k = (k ≤ Y b + 1) × (k ≤ horizon) × ((p : ℕ) → SetPoint (S b) (S s) p → p + 1 < k → p < Y a)
+Fixes (signal c a b) S Y s k = (k ≤ Y a) × (k ≤ Y b)
 
 -- "its reach, the greatest bound that its arguments fix"
 pub record IsReach (e : Eqn) (S : Streams) (Y : ℕ → ℕ) (s r : ℕ) : Type 0 where

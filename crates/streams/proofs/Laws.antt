@@ -1,24 +1,22 @@
 -- The operators by their stored numbers, and the fields of a record as a move looks at it.
 use Prim.Native.Nat.{ℕ, zero, suc, _≤_, _<_, min}
 use mathlib.Core.Path.{_≡_, refl, sym, ap, subst, _∙_}
-use mathlib.Core.Bool.{Bool, true, false, not, cond, false≢true}
+use mathlib.Core.Bool.{Bool, true, false, cond, false≢true}
 use mathlib.Core.Option.{none, some}
 use native.Mathlib.Omega.{arith}
-use native.Mathlib.Decide.{decLt}
-use lib.Dec.{eqb}
 use lib.IntN.{ℤ}
-use lib.ListN.{List·getD-eq-default}
 use mir.Syntax.{w64}
 use mir.Val.{toZ}
 use borrow.Author.Tests.{eq-eqb, ne-eqb}
-use Rattle.meaning.specs.Plan.{Eqn, input, nil, unit, one, two, last, delay}
+use Rattle.meaning.specs.Plan.{Calc, Eqn, input, nil, unit, one, two, last, delay, signal}
 use Rattle.meaning.specs.Events.{horizon}
-use Rattle.machine.specs.State.{Kept, Cell, noKept}
-use Rattle.operators.specs.Operators.{groupOf, Operator, operators, noOperator, eqnOf, numberOf}
-use Rattle.operators.proofs.Laws.{last-number, delay-number, number-back}
-use Rattle.layout.specs.Record.{Raw, num, opF, aF, bF, outF, kF, flagF, priorFlagF, boundF, keptF, valueF, priorF}
+use Rattle.machine.specs.State.{Kept, Cell, noKept, withSince}
+use Rattle.operators.specs.Operators.{isLast, isDelay, isSignal, Operator, operatorCount, eqnOf, eqnGroup}
+use Rattle.operators.specs.declared.Group.{Group}
+use Rattle.operators.proofs.Laws.{none-above, last-by-number, delay-by-number, signal-by-number}
+use Rattle.layout.specs.Record.{Raw, num, opF, aF, bF, kF, boundF, keptF}
 use Rattle.encoding.specs.View.{ofCell}
-use Rattle.encoding.specs.Back.{toCell, keptOf, optional}
+use Rattle.encoding.specs.Back.{toCell, lastOf, delayOf, signalOf, keptOf, optional}
 use Rattle.streams.specs.declared.Stream.{Stream}
 use Rattle.streams.specs.Look.{lookOf, cut, cutKept, Bounded, Is}
 
@@ -33,19 +31,9 @@ module _ (a b : ℕ) (k : ℤ) where
   nil-low (suc (suc (suc zero))) h p q = absurd (q refl)
   nil-low (suc (suc (suc (suc n)))) h p q = absurd (omega arith)
 
-  pub nil-high : (n : ℕ) → 19 < n → nil ≡ eqnOf n a b k
+  pub nil-high : (n : ℕ) → operatorCount < n → nil ≡ eqnOf n a b k
   unfolding eqnOf
-  nil-high n h = sym (ap (λ (o : Operator). o .eqn a b k) (List·getD-eq-default operators noOperator {n = n} h))
-
-  -- an equation other than nil is that of its own number alone
-  pub number-only : (n m : ℕ) → numberOf (eqnOf n a b k) ≡ m → (m ≡ 2 → ⊥) → n ≡ m
-  unfolding numberOf
-  number-only n m e h = go (decLt 19 n) (decLt n 1)
-    where
-      go : Dec (19 < n) → Dec (n < 1) → n ≡ m
-      go (yes l) d = absurd (h (sym e ∙ sym (ap numberOf (nil-high n l))))
-      go (no l) (yes z) = absurd (h (sym e ∙ sym (ap numberOf (nil-low n (omega arith) (λ q. omega arith) (λ q. omega arith)))))
-      go (no l) (no z) = sym (number-back a b k n (omega arith) (omega arith)) ∙ e
+  nil-high n h = sym (ap (λ (o : Operator). o .eqn a b k) (none-above n h))
 
 -- ---- the operators that keep something
 
@@ -57,6 +45,7 @@ keeps (one f a) = false
 keeps (two g a b) = false
 keeps (last a b) = true
 keeps (delay a b) = true
+keeps (signal c a b) = true
 
 -- ---- the fields
 
@@ -64,7 +53,7 @@ cut-same : (c : Cell) → c .bound ≤ horizon → c .kept .since ≤ c .bound �
 cut-same c h k =
     let e : min (c .bound) horizon ≡ c .bound = omega arith in
     let s : min (c .kept .since) (min (c .bound) horizon) ≡ c .kept .since = omega arith in
-    λ i. record { eqn = c .eqn; out = c .out; bound = e i; held = c .held; next = c .next; kept = record { prev = c .kept .prev; since = s i; value = c .kept .value; prior = c .kept .prior } }
+    λ i. record { eqn = c .eqn; out = c .out; bound = e i; held = c .held; next = c .next; kept = record { prev = c .kept .prev; prevB = c .kept .prevB; since = s i; value = c .kept .value; prior = c .kept .prior } }
 
 module _ (r : Raw) where
   pub look-bound : lookOf r .bound ≡ min (num boundF r) horizon
@@ -83,37 +72,44 @@ module _ (r : Raw) where
   unfolding lookOf toCell
   since-bound = omega arith
 
-  -- what the record keeps, by its equation
-  stored : (e : Eqn) → e ≡ lookOf r .eqn → (numberOf e ≡ 2 → ⊥) → num opF r ≡ numberOf e
-  stored e q h = number-only (num aF r) (num bF r) (toZ w64 (num kF r)) (num opF r) (numberOf e) (ap numberOf (sym look-eqn ∙ sym q)) h
+  -- what the record keeps, by the group of its equation
+  abbrev keptBy : Group → Kept
+  keptBy g = cond (isLast g) (lastOf r) (cond (isDelay g) (delayOf r) (cond (isSignal g) (signalOf r) noKept))
 
-  pub kept-last : (x y : ℕ) → last x y ≡ lookOf r .eqn → lookOf r .kept ≡ record { prev = optional (num flagF r) (num keptF r); since = 0; value = none; prior = none }
-  unfolding keptOf numberOf groupOf
-  kept-last x y q =
-      let e : num opF r ≡ 18 = stored (last x y) q (λ w. omega arith) in
-      let z : min 0 (lookOf r .bound) ≡ 0 = omega arith in
-      look-kept ∙ rw (e, z)
-
-  pub kept-delay : (x y : ℕ) → delay x y ≡ lookOf r .eqn
-      → lookOf r .kept ≡ record { prev = none; since = min (num keptF r) (lookOf r .bound); value = optional (num flagF r) (num valueF r); prior = optional (num priorFlagF r) (num priorF r) }
-  unfolding keptOf numberOf
-  kept-delay x y q =
-      let e : num opF r ≡ 19 = stored (delay x y) q (λ w. omega arith) in
-      look-kept ∙ rw (last-number, delay-number, e)
-
-  pub kept-none : keeps (lookOf r .eqn) ≡ false → lookOf r .kept ≡ noKept
-  unfolding keptOf eqnOf
-  kept-none h =
-      let z : min 0 (lookOf r .bound) ≡ 0 = omega arith in
+  kept-by : (e : Eqn) → e ≡ lookOf r .eqn → lookOf r .kept ≡ cutKept (lookOf r .bound) (keptBy (eqnGroup e))
+  unfolding keptOf
+  kept-by e q =
+      let a = num aF r in
+      let b = num bF r in
       let k = toZ w64 (num kF r) in
-      let is : keeps (eqnOf (num opF r) (num aF r) (num bF r) k) ≡ false = ap keeps (sym look-eqn) ∙ h in
-      let p : num opF r ≡ 18 → ⊥ = λ e. false≢true (sym is ∙ ap (λ (m : ℕ). keeps (eqnOf m (num aF r) (num bF r) k)) e) in
-      let q : num opF r ≡ 19 → ⊥ = λ e. false≢true (sym is ∙ ap (λ (m : ℕ). keeps (eqnOf m (num aF r) (num bF r) k)) e) in
-      look-kept ∙ rw (last-number, delay-number, ne-eqb _ _ p, ne-eqb _ _ q, z)
+      let n = num opF r in
+      let w : eqnOf n a b k ≡ e = sym look-eqn ∙ sym q in
+      let l = sym (last-by-number a b k n) ∙ ap (λ x. isLast (eqnGroup x)) w in
+      let d = sym (delay-by-number a b k n) ∙ ap (λ x. isDelay (eqnGroup x)) w in
+      let x = sym (signal-by-number a b k n) ∙ ap (λ x. isSignal (eqnGroup x)) w in
+      look-kept ∙ rw (l, d, x)
 
-  pub look-out : lookOf r .out ≡ not (eqb (num outF r) 0)
-  unfolding lookOf toCell
-  look-out = refl
+  pub kept-last : (x y : ℕ) → last x y ≡ lookOf r .eqn → lookOf r .kept ≡ lastOf r
+  kept-last x y q = let z : min 0 (lookOf r .bound) ≡ 0 = omega arith in kept-by (last x y) q ∙ rw z
+
+  pub kept-delay : (x y : ℕ) → delay x y ≡ lookOf r .eqn → lookOf r .kept ≡ withSince (min (num keptF r) (lookOf r .bound)) (delayOf r)
+  kept-delay x y q = kept-by (delay x y) q
+
+  pub kept-signal : (c : Calc) (x y : ℕ) → signal c x y ≡ lookOf r .eqn → lookOf r .kept ≡ signalOf r
+  kept-signal c x y q = let z : min 0 (lookOf r .bound) ≡ 0 = omega arith in kept-by (signal c x y) q ∙ rw z
+
+  pub kept-none : (e : Eqn) → e ≡ lookOf r .eqn → keeps e ≡ false → lookOf r .kept ≡ noKept
+  kept-none e q h = let z : min 0 (lookOf r .bound) ≡ 0 = omega arith in kept-by e q ∙ rw (bare e h, z)
+    where
+      bare : (e : Eqn) → keeps e ≡ false → keptBy (eqnGroup e) ≡ noKept
+      bare input h = refl
+      bare nil h = refl
+      bare unit h = refl
+      bare (one f a) h = refl
+      bare (two g a b) h = refl
+      bare (last a b) h = absurd (false≢true (sym h))
+      bare (delay a b) h = absurd (false≢true (sym h))
+      bare (signal c a b) h = absurd (false≢true (sym h))
 
   -- a record with bound and set point within their ranges is looked at as its cell
   pub look-valid : num boundF r ≤ horizon → toCell r .kept .since ≤ num boundF r → lookOf r ≡ toCell r
@@ -148,6 +144,3 @@ optional-some has x e = sym (ap (λ b. cond b none (some (toZ w64 x))) (ne-eqb h
 
 pub up : (n lo : ℕ) → lo ≤ n → (n ≡ lo → ⊥) → suc lo ≤ n
 up n lo h k = omega arith
-
-pub over : (n : ℕ) → 18 ≤ n → (n ≡ 18 → ⊥) → (n ≡ 19 → ⊥) → 19 < n
-over n h p q = omega arith

@@ -3,15 +3,15 @@ use Prim.Native.Nat.{ℕ, _≤_, min}
 use mathlib.Core.Path.{_≡_}
 use mathlib.Core.Bool.{false}
 use mathlib.Core.List.{List, []}
-use Rattle.meaning.specs.Plan.{Eqn, input, nil, unit, one, two, last, delay}
+use Rattle.meaning.specs.Plan.{Eqn, input, nil, unit, one, two, last, delay, signal}
 use Rattle.meaning.specs.Events.{Event, horizon}
 use Rattle.machine.specs.State.{Cell, Kept, absent, fresh, withBound, withHeld, withKept, withSince}
 use Rattle.layout.specs.Record.{Raw, decRaw}
 use Rattle.encoding.specs.Back.{toCell, heldOf}
 use Rattle.queue.specs.Found.{asOption}
-use Rattle.apply.specs.Named.{unary, binary}
+use Rattle.apply.specs.Named.{unary, calculation, binary}
 use Rattle.streams.specs.declared.Op.{Op}
-use Rattle.streams.specs.declared.Op.the-variants.{In, Nil, Unit, One, Two, Last, Delay}
+use Rattle.streams.specs.declared.Op.the-variants.{In, Nil, Unit, One, Two, Last, Delay, Signal}
 use Rattle.streams.specs.declared.Kept as code
 use Rattle.streams.specs.declared.Stream.{Stream}
 use Rattle.streams.specs.declared.Look.{Look}
@@ -39,9 +39,10 @@ equation (One f a) = one (unary f) a
 equation (Two g a b) = two (binary g) a b
 equation (Last a b) = last a b
 equation (Delay a b) = delay a b
+equation (Signal g a b) = signal (calculation g) a b
 
 abbrev pub keptIn : code.Kept → Kept
-keptIn k = record { prev = asOption (k .prev); since = k .since; value = asOption (k .value); prior = asOption (k .prior) }
+keptIn k = record { prev = asOption (k .prev); prevB = asOption (k .prevb); since = k .since; value = asOption (k .value); prior = asOption (k .prior) }
 
 -- the equation's own cell, as far as a move looks at it: not its held events
 abbrev pub ownCell : Eqn → ℕ → Kept → Cell
@@ -65,7 +66,6 @@ pub record Bounded (s : Stream) : Type 0 where
 -- the struct is the record's stream
 pub record Is (s : Stream) (r : Raw) : Type 0 where
   pub eqn : equation (s .op) ≡ lookOf r .eqn
-  pub out : s .out ≡ lookOf r .out
   pub bound : s .bound ≡ lookOf r .bound
   pub kept : keptIn (s .kept) ≡ lookOf r .kept
 

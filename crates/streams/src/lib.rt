@@ -1,15 +1,15 @@
 // A stream as a struct, with its operator inside, rebuilt from the record's bytes.
 ghost use mathlib.Core.Path.{_≡_};
-ghost use Prim.Native.Nat.{ℕ, _≤_, min, max};
+ghost use Prim.Native.Nat.{ℕ, _+_, _≤_, _<_, min, max};
 ghost use lib.IntN.{ℤ};
-ghost use lib.ListN.{length};
+ghost use lib.ListN.{length, getD};
 ghost use mir.Syntax.{w64};
 ghost use mir.Val.{toZ};
-ghost use Rattle.meaning.specs.Plan.{calc, one, two};
+ghost use Rattle.meaning.specs.Plan.{add, one, two};
 ghost use Rattle.meaning.specs.Events.{horizon};
-ghost use Rattle.machine.specs.State.{noKept};
+ghost use Rattle.machine.specs.State.{noKept, withPrev, withPrevB};
 ghost use Rattle.meaning.specs.Arguments.{argA, argB};
-ghost use Rattle.operators.specs.Operators.{eqnOf};
+ghost use Rattle.operators.specs.Operators.{calcs, eqnOf};
 ghost use Rattle.layout.specs.Record.{decRaw, num, kF};
 ghost use Rattle.encoding.specs.Back as cells;
 ghost use Rattle.queue.specs.Found.{asOption};
@@ -30,20 +30,21 @@ pub enum Op {
     Two(Binary, u8, u8),
     Last(u8, u8),
     Delay(u8, u8),
+    Signal(Calc, u8, u8),
 }
 
-// What a last or a delay keeps.
+// What a last, a delay or a signal form keeps; prevb is a signal form's latest value of its second argument.
 pub struct Kept {
     pub prev: Found,
+    pub prevb: Found,
     pub since: u64,
     pub value: Found,
     pub prior: Found,
 }
 
-// A stream, rebuilt from its record: its operator with just the arguments that it uses, and what the engine knows of it.
+// A stream, rebuilt from its record: its operator with just the arguments that it uses, and what a move looks at besides.
 pub struct Stream {
     pub op: Op,
-    pub out: bool,
     pub bound: u64,
     pub kept: Kept,
 }
@@ -74,18 +75,19 @@ fn unary_at(r: &[u8], n: u64) -> Unary
     }
 }
 
-fn calc_of(n: u64) -> Calc
-    requires { ⌜ (8 ≤ n) × (n ≤ 15) ⌝ }
-    ensures { λ r. ⌜ ((a b : ℕ) (k : ℤ) → two (calc (calculation r)) a b ≡ eqnOf n a b k) ⌝ }
+// The calculation at a place among the eight.
+fn calc_of(place: u64) -> Calc
+    requires { ⌜ place ≤ 7 ⌝ }
+    ensures { λ r. ⌜ calculation r ≡ getD calcs place add ⌝ }
 {
-    match n {
-        8 => Calc::Add,
-        9 => Calc::Sub,
-        10 => Calc::Mul,
-        11 => Calc::Div,
-        12 => Calc::Rem,
-        13 => Calc::Lt,
-        14 => Calc::Le,
+    match place {
+        0 => Calc::Add,
+        1 => Calc::Sub,
+        2 => Calc::Mul,
+        3 => Calc::Div,
+        4 => Calc::Rem,
+        5 => Calc::Lt,
+        6 => Calc::Le,
         _ => Calc::Eq,
     }
 }
@@ -98,7 +100,7 @@ fn binary_of(n: u64) -> Binary
         16 => Binary::Keep,
         17 => Binary::Merge,
         _ => {
-            let g = calc_of(n);
+            let g = calc_of(n - 8);
             Binary::Arith(g)
         }
     }
@@ -116,6 +118,7 @@ pub fn first(op: Op) -> u8
         Op::Two(_, a, _) => a,
         Op::Last(a, _) => a,
         Op::Delay(a, _) => a,
+        Op::Signal(_, a, _) => a,
     }
 }
 
@@ -131,6 +134,7 @@ pub fn second(op: Op) -> u8
         Op::Two(_, _, b) => b,
         Op::Last(_, b) => b,
         Op::Delay(_, b) => b,
+        Op::Signal(_, _, b) => b,
     }
 }
 
@@ -184,6 +188,12 @@ pub fn operator_at(r: &[u8]) -> Op
             let b = layout::byte_at(r, layout::B);
             Op::Delay(a as u8, b as u8)
         }
+        20..=27 => {
+            let g = calc_of(n - 20);
+            let a = layout::byte_at(r, layout::A);
+            let b = layout::byte_at(r, layout::B);
+            Op::Signal(g, a as u8, b as u8)
+        }
         _ => Op::Nil,
     }
 }
@@ -198,12 +208,34 @@ fn optional(has: u64, bits: u64) -> Found
     Found::Value(num::of_bits(bits))
 }
 
+// The value that a record keeps: whether it is there in byte f, its bits in word w.
+fn value_at(r: &[u8], f: usize, w: usize) -> Found
+    requires { ⌜ (length (now r) ≡ 256) × (f < 8) × (w < 7) ⌝ }
+    ensures { λ x. ⌜ asOption x ≡ cells.optional (num f (decRaw (now (r .entry)))) (num (8 + w) (decRaw (now (r .entry)))) ⌝ }
+{
+    optional(layout::byte_at(r, f), layout::word_at(r, w))
+}
+
 // Nothing is kept.
 fn nothing() -> Kept
     ensures { λ k. ⌜ keptIn k ≡ noKept ⌝ }
 {
     Kept {
         prev: Found::Nothing,
+        prevb: Found::Nothing,
+        since: 0,
+        value: Found::Nothing,
+        prior: Found::Nothing,
+    }
+}
+
+// The latest values of its arguments that a last (one) or a signal form (both) keeps.
+fn latest(prev: Found, prevb: Found) -> Kept
+    ensures { λ k. ⌜ keptIn k ≡ withPrev (asOption prev) (withPrevB (asOption prevb) noKept) ⌝ }
+{
+    Kept {
+        prev: prev,
+        prevb: prevb,
         since: 0,
         value: Found::Nothing,
         prior: Found::Nothing,
@@ -217,33 +249,25 @@ fn kept_at(r: &[u8], op: Op, bound: u64) -> Kept
 {
     match op {
         Op::Last(_, _) => {
-            let prev = optional(
-                layout::byte_at(r, layout::FLAG),
-                layout::word_at(r, layout::KEPT),
-            );
-            Kept {
-                prev: prev,
-                since: 0,
-                value: Found::Nothing,
-                prior: Found::Nothing,
-            }
+            let prev = value_at(r, layout::FLAG, layout::KEPT);
+            latest(prev, Found::Nothing)
         }
         Op::Delay(_, _) => {
             let since = smaller(layout::word_at(r, layout::KEPT), bound);
-            let value = optional(
-                layout::byte_at(r, layout::FLAG),
-                layout::word_at(r, layout::VALUE),
-            );
-            let prior = optional(
-                layout::byte_at(r, layout::PRIOR_FLAG),
-                layout::word_at(r, layout::PRIOR),
-            );
+            let value = value_at(r, layout::FLAG, layout::VALUE);
+            let prior = value_at(r, layout::PRIOR_FLAG, layout::PRIOR);
             Kept {
                 prev: Found::Nothing,
+                prevb: Found::Nothing,
                 since: since,
                 value: value,
                 prior: prior,
             }
+        }
+        Op::Signal(_, _, _) => {
+            let prev = value_at(r, layout::FLAG, layout::KEPT);
+            let prevb = value_at(r, layout::PRIOR_FLAG, layout::VALUE);
+            latest(prev, prevb)
         }
         Op::In => nothing(),
         Op::Nil => nothing(),
@@ -258,11 +282,9 @@ pub fn complete(r: &[u8], op: Op, bound: u64) -> Stream
     requires { ⌜ (length (now r) ≡ 256) × (equation op ≡ lookOf (decRaw (now r)) .eqn) × (bound ≡ lookOf (decRaw (now r)) .bound) ⌝ }
     ensures { λ s. ⌜ Is s (decRaw (now (r .entry))) ⌝ }
 {
-    let out = layout::byte_at(r, layout::OUT) != 0;
     let kept = kept_at(r, op, bound);
     Stream {
         op: op,
-        out: out,
         bound: bound,
         kept: kept,
     }

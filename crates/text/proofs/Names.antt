@@ -211,7 +211,7 @@ unfolding placePacked
 missing x [] n t = refl
 missing x (y ∷ l) n t = rw (ne-eqb x y (t .0)) (missing x l (n + 1) (t .1))
 
--- the letters of the nineteen names, as numbers
+-- the letters of the names, as numbers
 abbrev pub codes : List ℕ
 unfolding pack
 codes = map pack (drop 1 names)

@@ -11,7 +11,7 @@ use Rattle.meaning.specs.Plan.{Plan}
 use Rattle.meaning.specs.Events.{horizon}
 use Rattle.meaning.specs.CycleTest.{acyclic}
 use Rattle.machine.specs.State.{room, planOf}
-use Rattle.operators.specs.Operators.{groupOf, isLast, isDelay, isOperator}
+use Rattle.operators.specs.Operators.{groupOf, isLast, isDelay, isSignal, isOperator}
 use Rattle.operators.specs.Rules.{fieldsOk}
 use Rattle.operators.specs.Limits.{capacity}
 use Rattle.layout.specs.Record.{Slot, Raw, num, slotAt, decRaw, opF, aF, bF, outF, countF, flagF, priorFlagF, smallF, kF, boundF, nextF, keptF, valueF, priorF, lastF}
@@ -56,11 +56,18 @@ noneIf a has = cond (eqb a 0) (eqb has 0) true
 unfoldable pub noneOk : Raw → Bool
 noneOk r = eqb (num flagF r) 0 && (eqb (num priorFlagF r) 0 && (eqb (num keptF r) 0 && (eqb (num valueF r) 0 && eqb (num priorF r) 0)))
 
+-- the value of an argument's latest event, its flag in number f and its bits in number j: none with bound 0
+unfoldable pub latestOk : (f j : ℕ) → Raw → Bool
+latestOk f j r = flagOk (num f r) (num j r) && noneIf (num boundF r) (num f r)
+
 unfoldable pub lastOk : Raw → Bool
-lastOk r =
-    flagOk (num flagF r) (num keptF r)
-    && (noneIf (num boundF r) (num flagF r)
-    && (eqb (num priorFlagF r) 0 && (eqb (num valueF r) 0 && eqb (num priorF r) 0)))
+unfolding latestOk
+lastOk r = latestOk flagF keptF r && (eqb (num priorFlagF r) 0 && (eqb (num valueF r) 0 && eqb (num priorF r) 0))
+
+-- the latest of a, the latest of b
+unfoldable pub signalOk : Raw → Bool
+unfolding latestOk
+signalOk r = latestOk flagF keptF r && (latestOk priorFlagF valueF r && eqb (num priorF r) 0)
 
 -- "A set point of a delay is a stamp at which b or the delay itself has an event": the newest held one lies below since
 unfoldable pub ownOk : ℕ → Raw → Bool
@@ -77,8 +84,11 @@ delayOk r =
     && leb (num keptF r) (num boundF r)))))
 
 unfoldable pub keptOk : Raw → Bool
-unfolding lastOk delayOk noneOk
-keptOk r = cond (isLast (groupOf (num opF r))) (lastOk r) (cond (isDelay (groupOf (num opF r))) (delayOk r) (noneOk r))
+unfolding lastOk delayOk signalOk noneOk
+keptOk r =
+    cond (isLast (groupOf (num opF r))) (lastOk r)
+    (cond (isDelay (groupOf (num opF r))) (delayOk r)
+    (cond (isSignal (groupOf (num opF r))) (signalOk r) (noneOk r)))
 
 -- ---- one record, of its 256 bytes; "an unused byte not 0": after the held events every byte is 0
 unfoldable pub rowOk : ℕ → List ℕ → Bool

@@ -5,7 +5,7 @@ ghost use lib.ListN.{length};
 ghost use Rattle.operators.specs.Limits.{mostStreams, capacity};
 ghost use Rattle.machine.specs.State.{room};
 ghost use Rattle.layout.specs.Record.{num, countF, decRaw};
-ghost use Rattle.valid.specs.Valid.{planOk, nextOk, sizesOk, risen, flagOk, noneIf, noneOk, lastOk, ownOk, delayOk, keptOk, rowOk, allRows, streamsIn, count, noted, clearIn, tested};
+ghost use Rattle.valid.specs.Valid.{planOk, nextOk, sizesOk, risen, flagOk, noneIf, noneOk, latestOk, lastOk, signalOk, ownOk, delayOk, keptOk, rowOk, allRows, streamsIn, count, noted, clearIn, tested};
 use cycle::GRAPH;
 use limits::Bound;
 use limits::Queue;
@@ -121,15 +121,23 @@ fn none_ok(r: &[u8]) -> bool
     layout::word_at(r, layout::PRIOR) == 0
 }
 
+// Whether the value of an argument's latest event is as it may be: that it is there in byte f, its bits in word w.
+fn latest_ok(r: &[u8], f: usize, w: usize) -> bool
+    requires { ⌜ (length (now r) ≡ 256) × (f < 8) × (w < 7) ⌝ }
+    ensures { λ x. ⌜ x ≡ latestOk f (8 + w) (decRaw (now (r .entry))) ⌝ }
+{
+    let has = layout::byte_at(r, f);
+    if !flag_ok(has, layout::word_at(r, w)) {
+        return false;
+    }
+    none_if(layout::word_at(r, layout::BOUND), has)
+}
+
 fn last_ok(r: &[u8]) -> bool
     requires { ⌜ length (now r) ≡ 256 ⌝ }
     ensures { λ x. ⌜ x ≡ lastOk (decRaw (now (r .entry))) ⌝ }
 {
-    let flag = layout::byte_at(r, layout::FLAG);
-    if !flag_ok(flag, layout::word_at(r, layout::KEPT)) {
-        return false;
-    }
-    if !none_if(layout::word_at(r, layout::BOUND), flag) {
+    if !latest_ok(r, layout::FLAG, layout::KEPT) {
         return false;
     }
     let prior_flag = layout::byte_at(r, layout::PRIOR_FLAG);
@@ -138,6 +146,19 @@ fn last_ok(r: &[u8]) -> bool
     }
     let value = layout::word_at(r, layout::VALUE);
     if value != 0 {
+        return false;
+    }
+    layout::word_at(r, layout::PRIOR) == 0
+}
+
+fn signal_ok(r: &[u8]) -> bool
+    requires { ⌜ length (now r) ≡ 256 ⌝ }
+    ensures { λ x. ⌜ x ≡ signalOk (decRaw (now (r .entry))) ⌝ }
+{
+    if !latest_ok(r, layout::FLAG, layout::KEPT) {
+        return false;
+    }
+    if !latest_ok(r, layout::PRIOR_FLAG, layout::VALUE) {
         return false;
     }
     layout::word_at(r, layout::PRIOR) == 0
@@ -189,6 +210,7 @@ fn kept_ok(r: &[u8]) -> bool
     match operators::group_of(op) {
         Group::Last => last_ok(r),
         Group::Delay => delay_ok(r),
+        Group::Signal => signal_ok(r),
         _ => none_ok(r),
     }
 }

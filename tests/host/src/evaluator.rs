@@ -1,5 +1,6 @@
-//! The definition, from document 01's operator table and the rules under it: a plan and the readings of its inputs give
-//! for every stream a map from stamp to value. Batch and plain; it knows nothing of calls, bounds or held events.
+//! The definition, from document 01's operator table, the rules under it and document 02's signal forms: a plan and the readings
+//! of its inputs give for every stream a map from stamp to value. Batch and plain; it knows nothing of calls, bounds or held
+//! events.
 
 use crate::plan::{Op, Stream};
 use std::collections::{BTreeMap, BTreeSet};
@@ -54,9 +55,17 @@ impl Table<'_> {
             Op::Delay => self.fires(s, a, b, t).then_some(0),
             _ => {
                 let (x, y) = (self.at(a, t, now), self.at(b, t, now));
-                calculate(op, x? as i128, y? as i128)
+                let Some(form) = op.on_signals() else { return calculate(op, x? as i128, y? as i128) };
+                // "an event at each stamp where either argument has one and both have had one at that stamp or before"
+                x.or(y)?;
+                calculate(form, self.latest(a, x)? as i128, self.latest(b, y)? as i128)
             }
         }
+    }
+
+    /// The latest value of stream s, which has `now` at the present stamp.
+    fn latest(&self, s: usize, now: Option<i64>) -> Option<i64> {
+        now.or(self.before[s].values().next_back().copied())
     }
 
     /// "The delay fires [..] at t exactly if for some set point p < t the stream a has value t − p at p, and b has no event

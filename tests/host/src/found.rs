@@ -1,6 +1,6 @@
 //! A model of the calls on any state, left by a call or not: "the same rules work on the held events and what is kept, and a
-//! reach below y counts as y". Written from document 01, docs/LAYOUT.md and docs/DECISIONS.md. Slow and plain: it searches
-//! where the engines step.
+//! reach below y counts as y". Written from documents 01 and 02, docs/LAYOUT.md and docs/DECISIONS.md. Slow and plain: it
+//! searches where the engines step.
 
 use crate::engine::{Answer, Call, STATE_LENGTH};
 use crate::evaluator::{Events, HORIZON};
@@ -20,6 +20,8 @@ pub struct Record {
     pub since: u64,
     pub value: Option<i64>,
     pub prior: Option<i64>,
+    /// of a signal form: the value of a's latest known event below the bound, and of b's
+    pub latest: [Option<i64>; 2],
 }
 
 #[derive(Clone, PartialEq, Debug)]
@@ -86,6 +88,12 @@ fn read_record(r: &[u8], n: usize) -> Option<(Stream, Record)> {
                 return None;
             }
         }
+        op if op.on_signals().is_some() => {
+            record.latest = [flagged(r, 5, 32)?, flagged(r, 6, 40)?];
+            if (record.bound == 0 && record.latest != [None; 2]) || word(r, 48) != 0 {
+                return None;
+            }
+        }
         _ => {
             if r[5] != 0 || r[6] != 0 || r[32..56].iter().any(|&x| x != 0) {
                 return None;
@@ -116,13 +124,14 @@ impl Found {
             put(8, stream.k as u64);
             put(16, record.bound);
             put(24, record.mark);
-            put(32, if stream.op == Op::Last { record.prev.unwrap_or(0) as u64 } else { record.since });
-            put(40, record.value.unwrap_or(0) as u64);
+            let [first, second] = record.latest;
+            put(32, record.prev.or(first).map_or(record.since, |v| v as u64));
+            put(40, record.value.or(second).unwrap_or(0) as u64);
             put(48, record.prior.unwrap_or(0) as u64);
             r[0] = OPERATORS.iter().position(|(op, _)| *op == stream.op).unwrap() as u8 + 1;
             (r[1], r[2], r[3], r[4]) = (stream.a as u8, stream.b as u8, stream.out as u8, record.held.len() as u8);
-            r[5] = record.prev.or(record.value).is_some() as u8;
-            r[6] = record.prior.is_some() as u8;
+            r[5] = record.prev.or(record.value).or(first).is_some() as u8;
+            r[6] = record.prior.or(second).is_some() as u8;
             for (slot, (t, v)) in r[64..].chunks_mut(12).zip(&record.held) {
                 slot[..4].copy_from_slice(&t.to_le_bytes());
                 slot[4..].copy_from_slice(&v.to_le_bytes());
@@ -182,8 +191,21 @@ impl Found {
                 let quiet = |p: u64| !b.held.keys().any(|q| (*q as u64) > p && (*q as u64) < t);
                 self.set_points(s).into_iter().any(|p| p < t && due(p) && quiet(p)).then_some(0)
             }
+            // the latest values: held at t or before, or kept
+            op if op.on_signals().is_some() => {
+                x.or(z)?;
+                let [x, z] = self.latest(s, t + 1);
+                at_one_stamp(Stream { op: op.on_signals()?, ..stream }, t, x, z)
+            }
             _ => at_one_stamp(stream, t, x, z),
         }
+    }
+
+    /// Of a signal form: the value of a's latest event below a bound, held or kept, and of b's.
+    fn latest(&self, s: usize, bound: u64) -> [Option<i64>; 2] {
+        let held = |i: usize| self.records[i].held.iter().rev().find(|(t, _)| (**t as u64) < bound).map(|(_, v)| *v);
+        let (stream, [first, second]) = (self.plan[s], self.records[s].latest);
+        [held(stream.a).or(first), held(stream.b).or(second)]
     }
 
     /// "If an event lies at or above y and below the reach, the first one"
@@ -212,7 +234,8 @@ impl Found {
         (bound != self.records[s].bound).then_some((bound, event))
     }
 
-    /// The bound goes up, with at most one event: "the state still keeps what a last or delay needs of it".
+    /// The bound goes up, with at most one event: "the state still keeps what a last or delay needs of it", and a signal form's
+    /// latest values.
     fn raise(&mut self, s: usize, bound: u64, event: Option<(u32, i64)>) {
         self.records[s].bound = bound;
         self.records[s].held.extend(event);
@@ -229,6 +252,7 @@ impl Found {
                 let record = &mut self.records[s];
                 (record.since, record.value, record.prior) = (latest.map_or(0, |p| p + 1), value, prior);
             }
+            op if op.on_signals().is_some() => self.records[s].latest = self.latest(s, bound),
             _ => {}
         }
         if let Some((t, v)) = event {
@@ -242,7 +266,8 @@ impl Found {
         }
     }
 
-    /// The event (t, v) of stream s came in below the bound of stream r.
+    /// The event (t, v) of stream s came in below the bound of stream r. A signal form keeps only what it took in by its own
+    /// moves.
     fn tell(&mut self, r: usize, s: usize, t: u64, v: i64) {
         let (stream, record) = (self.plan[r], &mut self.records[r]);
         if t >= record.bound {

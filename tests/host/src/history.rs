@@ -5,7 +5,8 @@ use crate::buffer::Lent;
 use crate::engine::{engines, Answer, Call, STATE_LENGTH};
 use crate::evaluator::{evaluate, Events, HORIZON};
 use crate::plan::{text_of, Op, Plan};
-use crate::random::seed;
+use crate::random::{seed, Random};
+use crate::saved::Saved;
 
 /// Stamps that the evaluator may look at before a check is given up.
 const MOST: usize = 20_000;
@@ -43,6 +44,24 @@ impl Session {
             list: vec![],
         };
         session.same();
+        session
+    }
+
+    /// A saved state put back: it has had the calls made up to its copy.
+    pub fn put_back(saved: &Saved) -> Session {
+        let n = saved.plan.len();
+        let mut session = Session {
+            plan: saved.plan.clone(),
+            states: engines().iter().map(|_| Lent::of(&saved.bytes)).collect(),
+            accepted: vec![Events::new(); n],
+            known: vec![0; n],
+            handed: vec![vec![]; n],
+            list: vec![],
+        };
+        for (call, answer) in &saved.calls {
+            session.list.push(*call);
+            session.note(*call, *answer);
+        }
         session
     }
 
@@ -168,5 +187,38 @@ impl Session {
             }
         }
         true
+    }
+}
+
+/// A call of any kind, now and then one that is refused.
+pub fn any_call(random: &mut Random, session: &Session) -> Call {
+    let n = session.plan.len() as u64;
+    let inputs = session.inputs();
+    let stream = if random.chance(4) { random.pick(&[n as u32, n as u32 + 1, 255, 256, u32::MAX]) } else { random.below(n) as u32 };
+    let input = if inputs.is_empty() || random.chance(5) { stream } else { random.pick(&inputs) as u32 };
+    let known = session.known.get(input as usize).copied().unwrap_or(0);
+    match random.below(100) {
+        0..=34 => {
+            let stamp = match random.below(50) {
+                0 => random.next() as u32,
+                1 => random.pick(&[0, u32::MAX, u32::MAX - 1, 1 << 31]),
+                2..=5 => known.saturating_sub(1 + random.below(4)) as u32,
+                6..=40 => known.saturating_add(random.below(3)).min(u32::MAX as u64) as u32,
+                _ => known.saturating_add(random.below(12)).min(u32::MAX as u64) as u32,
+            };
+            Call::Reading(input, stamp, random.value())
+        }
+        35..=44 => {
+            let bound = match random.below(40) {
+                0 => random.pick(&[HORIZON + 1, u64::MAX, 1 << 33]),
+                1 => random.next() >> random.below(64),
+                2..=5 => known.saturating_sub(random.below(3)),
+                _ => known + random.below(10),
+            };
+            Call::Progress(input, bound)
+        }
+        45..=64 => Call::Move(stream),
+        65..=79 => Call::Run(random.below(12) as u32),
+        _ => Call::Collect(stream),
     }
 }

@@ -1,4 +1,4 @@
-//! The fields of a state, read from outside (docs/LAYOUT.md): for tests that look at bounds and held events.
+//! The fields of a state, read from outside (docs/LAYOUT.md): for tests that look at bounds, held events and what is kept.
 
 pub const RECORD: usize = 256;
 
@@ -12,6 +12,12 @@ pub fn bound(state: &[u8], stream: usize) -> u64 {
 
 pub fn mark(state: &[u8], stream: usize) -> u64 {
     word(state, RECORD * stream + 24)
+}
+
+/// Of a signal form: the latest values of a and of b, each where its flag is 1.
+pub fn latest(state: &[u8], stream: usize) -> [Option<i64>; 2] {
+    let record = &state[RECORD * stream..RECORD * (stream + 1)];
+    [(5, 32), (6, 40)].map(|(flag, at)| (record[flag] == 1).then_some(word(record, at) as i64))
 }
 
 pub fn held(state: &[u8], stream: usize) -> Vec<(u32, i64)> {

@@ -11,3 +11,4 @@ pub mod model;
 pub mod plan;
 pub mod random;
 pub mod replay;
+pub mod saved;

@@ -1,5 +1,6 @@
 //! A model of the calls on whole histories: every event that ever came in is kept, and the sentences of document 01 ("When
-//! an equation can move", "The calls") are followed on them. Slow and plain; it has no bytes and keeps nothing aside.
+//! an equation can move", "The calls") and of document 02's signal forms are followed on them. Slow and plain; it has no bytes
+//! and keeps nothing aside.
 
 use crate::engine::{Answer, Call};
 use crate::evaluator::{Events, HORIZON};
@@ -69,8 +70,20 @@ impl Model {
                     .any(|(p, v)| *v as i128 <= HORIZON as i128 && due(*p as u64, *v) && set(p) && quiet(*p));
                 fires.then_some(0)
             }
+            // "works on the latest values": those at t itself, where there is one
+            op if op.on_signals().is_some() => {
+                x.or(z)?;
+                let latest = |i: usize| self.events[i].range(..=t as u32).next_back().map(|(_, v)| *v);
+                at_one_stamp(Stream { op: op.on_signals()?, ..stream }, t, latest(stream.a), latest(stream.b))
+            }
             _ => at_one_stamp(stream, t, x, z),
         }
+    }
+
+    /// Of a signal form, what the state keeps: the value of the latest event below its bound, of a and of b.
+    pub fn latest(&self, s: usize) -> [Option<i64>; 2] {
+        let below = |i: usize| self.events[i].iter().rev().find(|(t, _)| (**t as u64) < self.bound[s]).map(|(_, v)| *v);
+        [below(self.plan[s].a), below(self.plan[s].b)]
     }
 
     /// The first event at or above the bound and below the reach.
@@ -179,7 +192,8 @@ impl Model {
     }
 }
 
-/// The table's rows of document 01 that look at one stamp alone: all but last and delay. x and z are the arguments' events.
+/// The table's rows of document 01 that look at one stamp alone: all but last and delay, and no signal form. x and z are the
+/// arguments' events.
 pub fn at_one_stamp(stream: Stream, t: u64, x: Option<i64>, z: Option<i64>) -> Option<i64> {
     match stream.op {
         Op::In | Op::Nil => None,
@@ -201,6 +215,6 @@ pub fn at_one_stamp(stream: Stream, t: u64, x: Option<i64>, z: Option<i64>) -> O
         Op::Eq => Some((x? == z?) as i64),
         Op::Keep => x.filter(|_| z.is_some_and(|z| z != 0)),
         Op::Merge => x.or(z),
-        Op::Last | Op::Delay => unreachable!("looks back"),
+        op => unreachable!("{op:?} looks back"),
     }
 }

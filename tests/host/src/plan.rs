@@ -1,18 +1,24 @@
-//! A plan and its text, from document 01's "Plan text" and the numbers 1 to 6 of "Load".
+//! A plan and its text, from document 01's "Plan text" and the numbers 1 to 6 of "Load", with document 02's signal forms.
 
 #[derive(Clone, Copy, PartialEq, Eq, Debug)]
 pub enum Op {
     In, Nil, Unit, Time, Set, Plus, Neg, Add, Sub, Mul, Div, Rem, Lt, Le, Eq, Keep, Merge, Last, Delay,
+    Sadd, Ssub, Smul, Sdiv, Srem, Slt, Sle, Seq,
 }
 
 use Op::*;
 
-/// By the table's order; the stored number is the place plus 1.
-pub const OPERATORS: [(Op, &str); 19] = [
+/// By the table's order, then the signal forms; the stored number is the place plus 1.
+pub const OPERATORS: [(Op, &str); 27] = [
     (In, "in"), (Nil, "nil"), (Unit, "unit"), (Time, "time"), (Set, "set"), (Plus, "plus"), (Neg, "neg"), (Add, "add"),
     (Sub, "sub"), (Mul, "mul"), (Div, "div"), (Rem, "rem"), (Lt, "lt"), (Le, "le"), (Eq, "eq"), (Keep, "keep"),
-    (Merge, "merge"), (Last, "last"), (Delay, "delay"),
+    (Merge, "merge"), (Last, "last"), (Delay, "delay"), (Sadd, "sadd"), (Ssub, "ssub"), (Smul, "smul"), (Sdiv, "sdiv"),
+    (Srem, "srem"), (Slt, "slt"), (Sle, "sle"), (Seq, "seq"),
 ];
+
+/// The signal forms, each with what it works out of the latest values.
+pub const SIGNALS: [(Op, Op); 8] =
+    [(Sadd, Add), (Ssub, Sub), (Smul, Mul), (Sdiv, Div), (Srem, Rem), (Slt, Lt), (Sle, Le), (Seq, Eq)];
 
 impl Op {
     pub fn uses_a(self) -> bool {
@@ -23,6 +29,10 @@ impl Op {
     }
     pub fn uses_k(self) -> bool {
         matches!(self, Set | Plus)
+    }
+    /// Of a signal form: what it works out of the latest values.
+    pub fn on_signals(self) -> Option<Op> {
+        SIGNALS.iter().find(|(form, _)| *form == self).map(|(_, op)| *op)
     }
     pub fn name(self) -> &'static str {
         OPERATORS.iter().find(|(op, _)| *op == self).unwrap().1

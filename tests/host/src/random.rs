@@ -1,6 +1,6 @@
 //! Random numbers from a printed seed, and random plans.
 
-use crate::plan::{keeps_cycle_rule, Op, Plan, Stream, OPERATORS};
+use crate::plan::{keeps_cycle_rule, Op, Plan, Stream, OPERATORS, SIGNALS};
 
 #[derive(Clone)]
 pub struct Random(u64);
@@ -70,7 +70,7 @@ fn recursion(random: &mut Random, plan: &mut Plan, order: &[usize], place: usize
         plan[second] = if random.chance(50) {
             Stream { op: Op::Plus, a: first, b: 0, k: random.value(), out: out(random) }
         } else {
-            let op = random.pick(&[Op::Add, Op::Sub, Op::Mul, Op::Add, Op::Rem, Op::Merge, Op::Le]);
+            let op = random.pick(&[Op::Add, Op::Sub, Op::Mul, Op::Add, Op::Rem, Op::Merge, Op::Le, Op::Sadd, Op::Ssub, Op::Slt]);
             Stream { op, a: first, b: lower(random), k: 0, out: out(random) }
         };
     } else {
@@ -124,7 +124,8 @@ pub fn plan(random: &mut Random, most: usize) -> Plan {
                 54..=60 => Op::Plus,
                 61..=65 => Op::Time,
                 66..=70 => Op::Keep,
-                _ => OPERATORS[random.below(19) as usize].0,
+                71..=80 => random.pick(&SIGNALS).0,
+                _ => random.pick(&OPERATORS).0,
             }
         };
         let mut stream = Stream::new(op);

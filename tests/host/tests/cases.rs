@@ -250,6 +250,17 @@ fn introduction_ring_buffer() {
             (15, &[(0, 1), (1, 1), (2, 1), (3, 0), (4, 1), (5, 0), (6, 1)]),
         ],
     );
+    // the difference as a signal form: stream 9
+    let plan = "in; in; unit; last 5 0; plus 3 k1; merge 4 2; last 8 1; plus 6 k1; merge 7 2; ssub 8 5 out; set 9 k2; le 9 10 out";
+    gives(
+        plan,
+        &[(0, &[(4, 0), (6, 0)]), (1, &[(1, 0), (2, 0), (3, 0), (5, 0)])],
+        HORIZON,
+        &[
+            (9, &[(0, 0), (1, 1), (2, 2), (3, 3), (4, 2), (5, 3), (6, 2)]),
+            (11, &[(0, 1), (1, 1), (2, 1), (3, 0), (4, 1), (5, 0), (6, 1)]),
+        ],
+    );
 }
 
 #[test]
@@ -323,6 +334,9 @@ fn example_3_signal_lift() {
         HORIZON,
         &[(3, &[(1, 1), (2, 1), (4, 2), (6, 2)]), (5, &[(2, 10), (4, 20), (6, 30)]), (6, &[(2, 11), (4, 22), (6, 32)])],
     );
+    // in one line
+    let inputs: &[(usize, Pairs)] = &[(0, &[(1, 1), (4, 2)]), (1, &[(2, 10), (4, 20), (6, 30)])];
+    gives("in; in; sadd 0 1 out", inputs, HORIZON, &[(2, &[(2, 11), (4, 22), (6, 32)])]);
 }
 
 #[test]
@@ -354,6 +368,8 @@ fn section_4_comparison_of_times() {
         // at 2 b has none yet; at 3 both; at 5 a's 3 against 5; at 8 a's 8 against 5
         &[(8, &[(3, 1), (5, 0), (8, 1)])],
     );
+    let inputs: &[(usize, Pairs)] = &[(0, &[(2, 0), (3, 0), (8, 0)]), (1, &[(3, 0), (5, 0)])];
+    gives("in; in; time 0; time 1; sle 3 2 out", inputs, HORIZON, &[(4, &[(3, 1), (5, 0), (8, 1)])]);
 }
 
 #[test]

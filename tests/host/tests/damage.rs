@@ -8,6 +8,7 @@ use host::found::Found;
 use host::history::Session;
 use host::plan::{parse, text_of};
 use host::random::{plan, rounds, seed, Random};
+use std::ops::RangeInclusive;
 
 fn damaged_text(random: &mut Random) -> Vec<u8> {
     let mut text = text_of(&plan(random, 32)).into_bytes();
@@ -39,8 +40,8 @@ fn damaged_text(random: &mut Random) -> Vec<u8> {
                     let key: Vec<u8> = all[i].iter().take_while(|&&c| c != b'=').copied().collect();
                     let value = random.pick(&[
                         "0", "1", "2", "31", "32", "33", "100", "999", "1000", "-1", "-0", "00", "in", "nil", "unit", "last", "delay", "merge",
-                        "add", "neg", "plus", "zz", "abcdef", "", "9223372036854775807", "9223372036854775808", "-9223372036854775808",
-                        "-9223372036854775809", "18446744073709551617",
+                        "add", "neg", "plus", "sadd", "sdiv", "seq", "sneg", "sadds", "zz", "abcdef", "", "9223372036854775807",
+                        "9223372036854775808", "-9223372036854775808", "-9223372036854775809", "18446744073709551617",
                     ]);
                     all[i] = [&key, &b"="[..], value.as_bytes(), b"\n"].concat();
                 }
@@ -95,7 +96,7 @@ fn damage(random: &mut Random, state: &mut [u8], streams: usize) {
         }
         1 => {
             let at = record + random.below(64) as usize;
-            state[at] = random.pick(&[0, 1, 2, 16, 17, 19, 20, 255]);
+            state[at] = random.pick(&[0, 1, 2, 16, 17, 19, 20, 27, 28, 255]);
         }
         // another bound: often still above the held stamps
         2..=4 => {
@@ -112,7 +113,7 @@ fn damage(random: &mut Random, state: &mut [u8], streams: usize) {
             let mark = if random.chance(80) { random.below(bound.saturating_add(2).max(1)) } else { random.next() };
             put(state, record + 24, &mark.to_le_bytes());
         }
-        // what a last or a delay keeps: since, value, prior
+        // what is kept: since, value and prior of a delay, one value of a last, two of a signal form
         6..=8 => {
             let since = if random.chance(80) { random.below(bound.saturating_add(2).max(1)) } else { random.next() };
             if state[record] == 19 {
@@ -127,6 +128,16 @@ fn damage(random: &mut Random, state: &mut [u8], streams: usize) {
                 state[record + 5] = random.below(2) as u8;
                 let value = if state[record + 5] == 1 || random.chance(5) { random.value() } else { 0 };
                 put(state, record + 32, &value.to_le_bytes());
+            } else if SIGNAL.contains(&state[record]) {
+                for (flag, at) in [(5, 32), (6, 40)] {
+                    state[record + flag] = random.below(2) as u8;
+                    let value = if state[record + flag] == 1 || random.chance(5) { random.value() } else { 0 };
+                    put(state, record + at, &value.to_le_bytes());
+                }
+                // a byte that a signal form does not use
+                if random.chance(5) {
+                    state[record + 48 + random.below(8) as usize] = 1;
+                }
             }
         }
         // a held event more, at the end or between; up to 16 and one beyond
@@ -153,11 +164,40 @@ fn damage(random: &mut Random, state: &mut [u8], streams: usize) {
             state[record + 4] -= 1;
         }
         // another operator of the same form, or other arguments
-        14 => state[record] = random.pick(&[8, 9, 10, 11, 12, 13, 14, 15, 16, 17, 18, 19, 4, 7]),
+        14 => state[record] = random.pick(&[8, 9, 10, 11, 12, 13, 14, 15, 16, 17, 18, 19, 20, 21, 23, 24, 27, 28, 4, 7]),
         _ => {
             let at = record + 1 + random.below(2) as usize;
             state[at] = random.below(streams as u64 + 1) as u8;
         }
+    }
+}
+
+/// The stored numbers of the signal forms.
+const SIGNAL: RangeInclusive<u8> = 20..=27;
+
+/// What a signal form's record keeps has no meaning: a flag above 1, a flag with bound 0, a value without its flag, an unused byte.
+fn no_meaning(record: &[u8]) -> bool {
+    let zero = |from: usize| record[from..from + 8].iter().all(|&x| x == 0);
+    let wrong = |flag: usize, at: usize| record[flag] > 1 || (record[flag] == 1 && zero(16)) || (record[flag] == 0 && !zero(at));
+    wrong(5, 32) || wrong(6, 40) || !zero(48)
+}
+
+/// A signal form as no call leaves it: ahead of its arguments, with values that it never took in.
+fn ahead_of_both(random: &mut Random, state: &mut [u8], streams: usize) {
+    let forms: Vec<usize> = (0..streams).filter(|s| SIGNAL.contains(&state[256 * s])).collect();
+    if forms.is_empty() {
+        return;
+    }
+    let record = 256 * random.pick(&forms);
+    let known = |argument: usize| if argument < streams { host::layout::bound(state, argument).min(400) } else { 0 };
+    let (a, b) = (known(state[record + 1] as usize), known(state[record + 2] as usize));
+    let bound = (a.min(b) + random.below(30)).max(host::layout::held(state, record / 256).last().map_or(0, |(t, _)| *t as u64 + 1));
+    put(state, record + 16, &bound.to_le_bytes());
+    put(state, record + 24, &[0; 8]);
+    for (flag, at) in [(5, 32), (6, 40)] {
+        state[record + flag] = (bound > 0 && random.chance(60)) as u8;
+        let value = if state[record + flag] == 1 { random.value() } else { 0 };
+        put(state, record + at, &value.to_le_bytes());
     }
 }
 
@@ -202,6 +242,9 @@ fn damaged_states() {
     // delays with events of their own: since below one past the newest, at it, above it; b's reading told at or above since,
     // just below the bound and lower; told before since
     let (mut below, mut at, mut above, mut edge, mut lower, mut before_since) = (0u64, 0u64, 0u64, 0u64, 0u64, 0u64);
+    // signal forms: readings of an argument below the bound, which the form is not told; events from a kept value, with nothing
+    // of that argument held; kept fields that the layout gives no meaning
+    let (mut untold, mut from_kept, mut unmeant) = (0u64, 0u64, 0u64);
     let (mut good, mut bad, mut moves, mut done) = (0u64, 0u64, 0u64, [0u64; 5]);
     for round in 0..rounds(15_000) {
         let mut random = Random::of(11, round);
@@ -220,22 +263,29 @@ fn damaged_states() {
         }
         for _ in 0..4 {
             let mut bytes = session.state().to_vec();
-            let of_a_delay = random.chance(50);
-            for _ in 0..(!of_a_delay) as u64 + random.below(3) {
+            let of_a_kind = random.below(10);
+            for _ in 0..(of_a_kind > 6) as u64 + random.below(3) {
                 damage(&mut random, &mut bytes, plan.len());
             }
-            if of_a_delay {
-                ahead(&mut random, &mut bytes, plan.len());
+            match of_a_kind {
+                0..=4 => ahead(&mut random, &mut bytes, plan.len()),
+                5..=6 => ahead_of_both(&mut random, &mut bytes, plan.len()),
+                _ => {}
             }
             let mut states = [Lent::of(&bytes), Lent::of(&bytes)];
             // a list of calls on the damaged state, which may go on as one that no call leaves
             for _ in 0..12 {
                 let before = states[0].to_vec();
                 let mut s = random.below(plan.len() as u64 + 1) as u32;
-                // often the second argument of a delay, for a reading below the delay's bound
-                let seconds: Vec<usize> = (0..plan.len()).filter(|&d| before[256 * d] == 19).collect();
+                // often the second argument of a delay or a signal form, for a reading below the bound of that
+                let seconds: Vec<usize> = (0..plan.len()).filter(|&d| before[256 * d] == 19 || SIGNAL.contains(&before[256 * d])).collect();
                 if !seconds.is_empty() && random.chance(20) {
                     s = before[256 * random.pick(&seconds) + 2] as u32;
+                }
+                // and often a signal form itself, for a move of it
+                let forms: Vec<usize> = (0..plan.len()).filter(|&f| SIGNAL.contains(&before[256 * f])).collect();
+                if !forms.is_empty() && random.chance(20) {
+                    s = random.pick(&forms) as u32;
                 }
                 let own = (s as usize).min(plan.len() - 1);
                 let bound = host::layout::bound(&before, own).min(HORIZON);
@@ -266,11 +316,24 @@ fn damaged_states() {
                         at += (since == newest && found.is_some()) as u64;
                         above += (since > newest && found.is_some()) as u64;
                     }
-                    if let (Call::Reading(s, t, _), 0, true) = (call, wanted.number, before[256 * d + 2] as u32 == s) {
+                    if let (Call::Reading(_, t, _), 0, true) = (call, wanted.number, before[256 * d + 2] as u32 == s) {
                         let (t, y) = (t as u64, host::layout::bound(&before, d));
                         edge += (t >= since && t + 1 == y) as u64;
                         lower += (t >= since && t + 1 < y) as u64;
                         before_since += (t < since) as u64;
+                    }
+                }
+                for f in (0..plan.len()).filter(|&f| SIGNAL.contains(&before[256 * f])) {
+                    let (a, b) = (before[256 * f + 1] as usize, before[256 * f + 2] as usize);
+                    match call {
+                        Call::Reading(s, t, _) if wanted.number == 0 && [a, b].contains(&(s as usize)) => {
+                            untold += ((t as u64) < host::layout::bound(&before, f)) as u64;
+                        }
+                        Call::Move(s) if wanted.number == 0 && s as usize == f => {
+                            let event = host::layout::held(&after, f).len() > host::layout::held(&before, f).len();
+                            from_kept += (event && (before[256 * a + 4] == 0 || before[256 * b + 4] == 0)) as u64;
+                        }
+                        _ => unmeant += no_meaning(&before[256 * f..256 * (f + 1)]) as u64,
                     }
                 }
                 assert!(states[0][..] == states[1][..], "library and reference leave other states, {}\nlibrary\n{}\nreference\n{}", story(), shown(&states[0], plan.len()), shown(&states[1], plan.len()));
@@ -295,8 +358,9 @@ fn damaged_states() {
          {edge}, lower {lower}, before since {before_since}",
         seed()
     );
+    println!("seed {}: signal forms, readings of an argument below the bound {untold}, events from a kept value {from_kept}, without meaning {unmeant}", seed());
     assert!(good > bad && moves > 0 && done.iter().all(|&count| count > 0));
-    let reached = [below, at, above, edge, lower, before_since];
+    let reached = [below, at, above, edge, lower, before_since, untold, from_kept, unmeant];
     assert!(reached.iter().all(|&count| count > 0) || rounds(15_000) < 15_000, "a kind of state was never met: {reached:?}");
 }
 

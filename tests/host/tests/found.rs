@@ -1,19 +1,21 @@
-//! States that no call leaves, each worked out by hand from document 01 and docs/DECISIONS.md: a delay ahead of its second
-//! argument, or with events of its own. Streams 0 and 1 are the inputs a and b, stream 2 is the delay, an output.
+//! States that no call leaves, each worked out by hand from documents 01 and 02 and docs/DECISIONS.md: a delay ahead of its
+//! second argument, or with events of its own; a signal form ahead of an argument. Streams 0 and 1 are the inputs a and b, stream
+//! 2 is the delay or the form, an output.
 
 use host::buffer::Lent;
 use host::engine::{engines, Answer, Call, STATE_LENGTH};
 use host::found::{Found, Record};
 use host::plan::{short, text_of};
 
-const PLAN: &str = "in; in; delay 0 1 out";
+const DELAY: &str = "in; in; delay 0 1 out";
+const SUM: &str = "in; in; sadd 0 1 out";
 
 fn record(bound: u64, held: &[(u32, i64)]) -> Record {
     Record { bound, held: held.iter().copied().collect(), ..Record::default() }
 }
 
-fn bytes(a: Record, b: Record, delay: Record) -> Vec<u8> {
-    Found { plan: short(PLAN), records: vec![a, b, delay] }.bytes()
+fn bytes(plan: &str, a: Record, b: Record, third: Record) -> Vec<u8> {
+    Found { plan: short(plan), records: vec![a, b, third] }.bytes()
 }
 
 fn number(number: u32) -> Answer {
@@ -27,7 +29,7 @@ fn event(stamp: u32) -> Answer {
 /// Every call but load refuses the state, and load fills it.
 fn refused(state: &[u8]) {
     assert_eq!(Found::read(state), None);
-    let text = text_of(&short(PLAN));
+    let text = text_of(&short(DELAY));
     for engine in engines() {
         for call in [Call::Reading(1, 30, 1), Call::Progress(1, 30), Call::Move(2), Call::Run(1), Call::Collect(2), Call::Move(9)] {
             let mut lent = Lent::of(state);
@@ -41,19 +43,20 @@ fn refused(state: &[u8]) {
     }
 }
 
-/// The calls with their answers, on both engines and the model; then the delay's record.
-fn gives(state: &[u8], calls: &[(Call, Answer)], delay: Record) {
+/// The calls with their answers, on both engines and the model; then the third record.
+fn gives(state: &[u8], calls: &[(Call, Answer)], third: Record) {
     let mut model = Found::read(state).expect("a state");
     for (call, answer) in calls {
         assert_eq!(model.call(*call), *answer, "the model: {call:?}");
     }
-    assert_eq!(model.records[2], delay, "the model");
+    assert_eq!(model.records[2], third, "the model");
     for engine in engines() {
         let mut lent = Lent::of(state);
         for (call, answer) in calls {
             assert_eq!(engine.call(&mut lent, *call), *answer, "{}: {call:?}", engine.name);
         }
-        assert_eq!(Found::read(&lent).expect("a state").records[2], delay, "{}", engine.name);
+        assert!(lent[..] == model.bytes()[..], "{}: another state than the model's", engine.name);
+        assert_eq!(Found::read(&lent).expect("a state").records[2], third, "{}", engine.name);
         assert!(lent.untouched());
     }
 }
@@ -61,7 +64,7 @@ fn gives(state: &[u8], calls: &[(Call, Answer)], delay: Record) {
 #[test]
 fn a_since_not_past_the_own_events_has_no_meaning() {
     // a is known to 5, b to 20; the delay, known to 10, has an event of its own at 9
-    let state = |since| bytes(record(5, &[]), record(20, &[]), Record { since, ..record(10, &[(9, 0)]) });
+    let state = |since| bytes(DELAY, record(5, &[]), record(20, &[]), Record { since, ..record(10, &[(9, 0)]) });
     for since in [0, 1, 8, 9, 11] {
         refused(&state(since));
     }
@@ -76,7 +79,7 @@ fn a_since_not_past_the_own_events_has_no_meaning() {
 #[test]
 fn an_own_event_sets_the_delay_again() {
     // a is known to 10 and has 5 at 9, where the delay has an event: due at 14
-    let state = |since| bytes(record(10, &[(9, 5)]), record(20, &[]), Record { since, ..record(10, &[(9, 0)]) });
+    let state = |since| bytes(DELAY, record(10, &[(9, 5)]), record(20, &[]), Record { since, ..record(10, &[(9, 0)]) });
     for since in [0, 9] {
         refused(&state(since));
     }
@@ -91,7 +94,7 @@ fn an_own_event_sets_the_delay_again() {
 /// The delay is known to 10, its latest set point is 0 with a's 20 there, so it is due at 20; just below its bound a has 4.
 /// b is known to 5 only.
 fn due_at_20() -> Vec<u8> {
-    bytes(record(30, &[]), record(5, &[]), Record { since: 1, value: Some(20), prior: Some(4), ..record(10, &[]) })
+    bytes(DELAY, record(30, &[]), record(5, &[]), Record { since: 1, value: Some(20), prior: Some(4), ..record(10, &[]) })
 }
 
 #[test]
@@ -127,7 +130,7 @@ fn just_below_the_bound_a_is_known() {
 #[test]
 fn a_reading_of_b_before_the_latest_set_point_changes_nothing() {
     // the set point 8 with a's 12: due at 20, whatever b had at 7
-    let state = bytes(record(30, &[]), record(5, &[]), Record { since: 9, value: Some(12), ..record(10, &[]) });
+    let state = bytes(DELAY, record(30, &[]), record(5, &[]), Record { since: 9, value: Some(12), ..record(10, &[]) });
     let calls = [(Call::Reading(1, 7, 1), number(0))];
     gives(&state, &calls, Record { since: 9, value: Some(12), ..record(10, &[]) });
     let calls = [
@@ -139,7 +142,110 @@ fn a_reading_of_b_before_the_latest_set_point_changes_nothing() {
 #[test]
 fn what_is_kept_stands_for_the_earlier_set_points() {
     // b and a have events at 3, which would lead to 11; the latest set point below the bound 6 is the delay's own at 5
-    let state = bytes(record(20, &[(3, 8)]), record(20, &[(3, 1)]), Record { since: 6, ..record(6, &[(5, 0)]) });
+    let state = bytes(DELAY, record(20, &[(3, 8)]), record(20, &[(3, 1)]), Record { since: 6, ..record(6, &[(5, 0)]) });
     let calls = [(Call::Move(2), number(0)), (Call::Move(2), number(12)), (Call::Collect(2), event(5)), (Call::Collect(2), number(14))];
     gives(&state, &calls, Record { since: 6, mark: 6, ..record(21, &[]) });
+}
+
+// ---- signal forms
+
+/// Both arguments are known to 5, the form to 10, with these latest values of a and b.
+fn ahead_by_5(first: Option<i64>, second: Option<i64>) -> Vec<u8> {
+    bytes(SUM, record(5, &[]), record(5, &[]), Record { latest: [first, second], ..record(10, &[]) })
+}
+
+fn value(stamp: u32, value: i64) -> Answer {
+    Answer { stamp, value, ..Answer::default() }
+}
+
+#[test]
+fn a_form_is_not_told_of_what_comes_in_below_its_bound() {
+    // nobody waits for a's 4 at 7, and the form goes on with the 3 that it has
+    let calls = [(Call::Move(2), number(12)), (Call::Reading(0, 7, 4), number(0)), (Call::Move(2), number(12)), (Call::Run(9), number(0))];
+    gives(&ahead_by_5(Some(3), Some(2)), &calls, Record { latest: [Some(3), Some(2)], ..record(10, &[]) });
+    // b's 1 at 12, with a's 3: 4, not 5
+    let calls = [
+        (Call::Reading(0, 7, 4), number(0)), (Call::Reading(1, 12, 1), number(0)), (Call::Progress(0, 13), number(0)), (Call::Move(2), number(0)),
+        (Call::Collect(2), value(12, 4)), (Call::Collect(2), number(14)),
+    ];
+    gives(&ahead_by_5(Some(3), Some(2)), &calls, Record { latest: [Some(3), Some(1)], mark: 13, ..record(13, &[]) });
+    // the same of b: a's 1 at 12, with b's 2, not with the 4 at 9
+    let calls = [
+        (Call::Reading(1, 9, 4), number(0)), (Call::Reading(0, 12, 1), number(0)), (Call::Progress(1, 13), number(0)), (Call::Move(2), number(0)),
+        (Call::Collect(2), value(12, 3)), (Call::Collect(2), number(14)),
+    ];
+    gives(&ahead_by_5(Some(3), Some(2)), &calls, Record { latest: [Some(1), Some(2)], mark: 13, ..record(13, &[]) });
+    // nor does it then have one: no event at 12
+    let calls = [
+        (Call::Reading(0, 7, 4), number(0)), (Call::Reading(1, 12, 1), number(0)), (Call::Progress(0, 13), number(0)), (Call::Move(2), number(0)),
+        (Call::Collect(2), number(14)),
+    ];
+    gives(&ahead_by_5(None, Some(2)), &calls, Record { latest: [None, Some(1)], ..record(13, &[]) });
+}
+
+#[test]
+fn a_held_event_counts_before_the_kept_value() {
+    // a holds its 4 at 7, below the form's bound 10; b's 1 at 12 comes in: 4 + 1
+    let form = Record { latest: [Some(3), Some(2)], ..record(10, &[]) };
+    let state = bytes(SUM, record(8, &[(7, 4)]), record(5, &[]), form.clone());
+    let calls = [
+        (Call::Reading(1, 12, 1), number(0)), (Call::Progress(0, 13), number(0)), (Call::Move(2), number(0)), (Call::Collect(2), value(12, 5)),
+    ];
+    gives(&state, &calls, Record { latest: [Some(4), Some(1)], mark: 13, ..record(13, &[]) });
+    // without an event of either from its bound on it only takes the 4 in
+    let state = bytes(SUM, record(8, &[(7, 4)]), record(20, &[]), form);
+    let calls = [(Call::Progress(0, 15), number(0)), (Call::Move(2), number(0)), (Call::Collect(2), number(14)), (Call::Move(2), number(12))];
+    gives(&state, &calls, Record { latest: [Some(4), Some(2)], ..record(15, &[]) });
+}
+
+#[test]
+fn a_full_form_takes_in_what_lies_below_the_waiting_event() {
+    // 16 events held; the next one, at 18, waits; a's 6 at 17 lies below the new bound 18, b's 1 at 18 does not
+    let held: Vec<(u32, i64)> = (0..16).map(|t| (t, 9)).collect();
+    let form = Record { latest: [Some(3), None], ..record(16, &held) };
+    let state = bytes(SUM, record(20, &[(17, 6)]), record(20, &[(18, 1)]), form);
+    let calls = [(Call::Move(2), number(0)), (Call::Move(2), number(12))];
+    gives(&state, &calls, Record { latest: [Some(6), None], ..record(18, &held) });
+    // one collected: 6 + 1 at 18
+    let calls = [(Call::Move(2), number(0)), (Call::Collect(2), value(0, 9)), (Call::Move(2), number(0))];
+    let held: Vec<(u32, i64)> = (1..16).map(|t| (t, 9)).chain([(18, 7)]).collect();
+    gives(&state, &calls, Record { latest: [Some(6), Some(1)], mark: 1, ..record(19, &held) });
+}
+
+#[test]
+fn kept_values_without_a_meaning() {
+    // a 0 that is there is not the same as none
+    for kept in [[Some(3), None], [None, Some(3)], [Some(0), Some(0)], [None, None]] {
+        gives(&ahead_by_5(kept[0], kept[1]), &[(Call::Run(9), number(0))], Record { latest: kept, ..record(10, &[]) });
+    }
+    let form = 2 * 256;
+    let changed = |changes: &[(usize, u8)]| {
+        let mut state = ahead_by_5(Some(3), None);
+        for (at, byte) in changes {
+            state[form + at] = *byte;
+        }
+        state
+    };
+    // with bound 0 nothing is kept, be it a 0
+    for kept in [[Some(3), None], [None, Some(3)], [Some(0), None], [None, Some(0)], [Some(0), Some(0)]] {
+        refused(&bytes(SUM, record(5, &[]), record(5, &[]), Record { latest: kept, ..record(0, &[]) }));
+    }
+    // flags of 2, of 255
+    for (flag, byte) in [(5, 2), (6, 2), (5, 255), (6, 255)] {
+        refused(&changed(&[(flag, byte)]));
+    }
+    // a word with flag 0, by its first byte or its last
+    for at in [40, 47] {
+        refused(&changed(&[(at, 1)]));
+    }
+    refused(&changed(&[(5, 0)]));
+    refused(&changed(&[(5, 0), (32, 0), (39, 1)]));
+    // bytes 48 to 55
+    for at in 48..56 {
+        refused(&changed(&[(at, 1)]));
+    }
+    // all of that on the record of an add: it keeps nothing
+    for changes in [&[(0, 8)][..], &[(0, 8), (5, 0)], &[(0, 8), (32, 0)]] {
+        refused(&changed(changes));
+    }
 }

@@ -3,44 +3,11 @@
 
 use host::engine::Call;
 use host::evaluator::{evaluate, HORIZON};
-use host::history::Session;
+use host::history::{any_call, Session};
 use host::layout;
 use host::model::Model;
 use host::plan::{short, text_of, Op};
 use host::random::{plan, rounds, seed, Random};
-
-/// A call of any kind, now and then one that is refused.
-fn any_call(random: &mut Random, session: &Session) -> Call {
-    let n = session.plan.len() as u64;
-    let inputs = session.inputs();
-    let stream = if random.chance(4) { random.pick(&[n as u32, n as u32 + 1, 255, 256, u32::MAX]) } else { random.below(n) as u32 };
-    let input = if inputs.is_empty() || random.chance(5) { stream } else { random.pick(&inputs) as u32 };
-    let known = session.known.get(input as usize).copied().unwrap_or(0);
-    match random.below(100) {
-        0..=34 => {
-            let stamp = match random.below(50) {
-                0 => random.next() as u32,
-                1 => random.pick(&[0, u32::MAX, u32::MAX - 1, 1 << 31]),
-                2..=5 => known.saturating_sub(1 + random.below(4)) as u32,
-                6..=40 => known.saturating_add(random.below(3)).min(u32::MAX as u64) as u32,
-                _ => known.saturating_add(random.below(12)).min(u32::MAX as u64) as u32,
-            };
-            Call::Reading(input, stamp, random.value())
-        }
-        35..=44 => {
-            let bound = match random.below(40) {
-                0 => random.pick(&[HORIZON + 1, u64::MAX, 1 << 33]),
-                1 => random.next() >> random.below(64),
-                2..=5 => known.saturating_sub(random.below(3)),
-                _ => known + random.below(10),
-            };
-            Call::Progress(input, bound)
-        }
-        45..=64 => Call::Move(stream),
-        65..=79 => Call::Run(random.below(12) as u32),
-        _ => Call::Collect(stream),
-    }
-}
 
 /// Arguments lead from one stream to the other.
 fn reaches(plan: &[host::plan::Stream], from: usize, to: usize) -> bool {
@@ -56,10 +23,10 @@ fn reaches(plan: &[host::plan::Stream], from: usize, to: usize) -> bool {
     false
 }
 
-/// Every call's number, results, bounds, held events and marks are those of the model on whole histories.
+/// Every call's number, results, bounds, held events, marks and kept latest values are those of the model on whole histories.
 #[test]
 fn numbers_and_states_are_those_of_the_model_on_whole_histories() {
-    let (mut calls, mut done, mut full) = (0u64, 0u64, 0u64);
+    let (mut calls, mut done, mut full, mut kept) = (0u64, 0u64, 0u64, 0u64);
     for round in 0..rounds(5000) {
         let mut random = Random::of(2, round);
         let plan = plan(&mut random, 12);
@@ -75,21 +42,25 @@ fn numbers_and_states_are_those_of_the_model_on_whole_histories() {
                 assert_eq!(layout::held(state, s), model.held(s), "held of {s}\n{}", session.story());
                 assert_eq!(layout::mark(state, s), model.mark[s], "mark of {s}\n{}", session.story());
                 full += (layout::held(state, s).len() == 16 && model.full(s)) as u64;
+                if plan[s].op.on_signals().is_some() {
+                    assert_eq!(layout::latest(state, s), model.latest(s), "latest values of {s}\n{}", session.story());
+                    kept += model.latest(s).iter().all(Option::is_some) as u64;
+                }
             }
             calls += 1;
             done += (answer.number == 0) as u64;
         }
     }
-    println!("seed {}: {calls} calls, {done} done, full streams met {full} times", seed());
-    assert!(done * 3 > calls && full > 0, "too many calls refused: {done} of {calls}");
+    println!("seed {}: {calls} calls, {done} done, full streams met {full} times, signal forms that keep both values {kept}", seed());
+    assert!(done * 3 > calls && full > 0 && kept > 0, "too many calls refused: {done} of {calls}");
 }
 
 /// Handed out is a beginning at every moment looked at, and complete at rest; from copies put back too.
 #[test]
 fn handed_out_is_a_beginning_and_complete_at_rest() {
     let (mut checked, mut rested, mut events, mut copies) = (0u64, 0u64, 0u64, 0u64);
-    // how often the operators that look back had an event, and of those streams how many read themselves through others
-    let (mut firings, mut lasts, mut recursive) = (0u64, 0u64, 0u64);
+    // how often the operators that look back had an event, and of lasts and delays how many read themselves through others
+    let (mut firings, mut lasts, mut signals, mut recursive) = (0u64, 0u64, 0u64, 0u64);
     let all = rounds(6000);
     for round in 0..all {
         let mut random = Random::of(3, round);
@@ -124,16 +95,19 @@ fn handed_out_is_a_beginning_and_complete_at_rest() {
                 match stream.op {
                     Op::Delay => firings += streams[s].len() as u64,
                     Op::Last => lasts += streams[s].len() as u64,
-                    _ => continue,
+                    op => {
+                        signals += op.on_signals().map_or(0, |_| streams[s].len() as u64);
+                        continue;
+                    }
                 }
                 recursive += reaches(&plan, stream.a, s) as u64;
             }
         }
     }
     println!("seed {}: {all} lists, {checked} checked, {rested} at rest, {events} events handed out, {copies} copies put back", seed());
-    println!("seed {}: {firings} firings, {lasts} events of last, {recursive} of these streams in a cycle", seed());
+    println!("seed {}: {firings} firings, {lasts} events of last, {recursive} of these streams in a cycle, {signals} events of signal forms", seed());
     assert!(checked * 10 > all * 9 && rested * 2 > all && events > 5 * all && copies > 0);
-    assert!(firings > all / 2 && lasts > all && recursive > all / 10);
+    assert!(firings > all / 2 && lasts > all && recursive > all / 10 && signals > all / 2);
 }
 
 /// The same accepted readings in another order of inputs, other moves and other collections: the same events handed out,
@@ -224,10 +198,11 @@ fn a_full_stream_keeps_the_next_event_waiting() {
             }
         }
         let end = length + 1;
-        parts.push(match random.below(4) {
+        parts.push(match random.below(5) {
             0 => format!("add {end} 1 out"),
             1 => format!("merge {end} 1 out"),
             2 => format!("last 1 {end} out"),
+            3 => format!("ssub {end} 1 out"),
             _ => format!("keep 1 {end} out"),
         });
         if random.chance(50) {

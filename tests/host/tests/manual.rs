@@ -84,7 +84,7 @@ fn each_operator_is_shown_rightly() {
         check(&format!("in; in; {form} out"), &[a, b], &events(wanted));
         shown.insert(name.to_string());
     }
-    assert_eq!(shown.len(), 17, "operators with an example: {shown:?}");
+    assert_eq!(shown.len(), OPERATORS.len() - 2, "operators with an example: {shown:?}");
 }
 
 #[test]
@@ -97,6 +97,24 @@ fn each_row_of_the_timers_table() {
         check("in; in; delay 0 1 out", &[events(cells[1]), events(cells[2])], &events(cells[3]));
         rows += 1;
     }
+    assert_eq!(rows, 5);
+}
+
+#[test]
+fn each_row_of_the_signals_table() {
+    let page = page();
+    let table = page.split("| stamp | w | m | `lt w m` | `slt w m` | why |").nth(1).expect("the signals' table");
+    let (mut columns, mut rows) = ([const { Events::new() }; 4], 0);
+    for line in table.lines().skip(2).take_while(|line| line.starts_with('|')) {
+        let cells: Vec<&str> = line.split('|').map(str::trim).collect();
+        for (column, cell) in columns.iter_mut().zip(&cells[2..6]).filter(|(_, cell)| !cell.is_empty()) {
+            column.push((cells[1].parse().unwrap(), cell.parse().unwrap()));
+        }
+        rows += 1;
+    }
+    let [w, m, both, signal] = columns;
+    check("in; in; lt 0 1 out", &[w.clone(), m.clone()], &both);
+    check("in; in; slt 0 1 out", &[w, m], &signal);
     assert_eq!(rows, 5);
 }
 
@@ -117,6 +135,7 @@ fn tessla_s_usual_operators() {
     check("in; in; last 0 1; merge 0 2; keep 1 3 out", &[events("1@3 0@5"), x()], &events("7@4"));
     // signal lift of sub
     check("in; in; last 0 1; merge 0 2; last 1 0; merge 1 4; sub 3 5 out", &[x(), events("1@3 2@9")], &events("4@3 6@4 -1@9"));
+    check("in; in; ssub 0 1 out", &[x(), events("1@3 2@9")], &events("4@3 6@4 -1@9"));
     // and, or, not of 0 and 1
     let (p, q) = (|| events("0@1 0@2 1@3 1@4"), || events("0@1 1@2 0@3 1@4"));
     check("in; in; mul 0 1 out", &[p(), q()], &events("0@1 0@2 0@3 1@4"));

@@ -3,7 +3,7 @@
 use host::buffer::Lent;
 use host::engine::{engines, Answer, Call, STATE_LENGTH};
 use host::history::Session;
-use host::plan::{parse, short, text_of};
+use host::plan::{parse, short, text_of, SIGNALS};
 
 fn load(text: &[u8]) -> u32 {
     let number = match parse(text) {
@@ -71,7 +71,7 @@ fn number_2_form() {
     }
     assert_eq!(refused("plan=1\nstreams=33"), 2);
     assert_eq!(refused("plan=1\nstreams=0"), 2);
-    for name in ["", "IN", "In", "in ", "lasted", "delays", "abcdef", "l4st", "in-"] {
+    for name in ["", "IN", "In", "in ", "lasted", "delays", "abcdef", "l4st", "in-", "smerge", "sdelay", "Sadd", "sadd "] {
         assert_eq!(refused(&with(&format!("op={name}"))), 2, "op={name}");
     }
     for field in ["a=", "a=00", "a=01", "a=-1", "a=1000", "b=", "b=00", "b=0000", "out=2", "out=", "out=00", "out=-1", "out=10"] {
@@ -110,7 +110,7 @@ fn number_3_streams() {
 
 #[test]
 fn number_4_operators() {
-    for name in ["x", "ins", "inn", "units", "abcde", "i", "merg", "dela"] {
+    for name in ["x", "ins", "inn", "units", "abcde", "i", "merg", "dela", "sneg", "splus", "skeep", "slast", "sadds", "sad", "se", "seqs", "s"] {
         assert_eq!(refused(&with(&format!("op={name}"))), 4, "op={name}");
     }
     // without its ending byte the form comes first; the first faulty line decides
@@ -131,6 +131,12 @@ fn number_5_fields() {
         assert_eq!(refused(&with(field)), 5, "{field}");
     }
     assert_eq!(refused(&with("op=neg")), 5, "neg has no k");
+    // a signal form uses a and b, and no k
+    for (form, _) in SIGNALS {
+        assert_eq!(refused(&with(&format!("op={}", form.name()))), 5, "{} has no k", form.name());
+        let two = |a: u32, b: u32| refused(&plan_of(&[IN, &format!("op={}\na={a}\nb={b}\nk=0\nout=1\n", form.name())]));
+        assert_eq!((two(0, 0), two(2, 0), two(0, 2)), (0, 5, 5), "{}", form.name());
+    }
     // 5 comes before 6, wherever it stands
     assert_eq!(refused(&plan_of(&["op=neg\na=0\nb=0\nk=0\nout=0\n", "op=in\na=0\nb=0\nk=0\nout=1\n"])), 5);
 }
@@ -142,6 +148,14 @@ fn number_6_cycles() {
     assert_eq!(number("in; merge 1 0"), 6);
     assert_eq!(number("in; merge 0 1"), 6);
     assert_eq!(number("neg 0"), 6);
+    // both arguments of a signal form are undelayed
+    for (form, _) in SIGNALS {
+        let name = form.name();
+        for plan in [format!("{name} 0 0"), format!("in; {name} 1 0"), format!("in; {name} 0 1"), format!("in; last 0 2; {name} 0 1")] {
+            assert_eq!(number(&plan), 6, "{plan}");
+        }
+        assert_eq!(number(&format!("in; last 2 0; {name} 0 1")), 0);
+    }
     // longer ones, and through the second argument of a last or a delay
     assert_eq!(number("neg 1; neg 0"), 6);
     assert_eq!(number("in; add 0 2; neg 3; plus 1 k1"), 6);
@@ -281,18 +295,22 @@ fn number_15_lengths() {
 
 #[test]
 fn number_15_contents() {
-    let text = text_of(&short("in; neg 0 out; last 0 1; delay 0 2"));
+    let text = text_of(&short("in; neg 0 out; last 0 1; delay 0 2; sadd 0 1"));
     let mut good = vec![0; STATE_LENGTH];
     assert_eq!(engines()[1].load(&mut good, text.as_bytes()), 0);
     // (byte, what it is set to): each one alone makes a state that load and the calls cannot leave
     let bad: &[(usize, u8, &str)] = &[
-        (0, 0, "no stream here, but streams after it"), (0, 20, "no operator"), (1, 1, "in has no a"), (2, 1, "in has no b"), (3, 1, "in is no output"),
-        (256 + 1, 4, "a not below the number of streams"), (256 + 1, 1, "a cycle"), (256 + 2, 1, "neg has no b"), (256 + 3, 2, "out is 0 or 1"),
+        (0, 0, "no stream here, but streams after it"), (0, 28, "no operator"), (1, 1, "in has no a"), (2, 1, "in has no b"), (3, 1, "in is no output"),
+        (256 + 1, 5, "a not below the number of streams"), (256 + 1, 1, "a cycle"), (256 + 2, 1, "neg has no b"), (256 + 3, 2, "out is 0 or 1"),
         (256 + 4, 17, "more than 16 held"), (256 + 4, 1, "a held stamp not below the bound 0"), (256 + 5, 1, "neg keeps nothing"), (256 + 7, 1, "unused"),
         (256 + 8, 1, "neg has no k"), (256 + 16 + 5, 1, "a bound above the horizon"), (256 + 24, 1, "a mark above the bound"), (24, 1, "a mark of no output"),
         (256 + 56, 1, "unused"), (256 + 64, 1, "an unused slot"), (256 + 255, 1, "an unused slot"), (512 + 5, 1, "kept with bound 0"), (512 + 5, 2, "a flag above 1"),
         (512 + 32, 1, "a value without its flag"), (768 + 32, 1, "since above the bound"), (768 + 40, 1, "a value without its flag"), (768 + 6, 1, "a prior with bound 0"),
-        (1024, 21, "no operator"), (1025, 1, "behind the streams"), (12_287, 1, "behind the records"), (8192, 1, "behind the records"),
+        (1024 + 1, 5, "a not below the number of streams"), (1024 + 2, 5, "b not below the number of streams"), (1024 + 1, 4, "a cycle"), (1024 + 2, 4, "a cycle"),
+        (1024 + 8, 1, "a signal form has no k"), (1024 + 5, 1, "kept with bound 0"), (1024 + 6, 1, "kept with bound 0"), (1024 + 5, 2, "a flag above 1"),
+        (1024 + 6, 2, "a flag above 1"), (1024 + 32, 1, "a value without its flag"), (1024 + 47, 1, "a value without its flag"), (1024 + 48, 1, "unused"),
+        (1024 + 55, 1, "unused"), (1024, 28, "no operator"), (1024, 255, "no operator"), (1024, 0, "no stream here, but bytes after it"),
+        (1280, 28, "no operator"), (1281, 1, "behind the streams"), (12_287, 1, "behind the records"), (8192, 1, "behind the records"),
     ];
     for engine in engines() {
         assert_eq!(engine.call(&mut good.clone(), Call::Run(0)).number, 0);

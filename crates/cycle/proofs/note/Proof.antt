@@ -4,15 +4,11 @@ use denote.Ref.{now}
 use lib.Seq.{sets}
 use Rattle.meaning.specs.Arguments.{prompts}
 use Rattle.operators.specs.Operators.{argumentsOf}
-use Rattle.operators.proofs.Arms.{bare-prompts, late-prompts}
+use Rattle.operators.proofs.Arms.{bare-prompts, late-prompts, both-prompts}
 use Rattle.cycle.specs.Graph.{entryBy, entryOf}
 use borrow.Author.Needs.{needs}
 use Rattle.cycle.proofs.note.Statement.{statement}
 use Rattle.cycle.proofs.note.Tie as tie
-use Rattle.cycle.proofs.note.Reads as reads
-use Rattle.cycle.proofs.note.Lts as lts
-use Rattle.cycle.proofs.store.Reads as store-reads
-use Rattle.operators.proofs.group_of.Reads as group-of-reads
 
 mul-at : tie.Need-mul-at
 mul-at c = search needs
@@ -28,9 +24,6 @@ enum-told c = search needs
 
 store-requires-2 : tie.Need-store-requires-2
 store-requires-2 c κs = search needs
-
-enum-told-2 : tie.Need-enum-told-2
-enum-told-2 c = search needs
 
 store-requires-3 : tie.Need-store-requires-3
 store-requires-3 c κs = search needs
@@ -57,7 +50,7 @@ same-length-3 c = search needs
 
 returns-3 : tie.Need-returns-3
 unfolding entryOf
-returns-3 c = c .before .before .store3 .ensures ∙ ap (λ l. sets (now (c .before .before .before .before .before .before .before .before .args .graph)) (3 * c .before .before .before .before .before .before .before .before .args .i) (entryBy l)) (ap (λ x. prompts (argumentsOf x (c .before .before .before .before .before .before .before .before .args .a) (c .before .before .before .before .before .before .before .before .args .b))) (sym (c .before .before .before .before .enum-told2 .given .1) ∙ c .before .before .before .before .before .before .group-of .ensures))
+returns-3 c = c .before .before .store3 .ensures ∙ ap (λ l. sets (now (c .before .before .before .before .before .before .before .args .graph)) (3 * c .before .before .before .before .before .before .before .args .i) (entryBy l)) (sym (both-prompts (c .before .before .before .before .before .group-of .result) (c .before .before .before .before .before .before .before .args .a) (c .before .before .before .before .before .before .before .args .b) (c .before .before .before .before .match .keys3)) ∙ ap (λ x. prompts (argumentsOf x (c .before .before .before .before .before .before .before .args .a) (c .before .before .before .before .before .before .before .args .b))) (c .before .before .before .before .before .group-of .ensures))
 
 same-length-4 : tie.Need-same-length-4
 same-length-4 c = search needs
@@ -75,7 +68,6 @@ note-spec =
     store-requires
     enum-told
     store-requires-2
-    enum-told-2
     store-requires-3
     store-requires-4
     same-length

@@ -1,4 +1,4 @@
-use Prim.Native.Nat.{ℕ}
+-- `decide::first` meets its contract.
 use mathlib.Core.Path.{_≡_, ap, ap₂, _∙_}
 use mathlib.Core.Bool.{true}
 use mathlib.Core.List.{[], _∷_, map}
@@ -8,8 +8,7 @@ use Rattle.machine.specs.Reach as machine
 use Rattle.streams.specs.Look.{equation, ownOf, argOf}
 use Rattle.streams.proofs.Laws.{by}
 use Rattle.decide.specs.Search.{pick, stamps, candidateOf, dueAt}
-use Rattle.decide.specs.Search as spec
-use Rattle.decide.specs.Near.{nearerIn, searchIn}
+use Rattle.decide.specs.Near.{nearerIn}
 use Rattle.decide.proofs.Searches as law
 use borrow.Author.Needs.{needs}
 use Rattle.decide.proofs.first.Statement.{statement}
@@ -36,29 +35,32 @@ scan-requires c κs = search needs
 enum-told-5 : tie.Need-enum-told-5
 enum-told-5 c = search needs
 
-scan-requires-2 : tie.Need-scan-requires-2
-scan-requires-2 c κs = search needs
-
-scan-requires-3 : tie.Need-scan-requires-3
-scan-requires-3 c κs = search needs
+scan-both-requires : tie.Need-scan-both-requires
+scan-both-requires c κs = search needs
 
 enum-told-6 : tie.Need-enum-told-6
 enum-told-6 c = search needs
 
-scan-requires-4 : tie.Need-scan-requires-4
-scan-requires-4 c κs = search needs
+scan-requires-2 : tie.Need-scan-requires-2
+scan-requires-2 c κs = search needs
 
 enum-told-7 : tie.Need-enum-told-7
 enum-told-7 c = search needs
 
-scan-requires-5 : tie.Need-scan-requires-5
-scan-requires-5 c κs = search needs
+scan-requires-3 : tie.Need-scan-requires-3
+scan-requires-3 c κs = search needs
 
 due-at-requires : tie.Need-due-at-requires
 due-at-requires c κs = search needs
 
 closer-requires-2 : tie.Need-closer-requires-2
 closer-requires-2 c κs = search needs
+
+enum-told-8 : tie.Need-enum-told-8
+enum-told-8 c = search needs
+
+scan-both-requires-2 : tie.Need-scan-both-requires-2
+scan-both-requires-2 c κs = search needs
 
 returns : tie.Need-returns
 unfolding pick
@@ -76,14 +78,17 @@ returns-4 : tie.Need-returns-4
 returns-4 c = let x = c .before .before .before .before .before .before .args in let l = x .l in let o = ownOf (l .stream) in let a = argOf (l .abound) (now (x .a)) in let b = argOf (l .bbound) (now (x .b)) in let s = c .before .before .before .before .before .before .pre .0 .since in let q = c .before .before .before .before .before .before .pre .4 in let r = x .r in c .scan .ensures .0 ∙ by (λ (e : Eqn). law.Finds o a b e r (map (candidateOf true e o a) (stamps (a .held)))) (ap equation (c .before .enum-told4 .given .1)) (law.first-one o a b s _ _ r) q
 
 returns-5 : tie.Need-returns-5
-returns-5 c = let x = c .before .before .before .before .before .before .before .args in let l = x .l in let o = ownOf (l .stream) in let a = argOf (l .abound) (now (x .a)) in let b = argOf (l .bbound) (now (x .b)) in let s = c .before .before .before .before .before .before .before .pre .0 .since in let q = c .before .before .before .before .before .before .before .pre .4 in let r = x .r in c .scan3 .ensures .0 ∙ ap (λ (h : ℕ). searchIn true l (now (x .a)) (now (x .b)) h (a .held)) (c .before .scan2 .ensures .0) ∙ by (λ (e : Eqn). r ≡ machine.reach e o a b → spec.search true e o a b (spec.search true e o a b r (b .held)) (a .held) ≡ machine.first e o a b) (ap equation (c .before .before .enum-told5 .given .1)) (law.first-two o a b s _ _ _ r) q
+returns-5 c = let x = c .before .before .before .before .before .before .args in let l = x .l in let o = ownOf (l .stream) in let a = argOf (l .abound) (now (x .a)) in let b = argOf (l .bbound) (now (x .b)) in let s = c .before .before .before .before .before .before .pre .0 .since in let q = c .before .before .before .before .before .before .pre .4 in let r = x .r in c .scan-both .ensures ∙ by (λ (e : Eqn). law.FindsBoth o a b s e r) (ap equation (c .before .enum-told5 .given .1)) (law.first-two o a b s _ _ _ r) q
 
 returns-6 : tie.Need-returns-6
-returns-6 c = let x = c .before .before .before .before .before .before .args in let l = x .l in let o = ownOf (l .stream) in let a = argOf (l .abound) (now (x .a)) in let b = argOf (l .bbound) (now (x .b)) in let s = c .before .before .before .before .before .before .pre .0 .since in let q = c .before .before .before .before .before .before .pre .4 in let r = x .r in c .scan4 .ensures .0 ∙ by (λ (e : Eqn). law.Finds o a b e r (map (candidateOf true e o a) (stamps (b .held)))) (ap equation (c .before .enum-told6 .given .1)) (law.first-last o a b s _ _ r) q
+returns-6 c = let x = c .before .before .before .before .before .before .args in let l = x .l in let o = ownOf (l .stream) in let a = argOf (l .abound) (now (x .a)) in let b = argOf (l .bbound) (now (x .b)) in let s = c .before .before .before .before .before .before .pre .0 .since in let q = c .before .before .before .before .before .before .pre .4 in let r = x .r in c .scan2 .ensures .0 ∙ by (λ (e : Eqn). law.Finds o a b e r (map (candidateOf true e o a) (stamps (b .held)))) (ap equation (c .before .enum-told6 .given .1)) (law.first-last o a b s _ _ r) q
 
 returns-7 : tie.Need-returns-7
 unfolding pick
-returns-7 c = let x = c .before .before .before .before .before .before .before .before .before .args in let l = x .l in let o = ownOf (l .stream) in let a = argOf (l .abound) (now (x .a)) in let b = argOf (l .bbound) (now (x .b)) in let s = c .before .before .before .before .before .before .before .before .before .pre .0 .since in let q = c .before .before .before .before .before .before .before .before .before .pre .4 in let r = x .r in c .closer2 .ensures ∙ ap₂ (nearerIn true l (now (x .a)) (now (x .b))) (c .before .due-at .ensures) (c .before .before .before .scan5 .ensures .0) ∙ by (λ (e : Eqn). law.Finds o a b e r (dueAt o a (o .kept .since) ∷ map (candidateOf true e o a) (stamps (b .held)))) (ap equation (c .before .before .before .before .enum-told7 .given .1)) (law.first-delay o a b s _ _ r) q
+returns-7 c = let x = c .before .before .before .before .before .before .before .before .before .args in let l = x .l in let o = ownOf (l .stream) in let a = argOf (l .abound) (now (x .a)) in let b = argOf (l .bbound) (now (x .b)) in let s = c .before .before .before .before .before .before .before .before .before .pre .0 .since in let q = c .before .before .before .before .before .before .before .before .before .pre .4 in let r = x .r in c .closer2 .ensures ∙ ap₂ (nearerIn true l (now (x .a)) (now (x .b))) (c .before .due-at .ensures) (c .before .before .before .scan3 .ensures .0) ∙ by (λ (e : Eqn). law.Finds o a b e r (dueAt o a (o .kept .since) ∷ map (candidateOf true e o a) (stamps (b .held)))) (ap equation (c .before .before .before .before .enum-told7 .given .1)) (law.first-delay o a b s _ _ r) q
+
+returns-8 : tie.Need-returns-8
+returns-8 c = let x = c .before .before .before .before .before .before .args in let l = x .l in let o = ownOf (l .stream) in let a = argOf (l .abound) (now (x .a)) in let b = argOf (l .bbound) (now (x .b)) in let s = c .before .before .before .before .before .before .pre .0 .since in let q = c .before .before .before .before .before .before .pre .4 in let r = x .r in c .scan-both2 .ensures ∙ by (λ (e : Eqn). law.FindsBoth o a b s e r) (ap equation (c .before .enum-told8 .given .1)) (law.first-signal o a b s _ _ _ r) q
 
 pub first-spec : {M : Type 1} → statement M
 first-spec =
@@ -96,18 +101,20 @@ first-spec =
     enum-told-4
     scan-requires
     enum-told-5
-    scan-requires-2
-    scan-requires-3
+    scan-both-requires
     enum-told-6
-    scan-requires-4
+    scan-requires-2
     enum-told-7
-    scan-requires-5
+    scan-requires-3
     due-at-requires
     closer-requires-2
+    enum-told-8
+    scan-both-requires-2
     returns
     returns-2
     returns-3
     returns-4
     returns-5
     returns-6
-    returns-7)
+    returns-7
+    returns-8)

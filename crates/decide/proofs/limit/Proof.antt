@@ -1,3 +1,4 @@
+-- `decide::limit` meets its contract.
 use Prim.Native.Nat.{ℕ, suc, _+_, min}
 use mathlib.Core.Path.{_≡_, sym, ap, _∙_}
 use mathlib.Core.List.{List}
@@ -40,6 +41,12 @@ add-smaller c = search needs
 smaller-requires-2 : tie.Need-smaller-requires-2
 smaller-requires-2 c κs = search needs
 
+enum-told-8 : tie.Need-enum-told-8
+enum-told-8 c = search needs
+
+smaller-requires-3 : tie.Need-smaller-requires-3
+smaller-requires-3 c κs = search needs
+
 returns : tie.Need-returns
 returns c = let x = c .before .before .before .args in let l = x .l in let o = ownOf (l .stream) in ((λ (u v : List Event). ap (λ (p : Op). machine.limit (equation p) o (argCell (l .abound) u) (argCell (l .bbound) v)) (sym (c .enum-told .given .1))), omega arith)
 
@@ -61,6 +68,9 @@ returns-6 c = let x = c .before .before .before .args in let l = x .l in let o =
 returns-7 : tie.Need-returns-7
 returns-7 c = let x = c .before .before .before .before .before .args in let l = x .l in let o = ownOf (l .stream) in let w : l .bbound + 1 ≡ suc (l .bbound) = omega arith in ((λ (u v : List Event). c .smaller2 .ensures ∙ ap (λ (m : ℕ). min m horizon) w ∙ ap (λ (p : Op). machine.limit (equation p) o (argCell (l .abound) u) (argCell (l .bbound) v)) (sym (c .before .before .enum-told7 .given .1))), omega arith)
 
+returns-8 : tie.Need-returns-8
+returns-8 c = let x = c .before .before .before .before .args in let l = x .l in let o = ownOf (l .stream) in ((λ (u v : List Event). c .smaller3 .ensures ∙ ap (λ (p : Op). machine.limit (equation p) o (argCell (l .abound) u) (argCell (l .bbound) v)) (sym (c .before .enum-told8 .given .1))), omega arith)
+
 pub limit-spec : {M : Type 1} → statement M
 limit-spec =
     tie.close
@@ -75,10 +85,13 @@ limit-spec =
     enum-told-7
     add-smaller
     smaller-requires-2
+    enum-told-8
+    smaller-requires-3
     returns
     returns-2
     returns-3
     returns-4
     returns-5
     returns-6
-    returns-7)
+    returns-7
+    returns-8)

@@ -1,3 +1,4 @@
+-- `decide::reach` meets its contract.
 use Prim.Native.Nat.{max}
 use mathlib.Core.Path.{_≡_, ap, _∙_}
 use mathlib.Core.Bool.{false}
@@ -52,6 +53,9 @@ scan-requires-2 c κs = search needs
 closer-requires : tie.Need-closer-requires
 closer-requires c κs = search needs
 
+enum-told-8 : tie.Need-enum-told-8
+enum-told-8 c = search needs
+
 returns : tie.Need-returns
 unfolding pick
 returns c = let x = c .before .before .before .before .before .before .before .args in let l = x .l in let o = ownOf (l .stream) in let a = argOf (l .abound) (now (x .a)) in let b = argOf (l .bbound) (now (x .b)) in let h = c .before .before .larger .result in let top = c .before .before .larger .ensures ∙ ap (max (l .stream .bound)) (c .before .before .before .limit .ensures .0 (a .held) (b .held)) in (by (λ (e : Eqn). h ≡ law.top o a b e → h ≡ machine.reach e o a b) (ap equation (c .enum-told .given .1)) (law.ends o a b _ h) top, omega arith)
@@ -79,6 +83,10 @@ returns-7 : tie.Need-returns-7
 unfolding pick
 returns-7 c = let x = c .before .before .before .before .before .before .before .before .before .args in let l = x .l in let o = ownOf (l .stream) in let a = argOf (l .abound) (now (x .a)) in let b = argOf (l .bbound) (now (x .b)) in let h = c .before .before .before .before .larger .result in let top = c .before .before .before .before .larger .ensures ∙ ap (max (l .stream .bound)) (c .before .before .before .before .before .limit .ensures .0 (a .held) (b .held)) in let k = step.near-le false (equation (l .stream .op)) o a b (l .stream .bound) (c .before .scan2 .result) (c .closer .result) (c .closer .ensures) in (c .closer .ensures ∙ ap (nearerIn false l (now (x .a)) (now (x .b)) (l .stream .bound)) (c .before .scan2 .ensures .0) ∙ by (λ (e : Eqn). law.Ends o a b e h (o .bound ∷ map (candidateOf false e o a) (stamps (b .held)))) (ap equation (c .before .before .enum-told7 .given .1)) (law.reach-delay o a b _ _ h) top, omega arith)
 
+returns-8 : tie.Need-returns-8
+unfolding pick
+returns-8 c = let x = c .before .before .before .before .before .before .before .args in let l = x .l in let o = ownOf (l .stream) in let a = argOf (l .abound) (now (x .a)) in let b = argOf (l .bbound) (now (x .b)) in let h = c .before .before .larger .result in let top = c .before .before .larger .ensures ∙ ap (max (l .stream .bound)) (c .before .before .before .limit .ensures .0 (a .held) (b .held)) in (by (λ (e : Eqn). h ≡ law.top o a b e → h ≡ machine.reach e o a b) (ap equation (c .enum-told8 .given .1)) (law.ends o a b _ h) top, omega arith)
+
 pub reach-spec : {M : Type 1} → statement M
 reach-spec =
     tie.close
@@ -95,10 +103,12 @@ reach-spec =
     enum-told-7
     scan-requires-2
     closer-requires
+    enum-told-8
     returns
     returns-2
     returns-3
     returns-4
     returns-5
     returns-6
-    returns-7)
+    returns-7
+    returns-8)

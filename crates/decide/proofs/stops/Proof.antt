@@ -1,3 +1,4 @@
+-- `decide::stops` meets its contract.
 use mathlib.Core.Path.{sym, ap, _∙_}
 use mathlib.Core.List.{List}
 use denote.Ref.{now}
@@ -45,6 +46,9 @@ enum-told-7 c = search needs
 point-requires : tie.Need-point-requires
 point-requires c κs = search needs
 
+enum-told-8 : tie.Need-enum-told-8
+enum-told-8 c = search needs
+
 returns-2 : tie.Need-returns-2
 returns-2 c = let x = c .before .before .before .before .args in let l = x .l in let o = ownOf (l .stream) in let b = argOf (l .bbound) (now (x .b)) in λ (u : List Event). ap (λ (p : Op). machine.stops (equation p) o (argCell (l .abound) u) b (x .t)) (sym (c .enum-told .given .1))
 
@@ -67,6 +71,9 @@ returns-8 : tie.Need-returns-8
 unfolding machine.point
 returns-8 c = let x = c .before .before .before .before .before .before .before .args in let l = x .l in let o = ownOf (l .stream) in let b = argOf (l .bbound) (now (x .b)) in λ (u : List Event). ap (ltb (l .abound)) (c .before .point .ensures) ∙ ap (λ (p : Op). machine.stops (equation p) o (argCell (l .abound) u) b (x .t)) (sym (c .before .before .before .enum-told7 .given .1))
 
+returns-9 : tie.Need-returns-9
+returns-9 c = let x = c .before .before .before .before .args in let l = x .l in let o = ownOf (l .stream) in let b = argOf (l .bbound) (now (x .b)) in λ (u : List Event). ap (λ (p : Op). machine.stops (equation p) o (argCell (l .abound) u) b (x .t)) (sym (c .enum-told8 .given .1))
+
 pub stops-spec : {M : Type 1} → statement M
 stops-spec =
     tie.close
@@ -82,10 +89,12 @@ stops-spec =
     is-some-requires
     enum-told-7
     point-requires
+    enum-told-8
     returns-2
     returns-3
     returns-4
     returns-5
     returns-6
     returns-7
-    returns-8)
+    returns-8
+    returns-9)

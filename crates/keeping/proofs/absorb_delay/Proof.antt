@@ -1,3 +1,4 @@
+-- `keeping::absorb_delay` meets its contract.
 use mathlib.Core.Path.{ap, _∙_}
 use denote.Ref.{now}
 use Rattle.meaning.specs.Events.{found}

@@ -1,6 +1,7 @@
+-- `keeping::absorbed` meets its contract.
 use mathlib.Core.Path.{sym, ap, _∙_}
 use denote.Ref.{now}
-use Rattle.meaning.specs.Plan.{last, delay}
+use Rattle.meaning.specs.Plan.{add, last, delay, signal}
 use Rattle.machine.specs.Step as machine
 use Rattle.layout.specs.Record.{decRaw}
 use Rattle.encoding.specs.Back.{toCell}
@@ -39,6 +40,12 @@ enum-told-7 c = search needs
 absorb-delay-requires : tie.Need-absorb-delay-requires
 absorb-delay-requires c κs = search needs
 
+enum-told-8 : tie.Need-enum-told-8
+enum-told-8 c = search needs
+
+absorb-signal-requires : tie.Need-absorb-signal-requires
+absorb-signal-requires c κs = search needs
+
 returns : tie.Need-returns
 returns c = let x = c .before .before .before .before .before .args in let o = movedOf (x .k) (x .y) (now (x .o)) in let A = lookOf (decRaw (now (x .a))) in let B = lookOf (decRaw (now (x .b))) in ap (λ (p : Op). machine.absorb (equation p) o A B) (sym (c .enum-told .given .1))
 
@@ -62,6 +69,10 @@ returns-7 : tie.Need-returns-7
 unfolding lookOf toCell
 returns-7 c = let x = c .before .before .before .before .before .before .args in let o = movedOf (x .k) (x .y) (now (x .o)) in let A = lookOf (decRaw (now (x .a))) in let B = lookOf (decRaw (now (x .b))) in c .absorb-delay .ensures ∙ law.absorb-near (delay 0 0) o A B 0 0 ∙ ap (λ (p : Op). machine.absorb (equation p) o A B) (sym (c .before .enum-told7 .given .1))
 
+returns-8 : tie.Need-returns-8
+unfolding lookOf toCell
+returns-8 c = let x = c .before .before .before .before .before .before .args in let o = movedOf (x .k) (x .y) (now (x .o)) in let A = lookOf (decRaw (now (x .a))) in let B = lookOf (decRaw (now (x .b))) in c .absorb-signal .ensures add (o .held) ∙ law.absorb-near (signal add 0 0) o A B 0 0 ∙ ap (λ (p : Op). machine.absorb (equation p) o A B) (sym (c .before .enum-told8 .given .1))
+
 pub absorbed-spec : {M : Type 1} → statement M
 absorbed-spec =
     tie.close
@@ -75,10 +86,13 @@ absorbed-spec =
     absorb-last-requires
     enum-told-7
     absorb-delay-requires
+    enum-told-8
+    absorb-signal-requires
     returns
     returns-2
     returns-3
     returns-4
     returns-5
     returns-6
-    returns-7)
+    returns-7
+    returns-8)

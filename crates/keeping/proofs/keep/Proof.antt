@@ -1,3 +1,4 @@
+-- `keeping::keep` meets its contract.
 use mathlib.Core.Path.{ap, _∙_}
 use denote.Ref.{now}
 use Rattle.layout.specs.Record.{decRaw, flagF, keptF}
@@ -5,7 +6,7 @@ use Rattle.layout.proofs.Stores
 use Rattle.streams.specs.declared.Op.{Op}
 use Rattle.streams.specs.Look.{equation, keptIn}
 use Rattle.streams.proofs.Laws.{keeps}
-use Rattle.keeping.specs.Keep.{valueKept, delayKept, keptRow}
+use Rattle.keeping.specs.Keep.{valueKept, delayKept, signalKept, keptRow}
 use Rattle.keeping.proofs.Laws as law
 use borrow.Author.Needs.{needs}
 use native.Mathlib.Omega.{arith}
@@ -45,6 +46,12 @@ enum-told-7 c = search needs
 keep-delay-requires : tie.Need-keep-delay-requires
 keep-delay-requires c κs = search needs
 
+enum-told-8 : tie.Need-enum-told-8
+enum-told-8 c = search needs
+
+keep-signal-requires : tie.Need-keep-signal-requires
+keep-signal-requires c κs = search needs
+
 returns : tie.Need-returns
 returns c = let a = c .before .before .before .args in let p = now (a .r) in let k = keptIn (a .k) in let r = decRaw p in Stores.none p (keptRow (equation (a .op)) k) (omega arith) (λ i. omega (arith, c .before .before .slice-known .given i)) (law.row-none k r (equation (a .op)) (ap (λ (o : Op). keeps (equation o)) (c .enum-told .given .1)))
 
@@ -72,6 +79,12 @@ same-length-2 c = search needs
 returns-7 : tie.Need-returns-7
 returns-7 c = let a = c .before .before .before .before .before .before .before .args in let p = now (a .r) in let k = keptIn (a .k) in let r = decRaw p in Stores.one p (c .before .before .keep-delay .last .0) (keptRow (equation (a .op)) k) (delayKept k) (c .before .before .keep-delay .ensures) (ap (λ (o : Op). keptRow (equation o) k r) (c .before .before .before .before .enum-told7 .given .1) ∙ law.row-delay k r _ _)
 
+same-length-3 : tie.Need-same-length-3
+same-length-3 c = search needs
+
+returns-8 : tie.Need-returns-8
+returns-8 c = let a = c .before .before .before .before .before .before .before .args in let p = now (a .r) in let k = keptIn (a .k) in let r = decRaw p in Stores.one p (c .before .before .keep-signal .last .0) (keptRow (equation (a .op)) k) (signalKept k) (c .before .before .keep-signal .ensures) (ap (λ (o : Op). keptRow (equation o) k r) (c .before .before .before .before .enum-told8 .given .1) ∙ law.row-signal k r _ _ _)
+
 pub keep-spec : {M : Type 1} → statement M
 keep-spec =
     tie.close
@@ -87,6 +100,8 @@ keep-spec =
     keep-value-requires
     enum-told-7
     keep-delay-requires
+    enum-told-8
+    keep-signal-requires
     returns
     returns-2
     returns-3
@@ -95,4 +110,6 @@ keep-spec =
     same-length
     returns-6
     same-length-2
-    returns-7)
+    returns-7
+    same-length-3
+    returns-8)

@@ -1,3 +1,4 @@
+-- `moves::absorb_row` meets its contract.
 use mathlib.Core.Path.{sym, ap, _∙_}
 use denote.Ref.{now}
 use Rattle.layout.specs.Record.{encode, decode}
@@ -38,6 +39,12 @@ enum-known-op-2 c = search needs
 keep-row-requires-2 : tie.Need-keep-row-requires-2
 keep-row-requires-2 c κs = search needs
 
+enum-known-op-3 : tie.Need-enum-known-op-3
+enum-known-op-3 c = search needs
+
+keep-row-requires-3 : tie.Need-keep-row-requires-3
+keep-row-requires-3 c κs = search needs
+
 returns : tie.Need-returns
 returns c = let a = c .before .before .before .args in let n = a .n in let s = now (a .state) in let st = decode n s in let e = equation (a .op) in Steps.absorb-stays n (a .i) e (keptIn (a .k)) (a .y) s (omega arith) (λ j. omega (arith, c .before .before .slice-known .given j)) (ap (λ (o : Op). keeps (equation o)) (c .enum-told .given .1))
 
@@ -65,6 +72,12 @@ same-length-2 c = search needs
 returns-7 : tie.Need-returns-7
 returns-7 c = let a = c .before .before .before .before .before .before .before .before .args in let n = a .n in let s = now (a .state) in let st = decode n s in let e = equation (a .op) in c .before .before .keep-row2 .ensures ∙ ap (λ (o : Op). encode n (absorbedRaw n (a .i) (equation o) (keptIn (a .k)) (a .y) st)) (sym (c .before .before .before .before .before .op2 .given .1))
 
+same-length-3 : tie.Need-same-length-3
+same-length-3 c = search needs
+
+returns-8 : tie.Need-returns-8
+returns-8 c = let a = c .before .before .before .before .before .before .before .before .args in let n = a .n in let s = now (a .state) in let st = decode n s in let e = equation (a .op) in c .before .before .keep-row3 .ensures ∙ ap (λ (o : Op). encode n (absorbedRaw n (a .i) (equation o) (keptIn (a .k)) (a .y) st)) (sym (c .before .before .before .before .before .op3 .given .1))
+
 pub absorb-row-spec : {M : Type 1} → statement M
 absorb-row-spec =
     tie.close
@@ -78,6 +91,8 @@ absorb-row-spec =
     keep-row-requires
     enum-known-op-2
     keep-row-requires-2
+    enum-known-op-3
+    keep-row-requires-3
     returns
     returns-2
     returns-3
@@ -86,4 +101,6 @@ absorb-row-spec =
     same-length
     returns-6
     same-length-2
-    returns-7)
+    returns-7
+    same-length-3
+    returns-8)

@@ -1,3 +1,4 @@
+-- `moves::release_args` meets its contract.
 use mathlib.Core.Path.{sym, ap, _∙_}
 use denote.Ref.{now}
 use Rattle.meaning.specs.Arguments.{reads}
@@ -44,6 +45,12 @@ enum-known-op-4 c = search needs
 release-two-requires-3 : tie.Need-release-two-requires-3
 release-two-requires-3 c κs = search needs
 
+enum-known-op-5 : tie.Need-enum-known-op-5
+enum-known-op-5 c = search needs
+
+release-two-requires-4 : tie.Need-release-two-requires-4
+release-two-requires-4 c κs = search needs
+
 returns : tie.Need-returns
 returns c = let a = c .before .before .before .args in let n = a .n in let s = now (a .state) in Steps.args-none n 0 (omega arith) s (λ j. omega (arith, c .before .before .slice-known .given j)) (omega arith) ∙ ap (λ (p : Op). encode n (releasedArgs n (reads (equation p)) (decode n s))) (sym (c .enum-told .given .1))
 
@@ -77,6 +84,12 @@ same-length-4 c = search needs
 returns-7 : tie.Need-returns-7
 returns-7 c = let a = c .before .before .before .before .before .before .before .before .args in let n = a .n in let s = now (a .state) in c .before .before .release-two3 .ensures ∙ ap (λ (p : Op). encode n (releasedArgs n (reads (equation p)) (decode n s))) (sym (c .before .before .before .before .before .op4 .given .1))
 
+same-length-5 : tie.Need-same-length-5
+same-length-5 c = search needs
+
+returns-8 : tie.Need-returns-8
+returns-8 c = let a = c .before .before .before .before .before .before .before .before .args in let n = a .n in let s = now (a .state) in c .before .before .release-two4 .ensures ∙ ap (λ (p : Op). encode n (releasedArgs n (reads (equation p)) (decode n s))) (sym (c .before .before .before .before .before .op5 .given .1))
+
 pub release-args-spec : {M : Type 1} → statement M
 release-args-spec =
     tie.close
@@ -92,6 +105,8 @@ release-args-spec =
     release-two-requires-2
     enum-known-op-4
     release-two-requires-3
+    enum-known-op-5
+    release-two-requires-4
     returns
     returns-2
     returns-3
@@ -102,4 +117,6 @@ release-args-spec =
     same-length-3
     returns-6
     same-length-4
-    returns-7)
+    returns-7
+    same-length-5
+    returns-8)

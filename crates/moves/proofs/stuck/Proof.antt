@@ -1,3 +1,4 @@
+-- `moves::stuck` meets its contract.
 use Prim.Native.Nat.{_≤_, min}
 use mathlib.Core.Path.{ap}
 use borrow.Author.Tests.{leb-true, ltb-true, eqb-true}
@@ -32,47 +33,50 @@ bound-of-requires c κs = search needs
 enum-known-op-2 : tie.Need-enum-known-op-2
 enum-known-op-2 c = search needs
 
-bound-of-requires-2 : tie.Need-bound-of-requires-2
-bound-of-requires-2 c κs = search needs
-
-returns : tie.Need-returns
-returns c = let a = c .before .before .before .before .before .before .args in let n = a .n in let y = a .bound in let st = decode n (now (a .state)) in λ q. by (λ (e : Eqn). limitRaw n e (min y horizon) st ≤ min y horizon) (ap equation (c .before .before .before .op2 .given .1)) (Decides.low-first _ _ (c .before .bound-of2 .result) y (Decides.other-low n _ st (c .before .bound-of2 .result) (c .before .bound-of2 .ensures)) (c .if1 .taken))
-
-bound-of-requires-3 : tie.Need-bound-of-requires-3
-bound-of-requires-3 c κs = search needs
+not-ahead-requires : tie.Need-not-ahead-requires
+not-ahead-requires c κs = search needs
 
 enum-known-op-3 : tie.Need-enum-known-op-3
 enum-known-op-3 c = search needs
 
-bound-of-requires-4 : tie.Need-bound-of-requires-4
-bound-of-requires-4 c κs = search needs
+bound-of-requires-2 : tie.Need-bound-of-requires-2
+bound-of-requires-2 c κs = search needs
 
 enum-known-op-4 : tie.Need-enum-known-op-4
 enum-known-op-4 c = search needs
 
-bound-of-requires-5 : tie.Need-bound-of-requires-5
-bound-of-requires-5 c κs = search needs
+bound-of-requires-3 : tie.Need-bound-of-requires-3
+bound-of-requires-3 c κs = search needs
+
+enum-known-op-5 : tie.Need-enum-known-op-5
+enum-known-op-5 c = search needs
+
+not-ahead-requires-2 : tie.Need-not-ahead-requires-2
+not-ahead-requires-2 c κs = search needs
+
+returns : tie.Need-returns
+returns c = let a = c .before .before .before .args in let n = a .n in let y = a .bound in let st = decode n (now (a .state)) in λ q. by (λ (e : Eqn). limitRaw n e (min y horizon) st ≤ min y horizon) (ap equation (c .enum-told .given .1)) (omega arith)
 
 returns-2 : tie.Need-returns-2
-returns-2 c = let a = c .before .before .before .args in let n = a .n in let y = a .bound in let st = decode n (now (a .state)) in λ q. by (λ (e : Eqn). limitRaw n e (min y horizon) st ≤ min y horizon) (ap equation (c .enum-told .given .1)) (omega arith)
+returns-2 c = let a = c .before .before .before .args in let n = a .n in let y = a .bound in let st = decode n (now (a .state)) in λ q. by (λ (e : Eqn). limitRaw n e (min y horizon) st ≤ min y horizon) (ap equation (c .enum-told2 .given .1)) (Decides.low-end y (eqb-true y horizon q))
 
 returns-3 : tie.Need-returns-3
-returns-3 c = let a = c .before .before .before .args in let n = a .n in let y = a .bound in let st = decode n (now (a .state)) in λ q. by (λ (e : Eqn). limitRaw n e (min y horizon) st ≤ min y horizon) (ap equation (c .enum-told2 .given .1)) (Decides.low-end y (eqb-true y horizon q))
+returns-3 c = let a = c .before .before .before .args in let n = a .n in let y = a .bound in let st = decode n (now (a .state)) in λ q. by (λ (e : Eqn). limitRaw n e (min y horizon) st ≤ min y horizon) (ap equation (c .enum-told3 .given .1)) (Decides.low-end y (eqb-true y horizon q))
 
 returns-4 : tie.Need-returns-4
-returns-4 c = let a = c .before .before .before .args in let n = a .n in let y = a .bound in let st = decode n (now (a .state)) in λ q. by (λ (e : Eqn). limitRaw n e (min y horizon) st ≤ min y horizon) (ap equation (c .enum-told3 .given .1)) (Decides.low-end y (eqb-true y horizon q))
+returns-4 c = let a = c .before .before .before .before .before .args in let n = a .n in let y = a .bound in let st = decode n (now (a .state)) in λ q. by (λ (e : Eqn). limitRaw n e (min y horizon) st ≤ min y horizon) (ap equation (c .before .before .op .given .1)) (Decides.low _ (c .bound-of .result) y (Decides.other-low n _ st (c .bound-of .result) (c .bound-of .ensures)) (leb-true (c .bound-of .result) y q))
 
 returns-5 : tie.Need-returns-5
-returns-5 c = let a = c .before .before .before .before .before .args in let n = a .n in let y = a .bound in let st = decode n (now (a .state)) in λ q. by (λ (e : Eqn). limitRaw n e (min y horizon) st ≤ min y horizon) (ap equation (c .before .before .op .given .1)) (Decides.low _ (c .bound-of .result) y (Decides.other-low n _ st (c .bound-of .result) (c .bound-of .ensures)) (leb-true (c .bound-of .result) y q))
+returns-5 c = let a = c .before .before .before .before .before .args in let n = a .n in let y = a .bound in let st = decode n (now (a .state)) in λ q. by (λ (e : Eqn). limitRaw n e (min y horizon) st ≤ min y horizon) (ap equation (c .before .before .op2 .given .1)) (c .not-ahead .ensures q)
 
 returns-6 : tie.Need-returns-6
-returns-6 c = let a = c .before .before .before .before .before .before .before .args in let n = a .n in let y = a .bound in let st = decode n (now (a .state)) in λ q. by (λ (e : Eqn). limitRaw n e (min y horizon) st ≤ min y horizon) (ap equation (c .before .before .before .before .op2 .given .1)) (Decides.low-second _ _ (c .bound-of3 .result) y (Decides.other-low n _ st (c .bound-of3 .result) (c .bound-of3 .ensures)) (leb-true (c .bound-of3 .result) y q))
+returns-6 c = let a = c .before .before .before .before .before .args in let n = a .n in let y = a .bound in let st = decode n (now (a .state)) in λ q. by (λ (e : Eqn). limitRaw n e (min y horizon) st ≤ min y horizon) (ap equation (c .before .before .op3 .given .1)) (Decides.low _ (c .bound-of2 .result) y (Decides.other-low n _ st (c .bound-of2 .result) (c .bound-of2 .ensures)) (leb-true (c .bound-of2 .result) y q))
 
 returns-7 : tie.Need-returns-7
-returns-7 c = let a = c .before .before .before .before .before .args in let n = a .n in let y = a .bound in let st = decode n (now (a .state)) in λ q. by (λ (e : Eqn). limitRaw n e (min y horizon) st ≤ min y horizon) (ap equation (c .before .before .op3 .given .1)) (Decides.low _ (c .bound-of4 .result) y (Decides.other-low n _ st (c .bound-of4 .result) (c .bound-of4 .ensures)) (leb-true (c .bound-of4 .result) y q))
+returns-7 c = let a = c .before .before .before .before .before .args in let n = a .n in let y = a .bound in let st = decode n (now (a .state)) in λ q. by (λ (e : Eqn). limitRaw n e (min y horizon) st ≤ min y horizon) (ap equation (c .before .before .op4 .given .1)) (Decides.low-reset _ (c .bound-of3 .result) y (Decides.other-low n _ st (c .bound-of3 .result) (c .bound-of3 .ensures)) (ltb-true (c .bound-of3 .result) y q))
 
 returns-8 : tie.Need-returns-8
-returns-8 c = let a = c .before .before .before .before .before .args in let n = a .n in let y = a .bound in let st = decode n (now (a .state)) in λ q. by (λ (e : Eqn). limitRaw n e (min y horizon) st ≤ min y horizon) (ap equation (c .before .before .op4 .given .1)) (Decides.low-reset _ (c .bound-of5 .result) y (Decides.other-low n _ st (c .bound-of5 .result) (c .bound-of5 .ensures)) (ltb-true (c .bound-of5 .result) y q))
+returns-8 c = let a = c .before .before .before .before .before .args in let n = a .n in let y = a .bound in let st = decode n (now (a .state)) in λ q. by (λ (e : Eqn). limitRaw n e (min y horizon) st ≤ min y horizon) (ap equation (c .before .before .op5 .given .1)) (c .not-ahead2 .ensures q)
 
 pub stuck-spec : {M : Type 1} → statement M
 stuck-spec =
@@ -84,13 +88,14 @@ stuck-spec =
     enum-known-op
     bound-of-requires
     enum-known-op-2
-    bound-of-requires-2
-    returns
-    bound-of-requires-3
+    not-ahead-requires
     enum-known-op-3
-    bound-of-requires-4
+    bound-of-requires-2
     enum-known-op-4
-    bound-of-requires-5
+    bound-of-requires-3
+    enum-known-op-5
+    not-ahead-requires-2
+    returns
     returns-2
     returns-3
     returns-4

@@ -1,20 +1,18 @@
-use Prim.Native.Nat.{ℕ}
-use mathlib.Core.Path.{sym, ap, _∙_}
+-- `streams::operator_at` meets its contract.
+use Prim.Native.Nat.{ℕ, _+_, _-_}
+use mathlib.Core.Path.{_≡_, sym, ap, _∙_}
 use mir.Syntax.{w64}
 use mir.Val.{toZ}
 use denote.Ref.{now}
+use Rattle.meaning.specs.Plan.{signal}
 use Rattle.operators.specs.Operators.{eqnOf}
+use Rattle.operators.proofs.Laws.{signal-row}
 use Rattle.layout.specs.Record.{decRaw, num, aF, bF, kF}
 use Rattle.streams.proofs.Laws as law
 use borrow.Author.Needs.{needs}
 use native.Mathlib.Omega.{arith}
 use Rattle.streams.proofs.operator_at.Statement.{statement}
 use Rattle.streams.proofs.operator_at.Tie as tie
-use Rattle.streams.proofs.operator_at.Reads as reads
-use Rattle.streams.proofs.operator_at.Lts as lts
-use Rattle.layout.proofs.byte_at.Reads as byte-at-reads
-use Rattle.streams.proofs.binary_of.Reads as binary-of-reads
-use Rattle.streams.proofs.unary_at.Reads as unary-at-reads
 
 byte-at-requires : tie.Need-byte-at-requires
 byte-at-requires c κs = search needs
@@ -25,11 +23,11 @@ byte-at-requires-2 c κs = search needs
 byte-at-requires-3 : tie.Need-byte-at-requires-3
 byte-at-requires-3 c κs = search needs
 
-cast-t13 : tie.Need-cast-t13
-cast-t13 c = search needs
+cast-t16 : tie.Need-cast-t16
+cast-t16 c = search needs
 
-cast-t14 : tie.Need-cast-t14
-cast-t14 c = search needs
+cast-t17 : tie.Need-cast-t17
+cast-t17 c = search needs
 
 byte-at-requires-4 : tie.Need-byte-at-requires-4
 byte-at-requires-4 c κs = search needs
@@ -37,11 +35,11 @@ byte-at-requires-4 c κs = search needs
 byte-at-requires-5 : tie.Need-byte-at-requires-5
 byte-at-requires-5 c κs = search needs
 
-cast-t15 : tie.Need-cast-t15
-cast-t15 c = search needs
+cast-t18 : tie.Need-cast-t18
+cast-t18 c = search needs
 
-cast-t16 : tie.Need-cast-t16
-cast-t16 c = search needs
+cast-t19 : tie.Need-cast-t19
+cast-t19 c = search needs
 
 unary-at-requires : tie.Need-unary-at-requires
 unary-at-requires c κs = search needs
@@ -49,8 +47,8 @@ unary-at-requires c κs = search needs
 byte-at-requires-6 : tie.Need-byte-at-requires-6
 byte-at-requires-6 c κs = search needs
 
-cast-t18 : tie.Need-cast-t18
-cast-t18 c = search needs
+cast-t21 : tie.Need-cast-t21
+cast-t21 c = search needs
 
 binary-of-requires : tie.Need-binary-of-requires
 binary-of-requires c κs = search needs
@@ -61,11 +59,29 @@ byte-at-requires-7 c κs = search needs
 byte-at-requires-8 : tie.Need-byte-at-requires-8
 byte-at-requires-8 c κs = search needs
 
-cast-t19 : tie.Need-cast-t19
-cast-t19 c = search needs
+cast-t22 : tie.Need-cast-t22
+cast-t22 c = search needs
 
-cast-t20 : tie.Need-cast-t20
-cast-t20 c = search needs
+cast-t23 : tie.Need-cast-t23
+cast-t23 c = search needs
+
+sub-calc-of : tie.Need-sub-calc-of
+sub-calc-of c = search needs
+
+calc-of-requires : tie.Need-calc-of-requires
+calc-of-requires c κs = search needs
+
+byte-at-requires-9 : tie.Need-byte-at-requires-9
+byte-at-requires-9 c κs = search needs
+
+byte-at-requires-10 : tie.Need-byte-at-requires-10
+byte-at-requires-10 c κs = search needs
+
+cast-t25 : tie.Need-cast-t25
+cast-t25 c = search needs
+
+cast-t26 : tie.Need-cast-t26
+cast-t26 c = search needs
 
 returns : tie.Need-returns
 unfolding eqnOf
@@ -90,10 +106,13 @@ returns-6 : tie.Need-returns-6
 returns-6 c = let r = decRaw (now (c .before .before .before .before .before .before .before .before .before .args .r)) in let k = toZ w64 (num kF r) in let n = c .before .before .before .before .before .before .before .byte-at .ensures .0 in c .before .before .binary-of .ensures (c .before .byte-at7 .result) (c .byte-at8 .result) k ∙ (λ j. eqnOf (n j) (c .before .byte-at7 .ensures .0 j) (c .byte-at8 .ensures .0 j) k) ∙ sym (law.look-eqn r)
 
 returns-7 : tie.Need-returns-7
-returns-7 c = let r = decRaw (now (c .before .before .before .before .args .r)) in let k = toZ w64 (num kF r) in let n = c .before .before .byte-at .ensures .0 in law.nil-low (num aF r) (num bF r) k (c .before .before .byte-at .result) (omega arith) (c .before .match .rest .0 .0 .0 .1) (c .before .match .rest .0 .0 .1) ∙ ap (λ (m : ℕ). eqnOf m (num aF r) (num bF r) k) n ∙ sym (law.look-eqn r)
+returns-7 c = let r = decRaw (now (c .before .before .before .before .before .before .before .before .before .before .args .r)) in let k = toZ w64 (num kF r) in let n = c .before .before .before .before .before .before .before .before .byte-at .ensures .0 in let m = c .before .before .before .before .before .before .before .before .byte-at .result in let a = c .before .byte-at9 .result in let b = c .byte-at10 .result in let e : 20 + (m - 20) ≡ m = omega arith in ap (λ g. signal g a b) (c .before .before .calc-of .ensures) ∙ sym (signal-row a b k (m - 20) (omega arith)) ∙ ap (λ (x : ℕ). eqnOf x a b k) e ∙ (λ j. eqnOf (n j) (c .before .byte-at9 .ensures .0 j) (c .byte-at10 .ensures .0 j) k) ∙ sym (law.look-eqn r)
 
 returns-8 : tie.Need-returns-8
-returns-8 c = let r = decRaw (now (c .before .before .before .before .before .before .args .r)) in let k = toZ w64 (num kF r) in let n = c .before .before .before .before .byte-at .ensures .0 in law.nil-high (num aF r) (num bF r) k (c .before .before .before .before .byte-at .result) (law.over (c .before .before .before .before .byte-at .result) (omega arith) (c .before .before .before .match .rest .0 .1) (c .before .before .before .match .rest .1)) ∙ ap (λ (m : ℕ). eqnOf m (num aF r) (num bF r) k) n ∙ sym (law.look-eqn r)
+returns-8 c = let r = decRaw (now (c .before .before .before .before .args .r)) in let k = toZ w64 (num kF r) in let n = c .before .before .byte-at .ensures .0 in law.nil-low (num aF r) (num bF r) k (c .before .before .byte-at .result) (omega arith) (c .before .match .rest .0 .0 .0 .1) (c .before .match .rest .0 .0 .1) ∙ ap (λ (m : ℕ). eqnOf m (num aF r) (num bF r) k) n ∙ sym (law.look-eqn r)
+
+returns-9 : tie.Need-returns-9
+returns-9 c = let r = decRaw (now (c .before .before .before .before .before .before .before .args .r)) in let k = toZ w64 (num kF r) in let n = c .before .before .before .before .before .byte-at .ensures .0 in law.nil-high (num aF r) (num bF r) k (c .before .before .before .before .before .byte-at .result) (omega arith) ∙ ap (λ (m : ℕ). eqnOf m (num aF r) (num bF r) k) n ∙ sym (law.look-eqn r)
 
 pub operator-at-spec : {M : Type 1} → statement M
 operator-at-spec =
@@ -102,20 +121,26 @@ operator-at-spec =
     byte-at-requires
     byte-at-requires-2
     byte-at-requires-3
-    cast-t13
-    cast-t14
+    cast-t16
+    cast-t17
     byte-at-requires-4
     byte-at-requires-5
-    cast-t15
-    cast-t16
+    cast-t18
+    cast-t19
     unary-at-requires
     byte-at-requires-6
-    cast-t18
+    cast-t21
     binary-of-requires
     byte-at-requires-7
     byte-at-requires-8
-    cast-t19
-    cast-t20
+    cast-t22
+    cast-t23
+    sub-calc-of
+    calc-of-requires
+    byte-at-requires-9
+    byte-at-requires-10
+    cast-t25
+    cast-t26
     returns
     returns-2
     returns-3
@@ -123,4 +148,5 @@ operator-at-spec =
     returns-5
     returns-6
     returns-7
-    returns-8)
+    returns-8
+    returns-9)

@@ -82,8 +82,40 @@ unfolding numberPacked placePacked pack
 returns-19 c = sym (ap numberPacked (c .match .keys19))
 
 returns-20 : tie.Need-returns-20
+unfolding numberPacked placePacked pack
+returns-20 c = sym (ap numberPacked (c .match .keys20))
+
+returns-21 : tie.Need-returns-21
+unfolding numberPacked placePacked pack
+returns-21 c = sym (ap numberPacked (c .match .keys21))
+
+returns-22 : tie.Need-returns-22
+unfolding numberPacked placePacked pack
+returns-22 c = sym (ap numberPacked (c .match .keys22))
+
+returns-23 : tie.Need-returns-23
+unfolding numberPacked placePacked pack
+returns-23 c = sym (ap numberPacked (c .match .keys23))
+
+returns-24 : tie.Need-returns-24
+unfolding numberPacked placePacked pack
+returns-24 c = sym (ap numberPacked (c .match .keys24))
+
+returns-25 : tie.Need-returns-25
+unfolding numberPacked placePacked pack
+returns-25 c = sym (ap numberPacked (c .match .keys25))
+
+returns-26 : tie.Need-returns-26
+unfolding numberPacked placePacked pack
+returns-26 c = sym (ap numberPacked (c .match .keys26))
+
+returns-27 : tie.Need-returns-27
+unfolding numberPacked placePacked pack
+returns-27 c = sym (ap numberPacked (c .match .keys27))
+
+returns-28 : tie.Need-returns-28
 unfolding pack
-returns-20 c = no-operator (c .before .args .code) (c .match .rest)
+returns-28 c = no-operator (c .before .args .code) (c .match .rest)
 
 pub operator-spec : {M : Type 1} → statement M
 operator-spec =
@@ -108,4 +140,12 @@ operator-spec =
     returns-17
     returns-18
     returns-19
-    returns-20)
+    returns-20
+    returns-21
+    returns-22
+    returns-23
+    returns-24
+    returns-25
+    returns-26
+    returns-27
+    returns-28)

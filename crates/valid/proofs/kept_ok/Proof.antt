@@ -3,8 +3,8 @@ use mathlib.Core.Path.{_≡_, sym, ap, _∙_}
 use mathlib.Core.Bool.{true, false}
 use denote.Ref.{now}
 use Rattle.layout.specs.Record.{decRaw, num, opF}
-use Rattle.operators.specs.Operators.{groupOf, isLast, isDelay}
-use Rattle.operators.proofs.Arms.{neither}
+use Rattle.operators.specs.Operators.{groupOf, isLast, isDelay, isSignal}
+use Rattle.operators.proofs.Arms.{keepless}
 use Rattle.valid.specs.Valid.{keptOk}
 use borrow.Author.Needs.{needs}
 use Rattle.valid.proofs.kept_ok.Statement.{statement}
@@ -28,12 +28,18 @@ enum-told-2 c = search needs
 delay-ok-requires : tie.Need-delay-ok-requires
 delay-ok-requires c κs = search needs
 
+enum-told-3 : tie.Need-enum-told-3
+enum-told-3 c = search needs
+
+signal-ok-requires : tie.Need-signal-ok-requires
+signal-ok-requires c κs = search needs
+
 none-ok-requires : tie.Need-none-ok-requires
 none-ok-requires c κs = search needs
 
 returns : tie.Need-returns
 unfolding keptOk
-returns c = let r = decRaw (now (c .before .before .before .before .before .before .args .r)) in let l : isLast (groupOf (num opF r)) ≡ true = ap isLast (sym (c .before .before .before .group-of .ensures ∙ ap groupOf (c .before .before .before .before .byte-at .ensures .0)) ∙ c .before .enum-told .given .1) in c .last-ok .ensures ∙ sym (rw l)
+returns c = let r = decRaw (now (c .before .before .before .before .before .before .args .r)) in let g = sym (c .before .before .before .group-of .ensures ∙ ap groupOf (c .before .before .before .before .byte-at .ensures .0)) ∙ c .before .enum-told .given .1 in let l : isLast (groupOf (num opF r)) ≡ true = ap isLast g in c .last-ok .ensures ∙ sym (rw l)
 
 returns-2 : tie.Need-returns-2
 unfolding keptOk
@@ -41,7 +47,11 @@ returns-2 c = let r = decRaw (now (c .before .before .before .before .before .be
 
 returns-3 : tie.Need-returns-3
 unfolding keptOk
-returns-3 c = let r = decRaw (now (c .before .before .before .before .before .args .r)) in let l : isLast (groupOf (num opF r)) ≡ false = ap isLast (sym (c .before .before .group-of .ensures ∙ ap groupOf (c .before .before .before .byte-at .ensures .0))) ∙ neither (c .before .before .group-of .result) (c .before .match .keys3) .0 in let d : isDelay (groupOf (num opF r)) ≡ false = ap isDelay (sym (c .before .before .group-of .ensures ∙ ap groupOf (c .before .before .before .byte-at .ensures .0))) ∙ neither (c .before .before .group-of .result) (c .before .match .keys3) .1 in c .none-ok .ensures ∙ sym (rw (l, d))
+returns-3 c = let r = decRaw (now (c .before .before .before .before .before .before .args .r)) in let g = sym (c .before .before .before .group-of .ensures ∙ ap groupOf (c .before .before .before .before .byte-at .ensures .0)) ∙ c .before .enum-told3 .given .1 in let l : isLast (groupOf (num opF r)) ≡ false = ap isLast g in let d : isDelay (groupOf (num opF r)) ≡ false = ap isDelay g in let x : isSignal (groupOf (num opF r)) ≡ true = ap isSignal g in c .signal-ok .ensures ∙ sym (rw (l, d, x))
+
+returns-4 : tie.Need-returns-4
+unfolding keptOk
+returns-4 c = let r = decRaw (now (c .before .before .before .before .before .args .r)) in let g = sym (c .before .before .group-of .ensures ∙ ap groupOf (c .before .before .before .byte-at .ensures .0)) in let n = keepless (c .before .before .group-of .result) (c .before .match .keys4) in let l : isLast (groupOf (num opF r)) ≡ false = ap isLast g ∙ n .0 in let d : isDelay (groupOf (num opF r)) ≡ false = ap isDelay g ∙ n .1 .0 in let x : isSignal (groupOf (num opF r)) ≡ false = ap isSignal g ∙ n .1 .1 in c .none-ok .ensures ∙ sym (rw (l, d, x))
 
 pub kept-ok-spec : {M : Type 1} → statement M
 kept-ok-spec =
@@ -53,7 +63,10 @@ kept-ok-spec =
     last-ok-requires
     enum-told-2
     delay-ok-requires
+    enum-told-3
+    signal-ok-requires
     none-ok-requires
     returns
     returns-2
-    returns-3)
+    returns-3
+    returns-4)
