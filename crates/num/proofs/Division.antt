@@ -1,14 +1,16 @@
 -- A quotient and its remainder: they keep the two laws, no other two numbers do, and both in sign and magnitude.
-use Prim.Native.Nat.{ℕ, zero, suc, _+_, _*_, _-_, _/_, _%_, _<_, _≤_, zero-le}
+use Prim.Native.Nat.{ℕ, zero, suc, _+_, _*_, _-_, _/_, _%_, _^_, _<_, _≤_, zero-le}
 use mathlib.Core.Path.{_≡_, refl, sym, ap, _∙_}
 use mathlib.Core.Logic.{inl, inr}
 use mathlib.Core.Bool.{Bool, true, false, cond, not, Bool·beq}
 use native.Mathlib.Omega.{arith}
 use native.Mathlib.Numerals.{add-one}
-use native.Mathlib.Nat.{suc-mul, add-zero, sub-zero, zero-div, mod-lt, div-add-mod', div-eq-of-lt, mul-add-div-right}
+use native.Mathlib.Nat.{suc-mul, add-zero, sub-zero, zero-div, div-le-self, mod-lt, div-add-mod', div-eq-of-lt, mul-add-div-right}
 use lib.IntN.{ℤ, pos, negsuc, negℤ, _+ℤ_, _-ℤ_, _*ℤ_, negℤ-+ℤ, negℤ-negℤ, +ℤ-comm, *ℤ-negsuc, -ℤ-+ℤ-cancel, +ℤ-negℤ-cancel}
 use lib.Signed.{clashℤ}
 use lib.Dec.{leb→le, le→leb, lt→ltb, ltb→lt}
+use mir.Syntax.{w64}
+use mir.Val.{Fits}
 use borrow.Author.Tests.{lt-ltb, le-ltb}
 use Rattle.num.specs.Arithmetic.{fit, divided, remainder, down, quotient, rest}
 use Rattle.num.specs.Division.{Below, Divides}
@@ -26,6 +28,9 @@ over-below : (x : ℤ) (n : ℕ) → over x n < suc n
 over-below (pos m) n = mod-lt m (omega arith)
 over-below (negsuc m) n = omega arith
 
+more : (m k : ℕ) → suc m ≤ k → negsuc m -ℤ negℤ (pos k) ≡ pos (k - suc m)
+more m k h = rw (negℤ-negℤ (pos k), le-ltb k (suc m) h)
+
 down-leaves : (x : ℤ) (n : ℕ) → x -ℤ down x (suc n) *ℤ pos (suc n) ≡ pos (over x n)
 unfolding down
 down-leaves (pos m) n =
@@ -35,8 +40,7 @@ down-leaves (negsuc m) n =
     let e = div-add-mod' m (suc n) in
     let l : m % suc n < suc n = mod-lt m (omega arith) in
     let k = suc-mul (m / suc n) (suc n) in
-    let h : suc m ≤ suc (m / suc n) * suc n = omega arith in
-    rw (negℤ-negℤ (pos (suc (m / suc n) * suc n)), le-ltb (suc (m / suc n) * suc n) (suc m) h) (ap pos (omega arith))
+    more m (suc (m / suc n) * suc n) (omega arith) ∙ ap pos (omega arith)
 
 rest-pos : (x : ℤ) (n : ℕ) → rest x (pos (suc n)) ≡ pos (over x n)
 unfolding rest
@@ -127,17 +131,24 @@ divides-once x y q r d =
 
 -- ---- in sign and magnitude
 
+pub lowered-zero : (s t : Bool) (m : ℕ) → m ≡ 0 → 0 ≡ lowered s t m
+unfolding lowered
+lowered-zero s t m e = rw e
+
 pub lowered-same : (s t : Bool) (m : ℕ) → Bool·beq s t ≡ true → 0 ≡ lowered s t m
+unfolding lowered
 lowered-same s t zero e = refl
 lowered-same s t (suc m) e = rw e
 
 pub lowered-other : (s t : Bool) (m : ℕ) → (m ≡ 0 → ⊥) → Bool·beq s t ≡ false → 1 ≡ lowered s t m
+unfolding lowered
 lowered-other s t zero h e = absurd (h refl)
 lowered-other s t (suc m) h e = rw e
 
-pub lowered-less : (s t : Bool) (m : ℕ) → (lowered s t m ≤ m) × (lowered s t m ≤ 1)
-lowered-less s t zero = (zero-le, zero-le)
-lowered-less s t (suc m) = go (Bool·beq s t)
+pub lowered-less : (s t : Bool) (m u : ℕ) → u ≡ lowered s t m → (u ≤ m) × (u ≤ 1)
+unfolding lowered
+lowered-less s t zero u e = (omega arith, omega arith)
+lowered-less s t (suc m) u e = rw e (go (Bool·beq s t))
   where
     go : (b : Bool) → (cond b 0 1 ≤ suc m) × (cond b 0 1 ≤ 1)
     go true = (zero-le, zero-le)
@@ -146,9 +157,12 @@ lowered-less s t (suc m) = go (Bool·beq s t)
 one-less : (m : ℕ) → suc m - 1 ≡ m
 one-less m = omega arith
 
+pub up-fits : (x n u : ℕ) → x ≤ 2 ^ 63 → u ≤ 1 → Fits w64 (x / n + u)
+up-fits x n u h k = let l = div-le-self x n in record { fits = omega arith }
+
 -- the quotient's sign and magnitude
 quotient-parts : (s t : Bool) (m n : ℕ) → quotient (signed s m) (signed t (suc n)) ≡ signed (not (Bool·beq s t)) ((m - lowered s t m) / suc n + lowered s t m)
-unfolding quotient down
+unfolding quotient down lowered
 quotient-parts false false zero n = rw (add-zero (0 / suc n))
 quotient-parts false true zero n = rw (zero-div (suc n))
 quotient-parts true false zero n = rw (zero-div (suc n))
@@ -165,6 +179,7 @@ div-some s t m (suc n) u h e = rw (zero-not t n, e) (ap fit (quotient-parts s t 
 
 -- the rest's magnitude, where the quotient is not below zero and where it is
 rest-above : (s t : Bool) (m n : ℕ) → 0 ≡ lowered s t m → rest (signed s m) (signed t (suc n)) ≡ signed t (m % suc n)
+unfolding lowered
 rest-above false false m n e = rest-pos (pos m) n
 rest-above false true zero n e = rest-neg (pos zero) n
 rest-above false true (suc m) n e = absurd (omega (arith, e))
@@ -174,6 +189,7 @@ rest-above true true zero n e = rest-neg (pos zero) n
 rest-above true true (suc m) n e = rest-neg (negsuc m) n
 
 rest-lowered : (s t : Bool) (m n : ℕ) → 1 ≡ lowered s t m → rest (signed s m) (signed t (suc n)) ≡ signed t (suc n - 1 - (m - 1) % suc n)
+unfolding lowered
 rest-lowered s t zero n e = absurd (omega (arith, e))
 rest-lowered false false (suc m) n e = absurd (omega (arith, e))
 rest-lowered false true (suc m) n e = rw (one-less m, one-less n) (rest-neg (pos (suc m)) n)
@@ -184,7 +200,7 @@ pub rem-above : (s t : Bool) (m n u : ℕ) → 0 < n → u ≡ lowered s t m →
 unfolding remainder
 rem-above s t m zero u h e k = absurd (omega arith)
 rem-above s t m (suc n) u h e k =
-    let l = lowered-less s t m .1 in
+    let l = lowered-less s t m u e .1 in
     let z : u ≡ 0 = omega arith in
     rw (zero-not t n, z, sub-zero m) (ap fit (rest-above s t m n (sym z ∙ e)))
 

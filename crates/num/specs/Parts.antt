@@ -13,6 +13,6 @@ abbrev pub of : Parts → ℤ
 of p = signed (p .neg) (p .mag)
 
 -- 1 if a quotient with these signs, of the magnitude m by another, lies below zero, else 0
-abbrev pub lowered : (s t : Bool) → ℕ → ℕ
+unfoldable pub lowered : (s t : Bool) → ℕ → ℕ
 lowered s t zero = 0
 lowered s t (suc m) = cond (Bool·beq s t) 0 1

@@ -194,8 +194,8 @@ pub fn div(a: i64, b: i64) -> Answer
     if n == 0 {
         return Answer::ZeroDivisor;
     }
-    let one = below_zero(p.neg, q.neg, m);
-    join(p.neg != q.neg, (m - one) / n + one)
+    let up = below_zero(p.neg, q.neg, m);
+    join(p.neg != q.neg, (m - up) / n + up)
 }
 
 // The remainder, with the divisor's sign: what the quotient leaves.
@@ -209,9 +209,9 @@ pub fn rem(a: i64, b: i64) -> Answer
     if n == 0 {
         return Answer::ZeroDivisor;
     }
-    let one = below_zero(p.neg, q.neg, m);
-    let left = (m - one) % n;
-    if one == 1 {
+    let less = below_zero(p.neg, q.neg, m);
+    let left = (m - less) % n;
+    if less == 1 {
         return join(q.neg, n - 1 - left);
     }
     join(q.neg, left)

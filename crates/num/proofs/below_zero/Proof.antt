@@ -1,14 +1,12 @@
 -- `num::below_zero` meets its contract.
-use Rattle.num.proofs.Division.{lowered-same, lowered-other}
-use borrow.Author.Needs.{needs}
-use native.Mathlib.Omega.{arith}
+use Rattle.num.proofs.Division.{lowered-zero, lowered-same, lowered-other}
 use Rattle.num.proofs.below_zero.Statement.{statement}
 use Rattle.num.proofs.below_zero.Tie as tie
 use Rattle.num.proofs.below_zero.Reads as reads
 use Rattle.num.proofs.below_zero.Lts as lts
 
 returns : tie.Need-returns
-returns c = search needs
+returns c = let x = c .before .args in lowered-zero (x .s) (x .t) (x .m) (c .if1 .taken)
 
 returns-2 : tie.Need-returns-2
 returns-2 c = let x = c .before .before .args in lowered-same (x .s) (x .t) (x .m) (c .if2 .taken)

@@ -1,11 +1,9 @@
 -- `num::div` meets its contract.
-use Prim.Native.Nat.{_-_}
 use mathlib.Core.Path.{sym, ap₂, _∙_}
 use mir.Facts.{toZ-ofZ}
-use native.Mathlib.Nat.{div-le-self}
 use Rattle.num.specs.Arithmetic.{divided}
 use Rattle.num.proofs.Arith.{div-none}
-use Rattle.num.proofs.Division.{lowered-less, div-some}
+use Rattle.num.proofs.Division.{lowered-less, up-fits, div-some}
 use borrow.Author.Needs.{needs}
 use native.Mathlib.Omega.{arith}
 use Rattle.num.proofs.div.Statement.{statement}
@@ -33,12 +31,7 @@ below-zero-requires : tie.Need-below-zero-requires
 below-zero-requires c κs = search needs
 
 sub-join : tie.Need-sub-join
-sub-join c =
-    let p = c .before .before .before .before .before .split in
-    let q = c .before .before .before .before .split2 in
-    let u = c .before .before .below-zero in
-    let l = lowered-less (p .result .neg) (q .result .neg) (p .result .mag) in
-    omega (arith, l .0, u .ensures)
+sub-join c = lowered-less _ _ _ _ (c .before .before .below-zero .ensures) .0
 
 div-join : tie.Need-div-join
 div-join c = search needs
@@ -46,10 +39,8 @@ div-join c = search needs
 add-join : tie.Need-add-join
 add-join c =
     let p = c .before .before .before .before .before .split in
-    let q = c .before .before .before .before .split2 in
     let u = c .before .before .below-zero in
-    let l = lowered-less (p .result .neg) (q .result .neg) (p .result .mag) in
-    record { fits = omega (arith, l .0, u .ensures, p .ensures .1, div-le-self (p .result .mag - u .result) (q .result .mag)) }
+    up-fits _ _ (u .result) (omega (arith, p .ensures .1)) (lowered-less _ _ _ _ (u .ensures) .1)
 
 join-requires : tie.Need-join-requires
 join-requires c κs = search needs

@@ -33,12 +33,7 @@ below-zero-requires : tie.Need-below-zero-requires
 below-zero-requires c κs = search needs
 
 sub-left : tie.Need-sub-left
-sub-left c =
-    let p = c .before .before .before .split in
-    let q = c .before .before .split2 in
-    let u = c .below-zero in
-    let l = lowered-less (p .result .neg) (q .result .neg) (p .result .mag) in
-    omega (arith, l .0, u .ensures)
+sub-left c = lowered-less _ _ _ _ (c .below-zero .ensures) .0
 
 rem-left : tie.Need-rem-left
 rem-left c = search needs
