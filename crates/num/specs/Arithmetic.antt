@@ -49,7 +49,7 @@ unfoldable pub multiplied : ℤ → ℤ → Answer
 unfolding fit
 multiplied x y = fit (x *ℤ y)
 
--- the whole number next below x / d, or x / d if that is one; d is above 0
+-- x / d down to the next whole number, or itself if it is one; d is above 0. Of −1 to −d it is −1, of −(d + 1) to −2d it is −2.
 unfoldable pub down : ℤ → ℕ → ℤ
 down (pos m) d = pos (m / d)
 down (negsuc m) d = negsuc (m / d)

@@ -31,7 +31,7 @@ below-zero-requires : tie.Need-below-zero-requires
 below-zero-requires c κs = search needs
 
 sub-join : tie.Need-sub-join
-sub-join c = lowered-less _ _ _ _ (c .before .before .below-zero .ensures) .0
+sub-join c = omega (arith, lowered-less _ _ _ _ (c .before .before .below-zero .ensures) .0)
 
 div-join : tie.Need-div-join
 div-join c = search needs
