@@ -208,7 +208,7 @@ static void divisions(void) {
         { "-greatest by -2", -INT64_MAX, -2 },
         { "greatest by -3", INT64_MAX, -3 },
         { "greatest by -2^32 - 1", INT64_MAX, -4294967297 },
-        { "2^54 by -2^18 - 1", INT64_C(1) << 54, -262145 },
+        { "2^54 + 1 by -2^18 - 1", (INT64_C(1) << 54) + 1, -262145 },
         { "-1 by greatest", -1, INT64_MAX },
     };
     for (uint32_t i = 0; i < sizeof pairs / sizeof *pairs; i++) {
