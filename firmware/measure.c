@@ -186,7 +186,7 @@ static void calculation(const char *name, uint8_t op, const char *operands, int6
     MEASURE_CALL(operands, tessla_move(S, 2));
 }
 
-/* the controller has no divider: a quotient takes a step for each of its bits, and more for a bit that is 1 */
+/* a Cortex-M0+ has no divider: a quotient takes a step for each of its bits, and a longer one for a bit that is 1 */
 static void divisions(void) {
     static const struct {
         const char *operands;
