@@ -172,7 +172,7 @@ static void morning(void) {
 
 /* what the radio delivers after the state was saved */
 static void evening(void) {
-    receive(THERMOMETER, 95, -100);
+    receive(THERMOMETER, 95, -105); /* -10.5 degrees: -105 div 100 is -2, so two grams are added */
     receive(RING, 99, 7041);
     receive(THERMOMETER, 20, 50); /* late: the thermometer is known past 20 */
     receive(BALANCE, 97, 318);

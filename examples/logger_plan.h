@@ -20,7 +20,7 @@ static const char PLAN[] =
     "op=set\na=1\nb=0\nk=1\nout=0\n"      /*  9 a 1 at each weighing */
     "op=keep\na=8\nb=9\nk=0\nout=0\n"     /* 10 the temperature at weighings only */
     "op=set\na=1\nb=0\nk=100\nout=0\n"    /* 11 a 100 at each weighing */
-    "op=div\na=10\nb=11\nk=0\nout=0\n"    /* 12 tens of degrees */
+    "op=div\na=10\nb=11\nk=0\nout=0\n"    /* 12 tens of degrees, down to the next whole number */
     "op=sub\na=1\nb=12\nk=0\nout=1\n";    /* 13 the weight less that */
 
 enum { RING = 0, BALANCE = 1, THERMOMETER = 2, VISITS = 6, WEIGHT = 13 };

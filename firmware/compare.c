@@ -1,6 +1,6 @@
 /*
- * The same calls on x86-64 and on the board: one line a call with its number, its further results and a hash of the whole
- * buffer. The lines must be the same. The last lines say which numbers each call returned.
+ * The same calls on x86-64, on the plain C engine and on the board: one line a call with its number, its further results and a
+ * hash of the whole buffer. The lines must be the same. The last lines say which numbers each call returned.
  */
 #include <string.h>
 
@@ -195,6 +195,47 @@ static void values(void) {
         progress(0, TESSLA_HORIZON);
         progress(1, TESSLA_HORIZON);
         work_off(n);
+    }
+}
+
+/* quotients and remainders of two values at stamp t, and of the same as the latest values */
+static void divide(uint32_t t, int64_t x, int64_t y) {
+    reading(0, t, x);
+    reading(1, t, y);
+    run(9);
+    for (uint32_t s = 2; s < 6; s++) collect(s);
+}
+
+/* divisions: worked cases first, of which firmware/test knows the values; then every combination of signs, mostly inexact */
+static void divisions(void) {
+    static const int64_t WORKED[][2] = {
+        { -7, 2 }, { 7, -2 }, { -7, -2 }, { 7, 2 }, { -6, 2 }, { 0, -5 }, { INT64_MIN, -1 }, { INT64_MIN, 2 }, { INT64_MAX, -1 }, { 5, 0 },
+        { -1, INT64_MAX },
+    };
+    static const int64_t SIDES[] = { 2, -2, 3, -3, 7, -7, 4294967297, -4294967297, INT64_MAX, -INT64_MAX, INT64_MIN };
+    uint32_t t = 0;
+    head("worked divisions");
+    rows[0] = rows[1] = (struct row){ .op = IN };
+    rows[2] = (struct row){ .op = DIV, .b = 1, .out = 1 };
+    rows[3] = (struct row){ .op = REM, .b = 1, .out = 1 };
+    rows[4] = (struct row){ .op = SDIV, .b = 1, .out = 1 };
+    rows[5] = (struct row){ .op = SREM, .b = 1, .out = 1 };
+    load_rows(6);
+    for (uint32_t i = 0; i < COUNT(WORKED); i++) divide(t++, WORKED[i][0], WORKED[i][1]);
+    head("divisions");
+    for (uint32_t i = 0; i < COUNT(SIDES); i++)
+        for (uint32_t j = 0; j < COUNT(SIDES); j++) divide(t++, SIDES[i], SIDES[j]);
+    /* the divisor alone reports: the signal forms keep the dividend */
+    for (uint32_t i = 0; i < COUNT(SIDES); i++) {
+        reading(0, t, SIDES[i]);
+        progress(0, t + 1 + COUNT(SIDES));
+        for (uint32_t j = 0; j < COUNT(SIDES); j++) {
+            reading(1, ++t, SIDES[j]);
+            run(9);
+            while (collect(4) == 0) {}
+            while (collect(5) == 0) {}
+        }
+        t++;
     }
 }
 
@@ -415,6 +456,7 @@ int main(void) {
     state = room;
     text = words;
     values();
+    divisions();
     signals();
     full();
     texts();

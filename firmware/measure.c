@@ -176,6 +176,46 @@ static void signals(void) {
     beside("two inputs, its five streams", five, 7);
 }
 
+/* one move of a calculation to its event, both arguments having one; lt does the same but for the arithmetic */
+static void calculation(const char *name, uint8_t op, const char *operands, int64_t x, int64_t y) {
+    const struct row rows[] = { { .op = IN }, { .op = IN }, { .op = op, .b = 1, .out = 1 } };
+    plan = name;
+    tessla_load(S, text, write_plan(text, rows, 3));
+    tessla_offer_reading(S, 0, 1, x);
+    tessla_offer_reading(S, 1, 1, y);
+    MEASURE_CALL(operands, tessla_move(S, 2));
+}
+
+/* a Cortex-M0+ has no divider: a quotient takes a step for each of its bits, and a longer one for a bit that is 1 */
+static void divisions(void) {
+    static const struct {
+        const char *operands;
+        int64_t x, y;
+    } pairs[] = {
+        { "7 by 2", 7, 2 },
+        { "-7 by 2", -7, 2 },
+        { "7 by -2", 7, -2 },
+        { "-7 by -2", -7, -2 },
+        { "-6 by 2", -6, 2 },
+        { "greatest by 1", INT64_MAX, 1 },
+        { "greatest by -1", INT64_MAX, -1 },
+        { "least by 1", INT64_MIN, 1 },
+        { "greatest by -3", INT64_MAX, -3 },
+        { "2^54 + 1 by -2^18 - 1", (INT64_C(1) << 54) + 1, -262145 },
+        { "-1 by greatest", -1, INT64_MAX },
+    };
+    for (uint32_t i = 0; i < sizeof pairs / sizeof *pairs; i++) {
+        calculation("one lt", LT, pairs[i].operands, pairs[i].x, pairs[i].y);
+        calculation("one div", DIV, pairs[i].operands, pairs[i].x, pairs[i].y);
+        calculation("one rem", REM, pairs[i].operands, pairs[i].x, pairs[i].y);
+    }
+    calculation("one add", ADD, "-7 by 2", -7, 2);
+    calculation("one mul", MUL, "-7 by 2", -7, 2);
+    calculation("one slt", SLT, "-7 by 2", -7, 2);
+    calculation("one sdiv", SDIV, "-7 by 2", -7, 2);
+    calculation("one srem", SREM, "-7 by 2", -7, 2);
+}
+
 /* the visits of one nest box, six streams from s on */
 static uint32_t box(struct row *r, uint32_t s) {
     uint8_t b = (uint8_t)s;
@@ -232,6 +272,7 @@ int main(void) {
     }
     measure("32 streams, every operator", rows, 32);
     signals();
+    divisions();
     put("stack|");
     put_number(deep);
     put("\n");

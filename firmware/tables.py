@@ -80,6 +80,16 @@ for plan in ['two inputs alone', 'two inputs, a signal form', 'two inputs, its f
     cells = ['%s | %s' % (count(zone(n, plan)[1]), count(int(zone(n, plan)[1]) - int(zone(n, 'two inputs alone')[1]))) for n in names]
     print('| %s | %s | %s | %s |' % (plan, zone(c, plan)[0], ' | '.join(cells), ms(zone(c, plan)[2])))
 print()
+print('One move of a division to its event, and what div and rem take beside the same move of lt, which divides nothing:')
+print()
+print('| operands | %s |' % ' | '.join('%s, instructions with lt | div | rem' % CORES[n] for n in names))
+print('|---|%s' % ('---:|---:|---:|' * len(names)))
+for operands in [call for plan, call in zones[c] if plan == 'one lt']:
+    instructions = lambda n, plan: int(zones[n][plan, operands][1])
+    cells = ['%s | +%s | +%s' % tuple(count(x) for x in (instructions(n, 'one lt'), instructions(n, 'one div') - instructions(n, 'one lt'),
+             instructions(n, 'one rem') - instructions(n, 'one lt'))) for n in names]
+    print('| %s | %s |' % (operands, ' | '.join(cells)))
+print()
 print('Where the cycles of a reading to rest go (%s):' % CORES[c])
 print()
 print('| plan | functions |')

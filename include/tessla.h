@@ -60,10 +60,13 @@ extern "C" {
  * The version of the calls and of the state's layout. The first part changes when a program that works today would not; the
  * second grows with everything new. A state saved under a version is read by every later one.
  *   1.2   the operators sadd, ssub, smul, sdiv, srem, slt, sle, seq in a plan; an earlier engine refuses such a text 4
+ *   1.3   div, rem, sdiv, srem: a quotient goes down to the next whole number and the remainder has the divisor's sign, -7 div 2
+ *         is -4, rem 1; before, it was cut toward zero, -3, rem -1. A state saved before 1.3 is read and goes on by the new
+ *         rule from where it is; what it holds stays as it came in.
  */
 #define TESSLA_VERSION_MAJOR 1
-#define TESSLA_VERSION_MINOR 2
-#define TESSLA_VERSION "1.2"
+#define TESSLA_VERSION_MINOR 3
+#define TESSLA_VERSION "1.3"
 
 /* The length of the state in bytes. Any other length is refused 15. */
 #define TESSLA_STATE_LENGTH 12288

@@ -1,6 +1,6 @@
-"""The definition, from document 01's operator table, the rules under it and document 02's signal forms: a plan and the readings
-of its inputs give to every stream its events. Plain and in one go, stamp by stamp; it knows nothing of calls, bounds or held
-events."""
+"""The definition, from document 01's operator table, the rules under it, and document 02's signal forms and rule of division: a
+plan and the readings of its inputs give to every stream its events. Plain and in one go, stamp by stamp; it knows nothing of
+calls, bounds or held events."""
 import heapq
 
 LAST_STAMP = 4294967295
@@ -12,9 +12,8 @@ def within(x):
 
 
 def quotient(x, y):
-    """Cut toward zero."""
-    q = abs(x) // abs(y)
-    return q if (x < 0) == (y < 0) else -q
+    """"a quotient goes down to the next whole number", as Python's own does."""
+    return x // y
 
 
 CALCULATE = {
@@ -22,7 +21,7 @@ CALCULATE = {
     "sub": lambda x, y: within(x - y),
     "mul": lambda x, y: within(x * y),
     "div": lambda x, y: None if y == 0 else within(quotient(x, y)),
-    "rem": lambda x, y: None if y == 0 else x - y * quotient(x, y),
+    "rem": lambda x, y: None if y == 0 else x - y * quotient(x, y),  # "the remainder has the divisor's sign"
     "lt": lambda x, y: int(x < y),
     "le": lambda x, y: int(x <= y),
     "eq": lambda x, y: int(x == y),

@@ -1,10 +1,11 @@
 #!/usr/bin/env python3
-"""The day of plans/weight and the evening of plans/light, apart from the engine: the day's readings, and what must be printed
-of both, by the arithmetic of the questions. Without an argument it compares the files with this; `tests/weight.py --write`
-writes the day's readings-0.txt, readings-1.txt and expected.txt. Run at the top of the repository."""
+"""The day of plans/weight, the evening of plans/light and the night of plans/hill, apart from the engine: the day's readings,
+and what must be printed of all three, by the arithmetic of the questions. Without an argument it compares the files with this;
+`tests/weight.py --write` writes the day's readings-0.txt, readings-1.txt and expected.txt. Run at the top of the repository."""
 import re
 import sys
 from fractions import Fraction
+from math import floor
 
 MINUTE, HOUR, DAY = 60, 3600, 86400
 # a cold clear day, in tenths of a degree, at each full hour
@@ -23,15 +24,15 @@ def weighing(stamp):
     return box + (19 if inside(minute) else 0) + round(TEMPERATURES[stamp // HOUR] / 100) + (1 if minute * minute % 7 == 2 else 0)
 
 
-def cut(x, y):
-    """The quotient cut toward zero, y above 0."""
-    return x // y if x >= 0 else -(-x // y)
+def quotient(x, y):
+    """Document 02: "a quotient goes down to the next whole number", by fractions."""
+    return floor(Fraction(x, y))
 
 
 def results(stamp):
     """The last known temperature at or before a weighing, and the weight less one gram for each ten degrees."""
     temperature = TEMPERATURES[stamp // HOUR]
-    return temperature, weighing(stamp) - cut(temperature, 100)
+    return temperature, weighing(stamp) - quotient(temperature, 100)
 
 
 def printed(stamps):
@@ -86,13 +87,33 @@ def evening(trace):
     return lines
 
 
-def compare_evening():
-    with open("plans/light/trace.txt", encoding="ascii") as file:
-        lines = evening(file)
-    with open("plans/light/expected.txt", encoding="ascii") as file:
+# ---- plans/hill
+
+def night(trace):
+    """What the lines of a trace print: at each full hour the mean of the readings since the full hour before, if there is one,
+    and not before the thermometer is known to that hour."""
+    hour, readings, lines = 0, [], []
+    for line in trace:
+        bound, stamp, value = re.fullmatch(r"s=0 (?:p=(\d+)|t=(\d+) v=(-?\d+))\n", line).groups()
+        known = int(bound) if bound else int(stamp) + 1
+        if stamp:
+            readings.append((int(stamp), int(value)))
+        while hour + HOUR <= known:
+            values = [v for t, v in readings if hour <= t < hour + HOUR]
+            hour += HOUR
+            if values:
+                lines.append("s=20 t=%d v=%d\n" % (hour, quotient(sum(values), len(values))))
+    return lines
+
+
+def compare(folder, printed):
+    """What is worked out of a folder's trace stands in its expected.txt; gives how many lines that are."""
+    with open(folder + "/trace.txt", encoding="ascii") as file:
+        lines = printed(file)
+    with open(folder + "/expected.txt", encoding="ascii") as file:
         if file.readlines() != lines:
-            sys.exit("plans/light/expected.txt is not what is worked out here")
-    print("the evening of plans/light: %d answers" % len(lines))
+            sys.exit("%s/expected.txt is not what is worked out here" % folder)
+    return len(lines)
 
 
 def main(write):
@@ -103,7 +124,8 @@ def main(write):
             elif file.readlines() != lines:
                 sys.exit("%s is not what is worked out here" % path)
     print("the day of plans/weight: %d weighings, %d temperatures" % (DAY // MINUTE, len(TEMPERATURES)))
-    compare_evening()
+    print("the evening of plans/light: %d answers" % compare("plans/light", evening))
+    print("the night of plans/hill: %d means" % compare("plans/hill", night))
 
 
 if __name__ == "__main__":

@@ -21,21 +21,16 @@ def within(x):
     return x if LEAST <= x <= GREATEST else NONE
 
 
-def quotient(x, y):
-    q = abs(x) // abs(y)
-    return q if (x < 0) == (y < 0) else -q
-
-
 def calculated(op, x, y):
-    """Of two values that are known."""
+    """Of two values that are known. Python's // goes down to the next whole number, and its % has the divisor's sign."""
     if op in ("div", "rem") and y == 0:
         return NONE
     return within({
         "add": lambda: x + y,
         "sub": lambda: x - y,
         "mul": lambda: x * y,
-        "div": lambda: quotient(x, y),
-        "rem": lambda: x - y * quotient(x, y),
+        "div": lambda: x // y,
+        "rem": lambda: x % y,
         "lt": lambda: int(x < y),
         "le": lambda: int(x <= y),
         "eq": lambda: int(x == y),

@@ -349,6 +349,15 @@ static struct maybe one_value(unsigned op, int64_t k, uint64_t t, int64_t x) {
     }
 }
 
+/*
+ * "a quotient goes down to the next whole number and the remainder has the divisor's sign". C's / cuts toward zero and its %
+ * has the dividend's sign: the same but where something is left and the quotient lies below zero. y is not 0, nor -1 with the
+ * least x.
+ */
+static bool cut_above(int64_t x, int64_t y) { return (x < 0) != (y < 0) && x % y != 0; }
+static int64_t quotient(int64_t x, int64_t y) { return cut_above(x, y) ? x / y - 1 : x / y; }
+static int64_t left_over(int64_t x, int64_t y) { return cut_above(x, y) ? x % y + y : x % y; }
+
 static struct maybe two_values(unsigned op, struct maybe a, struct maybe b) {
     int64_t v;
     if (op == MERGE) return or_else(a, b);
@@ -357,8 +366,8 @@ static struct maybe two_values(unsigned op, struct maybe a, struct maybe b) {
     case ADD: return __builtin_add_overflow(a.v, b.v, &v) ? NOTHING : some(v);
     case SUB: return __builtin_sub_overflow(a.v, b.v, &v) ? NOTHING : some(v);
     case MUL: return __builtin_mul_overflow(a.v, b.v, &v) ? NOTHING : some(v);
-    case DIV: return b.v == 0 || (a.v == INT64_MIN && b.v == -1) ? NOTHING : some(a.v / b.v);
-    case REM: return b.v == 0 ? NOTHING : some(b.v == -1 ? 0 : a.v % b.v);
+    case DIV: return b.v == 0 || (a.v == INT64_MIN && b.v == -1) ? NOTHING : some(quotient(a.v, b.v));
+    case REM: return b.v == 0 ? NOTHING : some(b.v == -1 ? 0 : left_over(a.v, b.v));
     case LT: return some(a.v < b.v);
     case LE: return some(a.v <= b.v);
     case EQ: return some(a.v == b.v);

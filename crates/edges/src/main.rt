@@ -2,7 +2,7 @@
 use libc::STDOUT_FILENO;
 use num::Answer;
 
-const EDGES: [i64; 22] = [
+const EDGES: [i64; 25] = [
     -9223372036854775808,
     -9223372036854775807,
     -9223372036854775806,
@@ -12,11 +12,14 @@ const EDGES: [i64; 22] = [
     -4294967296,
     -3037000500,
     -7,
+    -6,
+    -5,
     -2,
     -1,
     0,
     1,
     2,
+    5,
     7,
     2147483648,
     3037000499,
@@ -80,7 +83,7 @@ fn print_row(x: i64) {
     print_neg(x);
     let edges = EDGES;
     let mut j: usize = 0;
-    while j < 22 {
+    while j < 25 {
         print_pair(x, edges[j]);
         j += 1;
     }
@@ -89,7 +92,7 @@ fn print_row(x: i64) {
 fn main() {
     let edges = EDGES;
     let mut i: usize = 0;
-    while i < 22 {
+    while i < 25 {
         print_row(edges[i]);
         i += 1;
     }

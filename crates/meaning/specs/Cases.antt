@@ -78,9 +78,9 @@ cases =
     -- M7: delay 10 at stamp 3, no set point there: nothing. M8: delay 0 at a set point: nothing.
     ∷ delayed (ev 3 (pos 10) ∷ []) [] []
     ∷ delayed (ev 0 (pos 0) ∷ []) (ev 0 (pos 1) ∷ []) []
-    -- M9: −7 div 2 is −3, rem −1
-    ∷ binary (calc div) (ev 0 (negsuc 6) ∷ []) (ev 0 (pos 2) ∷ []) (ev 0 (negsuc 2) ∷ [])
-    ∷ binary (calc rem) (ev 0 (negsuc 6) ∷ []) (ev 0 (pos 2) ∷ []) (ev 0 (negsuc 0) ∷ [])
+    -- M9, as amended: −7 div 2 is −4, rem 1; and 7 div −2 is −4, rem −1
+    ∷ binary (calc div) (ev 0 (negsuc 6) ∷ ev 1 (pos 7) ∷ []) (ev 0 (pos 2) ∷ ev 1 (negsuc 1) ∷ []) (ev 0 (negsuc 3) ∷ ev 1 (negsuc 3) ∷ [])
+    ∷ binary (calc rem) (ev 0 (negsuc 6) ∷ ev 1 (pos 7) ∷ []) (ev 0 (pos 2) ∷ ev 1 (negsuc 1) ∷ []) (ev 0 (pos 1) ∷ ev 1 (negsuc 0) ∷ [])
     -- M10: the least value div −1: none; rem −1: 0
     ∷ binary (calc div) (ev 0 least ∷ []) (ev 0 (negsuc 0) ∷ []) []
     ∷ binary (calc rem) (ev 0 least ∷ []) (ev 0 (negsuc 0) ∷ []) (ev 0 (pos 0) ∷ [])
@@ -115,6 +115,9 @@ cases =
     -- a zero divisor gives none and is still the latest value; so with a result outside the range, not made up for later
     ∷ signaled div (ev 1 (pos 8) ∷ ev 4 (pos 9) ∷ []) (ev 2 (pos 0) ∷ ev 3 (pos 2) ∷ []) (ev 3 (pos 4) ∷ ev 4 (pos 4) ∷ [])
     ∷ signaled add (ev 1 greatest ∷ []) (ev 1 (pos 1) ∷ ev 3 (pos 0) ∷ []) (ev 3 greatest ∷ [])
+    -- its quotients go down too, and its remainders have the divisor's sign: −7 by 2, then by −2
+    ∷ signaled div (ev 1 (negsuc 6) ∷ []) (ev 1 (pos 2) ∷ ev 2 (negsuc 1) ∷ []) (ev 1 (negsuc 3) ∷ ev 2 (pos 3) ∷ [])
+    ∷ signaled rem (ev 1 (negsuc 6) ∷ []) (ev 1 (pos 2) ∷ ev 2 (negsuc 1) ∷ []) (ev 1 (pos 1) ∷ ev 2 (negsuc 0) ∷ [])
     -- an argument whose own result is missing keeps its older value
     ∷ case (input ∷ one (plus (pos 1)) 0 ∷ input ∷ signal add 1 2 ∷ []) ((ev 1 (pos 5) ∷ ev 3 greatest ∷ []) ∷ [] ∷ (ev 3 (pos 10) ∷ []) ∷ []) 3 6 (ev 3 (pos 16) ∷ [])
     -- both arguments one stream; a comparison at every change of either

@@ -3,9 +3,8 @@ use Prim.Native.Nat.{ℕ, zero, suc, _+_, _*_, _-_, _/_, _%_, _^_, _<_, _≤_, m
 use mathlib.Core.Path.{_≡_, refl, sym, ap, _∙_, subst}
 use mathlib.Core.Bool.{Bool, true, false, not, Bool·beq}
 use native.Mathlib.Omega.{arith}
-use native.Mathlib.Nat.{add-zero, sub-zero, mul-zero, zero-mul, zero-div, zero-mod, le-trans, mul-le-mul-left, mul-le-mul-right, mul-add, mul-assoc, mul-comm, div-add-mod'}
+use native.Mathlib.Nat.{add-zero, sub-zero, mul-zero, zero-mul, le-trans, mul-le-mul-left, mul-le-mul-right, mul-add, mul-assoc, mul-comm, div-add-mod'}
 use lib.IntN.{ℤ, pos, negsuc, negℤ, _+ℤ_, _*ℤ_, negℤ-+ℤ, negℤ-negℤ, +ℤ-comm}
-use lib.Signed.{quotZ, remZ}
 use lib.Dec.{T, lit<}
 use mir.Syntax.{w64}
 use mir.Val.{Fits, toZ, ofZ}
@@ -54,7 +53,7 @@ sum-same false true m n e = never e
 sum-same true false m n e = never e
 sum-same true true m n e = sym (negℤ-+ℤ (pos m) (pos n))
 
-less : (m n : ℕ) → n ≤ m → pos m +ℤ negℤ (pos n) ≡ pos (m - n)
+pub less : (m n : ℕ) → n ≤ m → pos m +ℤ negℤ (pos n) ≡ pos (m - n)
 less m zero h = ap pos (add-zero m ∙ sym (sub-zero m))
 less m (suc n) h = rw (le-ltb m (suc n) h)
 
@@ -78,7 +77,7 @@ pub negated-parts : (s : Bool) (m : ℕ) → signed (not s) m ≡ negℤ (signed
 negated-parts false m = refl
 negated-parts true m = sym (negℤ-negℤ (pos m))
 
--- ---- products, quotients, remainders
+-- ---- products
 
 pub product : (s t : Bool) (m n : ℕ) → signed s m *ℤ signed t n ≡ signed (not (Bool·beq s t)) (m * n)
 product false false m n = refl
@@ -91,21 +90,7 @@ product true true zero (suc n) = rw zero-mul
 product true true (suc m) zero = rw mul-zero
 product true true (suc m) (suc n) = refl
 
-quotient : (s t : Bool) (m n : ℕ) → quotZ (signed s m) (signed t (suc n)) ≡ signed (not (Bool·beq s t)) (m / suc n)
-quotient false false m n = refl
-quotient false true m n = refl
-quotient true false zero n = rw zero-div
-quotient true false (suc m) n = refl
-quotient true true zero n = rw zero-div
-quotient true true (suc m) n = refl
-
-rest : (s t : Bool) (m n : ℕ) → remZ (signed s m) (signed t (suc n)) ≡ signed s (m % suc n)
-rest false false m n = refl
-rest false true m n = refl
-rest true false zero n = rw zero-mod
-rest true false (suc m) n = refl
-rest true true zero n = rw zero-mod
-rest true true (suc m) n = refl
+-- ---- zero divisors
 
 -- whether a number in sign and magnitude is 0
 zero-is : (t : Bool) (n : ℕ) → n ≡ 0 → isZero (signed t n) ≡ true
@@ -113,7 +98,7 @@ unfolding isZero
 zero-is false n e = rw e
 zero-is true n e = rw e
 
-zero-not : (t : Bool) (n : ℕ) → isZero (signed t (suc n)) ≡ false
+pub zero-not : (t : Bool) (n : ℕ) → isZero (signed t (suc n)) ≡ false
 unfolding isZero
 zero-not false n = ne-eqb (suc n) 0 (λ e. omega arith)
 zero-not true n = refl
@@ -125,16 +110,6 @@ div-none a t n e = rw (zero-is t n e)
 pub rem-none : (a : ℤ) (t : Bool) (n : ℕ) → n ≡ 0 → remainder a (signed t n) ≡ ZeroDivisor
 unfolding remainder
 rem-none a t n e = rw (zero-is t n e)
-
-pub div-some : (s t : Bool) (m n : ℕ) → 0 < n → divided (signed s m) (signed t n) ≡ fit (signed (not (Bool·beq s t)) (m / n))
-unfolding divided
-div-some s t m zero h = absurd (omega arith)
-div-some s t m (suc n) h = rw (zero-not t n) (ap fit (quotient s t m n))
-
-pub rem-some : (s t : Bool) (m n : ℕ) → 0 < n → remainder (signed s m) (signed t n) ≡ fit (signed s (m % n))
-unfolding remainder
-rem-some s t m zero h = absurd (omega arith)
-rem-some s t m (suc n) h = rw (zero-not t n) (ap fit (rest s t m n))
 
 -- ---- products by halves
 

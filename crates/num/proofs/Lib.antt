@@ -1,2 +1,4 @@
 pub mod Signed
 pub mod Arith
+pub mod Division
+pub mod Values

@@ -1,9 +1,9 @@
 -- Believe: arithmetic on values: each operation over all whole numbers, and one test that says whether the result is a value.
-use Prim.Native.Nat.{_^_, _-_}
+use Prim.Native.Nat.{ℕ, suc, _^_, _-_, _/_}
 use mathlib.Core.Bool.{Bool, true, false, cond}
 use lib.Dec.{eqb}
 use lib.IntN.{ℤ, pos, negsuc, negℤ, _+ℤ_, _-ℤ_, _*ℤ_}
-use lib.Signed.{leZ, ltZ, quotZ, remZ}
+use lib.Signed.{leZ, ltZ}
 use Rattle.num.specs.declared.Answer.{Answer}
 use Rattle.num.specs.declared.Answer.the-variants.{Value, Outside, ZeroDivisor}
 
@@ -49,15 +49,30 @@ unfoldable pub multiplied : ℤ → ℤ → Answer
 unfolding fit
 multiplied x y = fit (x *ℤ y)
 
--- Division cuts toward zero. A zero divisor is said first.
-unfoldable pub divided : ℤ → ℤ → Answer
-unfolding fit isZero
-divided x y = cond (isZero y) ZeroDivisor (fit (quotZ x y))
+-- x / d down to the next whole number, or itself if it is one; d is above 0. Of −1 to −d it is −1, of −(d + 1) to −2d it is −2.
+unfoldable pub down : ℤ → ℕ → ℤ
+down (pos m) d = pos (m / d)
+down (negsuc m) d = negsuc (m / d)
 
--- The remainder has the dividend's sign.
+-- "a quotient goes down to the next whole number": below zero too. x / −d is −x / d.
+unfoldable pub quotient : ℤ → ℤ → ℤ
+unfolding down
+quotient x (pos d) = down x d
+quotient x (negsuc n) = down (negℤ x) (suc n)
+
+-- what the quotient leaves; it "has the divisor's sign" (Division)
+unfoldable pub rest : ℤ → ℤ → ℤ
+unfolding quotient
+rest x y = x -ℤ quotient x y *ℤ y
+
+-- A zero divisor is said first.
+unfoldable pub divided : ℤ → ℤ → Answer
+unfolding fit isZero quotient
+divided x y = cond (isZero y) ZeroDivisor (fit (quotient x y))
+
 unfoldable pub remainder : ℤ → ℤ → Answer
-unfolding fit isZero
-remainder x y = cond (isZero y) ZeroDivisor (fit (remZ x y))
+unfolding fit isZero rest
+remainder x y = cond (isZero y) ZeroDivisor (fit (rest x y))
 
 -- lt, le and eq give 1 or 0
 unfoldable pub less : ℤ → ℤ → Answer

@@ -1,2 +1,3 @@
 pub mod Arithmetic
+pub mod Division
 pub mod Parts

@@ -5,7 +5,7 @@ ghost use Prim.Native.Nat.{_≤_, _^_, _*_, _+_, min};
 ghost use mir.Syntax.{w64};
 ghost use mir.Val.{toZ, ofZ};
 ghost use Rattle.num.specs.Arithmetic.{fit, truth, negated, added, subtracted, multiplied, divided, remainder, less, atMost, equal};
-ghost use Rattle.num.specs.Parts.{signed, of};
+ghost use Rattle.num.specs.Parts.{signed, of, lowered};
 
 // What an operation answers.
 pub enum Answer {
@@ -170,7 +170,20 @@ pub fn mul(a: i64, b: i64) -> Answer
     join(p.neg != q.neg, product(p.mag, q.mag))
 }
 
-// The quotient, cut toward zero.
+// 1 where a quotient lies below zero, else 0: the signs differ, and the dividend's magnitude is not 0.
+fn below_zero(s: bool, t: bool, m: u64) -> u64
+    ensures { λ r. ⌜ r ≡ lowered s t m ⌝ }
+{
+    if m == 0 {
+        return 0;
+    }
+    if s == t {
+        return 0;
+    }
+    1
+}
+
+// The quotient, down to the next whole number: below zero the magnitude goes up. One division, of m − 1 there, does both.
 pub fn div(a: i64, b: i64) -> Answer
     ensures { λ r. ⌜ r ≡ divided a b ⌝ }
 {
@@ -181,10 +194,11 @@ pub fn div(a: i64, b: i64) -> Answer
     if n == 0 {
         return Answer::ZeroDivisor;
     }
-    join(p.neg != q.neg, m / n)
+    let up = below_zero(p.neg, q.neg, m);
+    join(p.neg != q.neg, (m - up) / n + up)
 }
 
-// The remainder, with the dividend's sign.
+// The remainder, with the divisor's sign: what the quotient leaves.
 pub fn rem(a: i64, b: i64) -> Answer
     ensures { λ r. ⌜ r ≡ remainder a b ⌝ }
 {
@@ -195,7 +209,12 @@ pub fn rem(a: i64, b: i64) -> Answer
     if n == 0 {
         return Answer::ZeroDivisor;
     }
-    join(p.neg, m % n)
+    let less = below_zero(p.neg, q.neg, m);
+    let left = (m - less) % n;
+    if less == 1 {
+        return join(q.neg, n - 1 - left);
+    }
+    join(q.neg, left)
 }
 
 // 1 for yes, 0 for no.

@@ -1,16 +1,15 @@
 -- Whatever an equation gives or keeps of sound cells is a value.
-use Prim.Native.Nat.{ℕ, zero, suc, _-_, _^_, _<_}
-use mathlib.Core.Path.{_≡_, refl}
+use Prim.Native.Nat.{ℕ, zero, suc, _<_}
 use mathlib.Core.Bool.{Bool, true, false, cond, _||_}
 use mathlib.Core.Option.{Option, none, some}
 use mathlib.Core.List.{List, [], _∷_}
 use native.Mathlib.Omega.{arith}
-use lib.Dec.{ltb, eqb, leb, lit<}
-use lib.IntN.{ℤ, pos, negsuc, negℤ, _+ℤ_, _-ℤ_, _*ℤ_}
-use lib.Signed.{ltZ, leZ, quotZ, remZ}
-use borrow.Author.Tests.{ltb-true, leb-true}
+use lib.Dec.{eqb, lit<}
+use lib.IntN.{ℤ}
+use Rattle.num.specs.declared.Answer.{Answer}
 use Rattle.num.specs.declared.Answer.the-variants.{Value, Outside, ZeroDivisor}
-use Rattle.num.specs.Arithmetic.{fit, isZero, truth, same, negated, added, subtracted, multiplied, divided, remainder, less, atMost, equal}
+use Rattle.num.specs.Arithmetic.{isZero, negated, added}
+use Rattle.num.proofs.Values.{InRange, negated-in, added-in, subtracted-in, multiplied-in, divided-in, remainder-in, less-in, atMost-in, equal-in}
 use Rattle.meaning.specs.Plan.{Unary, time, neg, set, plus, Calc, add, sub, mul, div, rem, lt, le, eq, Binary, calc, keep, merge, Eqn, input, nil, unit, one, two, last, delay, signal}
 use Rattle.meaning.specs.Events.{Event, Stream, found, has, orElse, horizon}
 use Rattle.meaning.specs.Table.{valueOf, one-at, calculated, two-at, unit-at, latest, last-at, signal-at, delay-at}
@@ -21,38 +20,22 @@ use Rattle.encoding.specs.Sound.{IsValue, IsOptional, Rising, IsKept, SoundCell
 
 -- ---- arithmetic
 
-fit-value : (z : ℤ) → IsOptional (valueOf (fit z))
-unfolding valueOf fit
-fit-value (pos n) = go (ltb n (2 ^ 63)) refl
-  where
-    go : (b : Bool) → ltb n (2 ^ 63) ≡ b → IsOptional (valueOf (cond b (Value (pos n)) Outside))
-    go true e = ltb-true n (2 ^ 63) e
-    go false e = tt
-fit-value (negsuc n) = go (leb n (2 ^ 63 - 1)) refl
-  where
-    go : (b : Bool) → leb n (2 ^ 63 - 1) ≡ b → IsOptional (valueOf (cond b (Value (negsuc n)) Outside))
-    go true e = let h = leb-true n (2 ^ 63 - 1) e in omega arith
-    go false e = tt
+answer-value : (a : Answer) → InRange a → IsOptional (valueOf a)
+unfolding valueOf
+answer-value (Value v) h = h
+answer-value Outside h = tt
+answer-value ZeroDivisor h = tt
 
-truth-value : (b : Bool) → IsOptional (valueOf (truth b))
-unfolding valueOf truth
-truth-value true = lit< tt
-truth-value false = lit< tt
-
-unless-zero : (b : Bool) (z : ℤ) → IsOptional (valueOf (cond b ZeroDivisor (fit z)))
-unless-zero true z = unfold valueOf in tt
-unless-zero false z = fit-value z
-
-calc-value : (g : Calc) (x y : ℤ) → IsOptional (valueOf (calculated g x y))
-unfolding calculated added subtracted multiplied divided remainder less atMost equal
-calc-value add x y = fit-value (x +ℤ y)
-calc-value sub x y = fit-value (x -ℤ y)
-calc-value mul x y = fit-value (x *ℤ y)
-calc-value div x y = unless-zero (isZero y) (quotZ x y)
-calc-value rem x y = unless-zero (isZero y) (remZ x y)
-calc-value lt x y = truth-value (ltZ x y)
-calc-value le x y = truth-value (leZ x y)
-calc-value eq x y = truth-value (same x y)
+calc-in : (g : Calc) (x y : ℤ) → InRange (calculated g x y)
+unfolding calculated
+calc-in add x y = added-in x y
+calc-in sub x y = subtracted-in x y
+calc-in mul x y = multiplied-in x y
+calc-in div x y = divided-in x y
+calc-in rem x y = remainder-in x y
+calc-in lt x y = less-in x y
+calc-in le x y = atMost-in x y
+calc-in eq x y = equal-in x y
 
 -- ---- options
 
@@ -76,18 +59,18 @@ latest-value f h (suc t) = or-value (f t) (latest f t) (h t) (latest-value f h t
 -- ---- the rows
 
 one-value : (f : Unary) (t : ℕ) (x : Option ℤ) → t < horizon → IsValue (operators.unaryValue f) → IsOptional (one-at f t x)
-unfolding one-at negated added
+unfolding one-at
 one-value f t none h k = tt
 one-value time t (some x) h k = omega arith
-one-value neg t (some x) h k = fit-value (negℤ x)
+one-value neg t (some x) h k = answer-value (negated x) (negated-in x)
 one-value (set v) t (some x) h k = k
-one-value (plus v) t (some x) h k = fit-value (x +ℤ v)
+one-value (plus v) t (some x) h k = answer-value (added x v) (added-in x v)
 
 two-value : (g : Binary) (x y : Option ℤ) → IsOptional x → IsOptional y → IsOptional (two-at g x y)
 unfolding two-at
 two-value (calc g) none y h k = tt
 two-value (calc g) (some x) none h k = tt
-two-value (calc g) (some x) (some y) h k = calc-value g x y
+two-value (calc g) (some x) (some y) h k = answer-value (calculated g x y) (calc-in g x y)
 two-value keep none y h k = tt
 two-value keep (some x) none h k = tt
 two-value keep (some x) (some y) h k = cond-value (isZero y) none (some x) tt h

@@ -1,6 +1,6 @@
-//! The definition, from document 01's operator table, the rules under it and document 02's signal forms: a plan and the readings
-//! of its inputs give for every stream a map from stamp to value. Batch and plain; it knows nothing of calls, bounds or held
-//! events.
+//! The definition, from document 01's operator table, the rules under it, and document 02's signal forms and rule of division: a
+//! plan and the readings of its inputs give for every stream a map from stamp to value. Batch and plain; it knows nothing of
+//! calls, bounds or held events.
 
 use crate::plan::{Op, Stream};
 use std::collections::{BTreeMap, BTreeSet};
@@ -83,19 +83,42 @@ fn within(x: i128) -> Option<i64> {
     i64::try_from(x).ok()
 }
 
+/// "a quotient goes down to the next whole number and the remainder has the divisor's sign": of the whole numbers that are not
+/// above x / y the greatest. One is not above it exactly if what it leaves of x is 0 or has y's sign.
+fn quotient(x: i128, y: i128) -> i128 {
+    let not_above = |q: &i128| {
+        let left = x - q * y;
+        left == 0 || (left < 0) == (y < 0)
+    };
+    // wherever Rust's own / rounds to, it is less than 1 away
+    [1, 0, -1].map(|away| x / y + away).into_iter().find(not_above).unwrap()
+}
+
 fn calculate(op: Op, x: i128, y: i128) -> Option<i64> {
     match op {
         Op::Add => within(x + y),
         Op::Sub => within(x - y),
         Op::Mul => within(x * y),
-        // Rust's / cuts toward zero and its % has the dividend's sign
-        Op::Div => if y == 0 { None } else { within(x / y) },
-        Op::Rem => if y == 0 { None } else { within(x % y) },
+        // "a zero divisor, gives no event"
+        Op::Div => if y == 0 { None } else { within(quotient(x, y)) },
+        Op::Rem => if y == 0 { None } else { within(x - quotient(x, y) * y) },
         Op::Lt => Some((x < y) as i64),
         Op::Le => Some((x <= y) as i64),
         Op::Eq => Some((x == y) as i64),
         _ => unreachable!("{op:?} is no calculation"),
     }
+}
+
+/// How many events of a stream come of a quotient below zero that is not whole: where it matters that it goes down.
+pub fn rounded(plan: &[Stream], streams: &[Events], s: usize) -> u64 {
+    let Stream { op, a, b, .. } = plan[s];
+    if !matches!(op.on_signals().unwrap_or(op), Op::Div | Op::Rem) {
+        return 0;
+    }
+    // at an event of div or rem both arguments have one, of a signal form both have had one
+    let latest = |argument: usize, t: u32| *streams[argument].range(..=t).next_back().unwrap().1 as i128;
+    let below_zero = |x: i128, y: i128| (x < 0) != (y < 0) && x % y != 0;
+    streams[s].keys().filter(|t| below_zero(latest(a, **t), latest(b, **t))).count() as u64
 }
 
 /// All events at stamps below `until`; none if more than `most` stamps would have to be looked at.

@@ -4,7 +4,7 @@
 
 use crate::engine::{Answer, Call, STATE_LENGTH};
 use crate::evaluator::{Events, HORIZON};
-use crate::model::at_one_stamp;
+use crate::model::{at_one_stamp, Division};
 use crate::plan::{keeps_cycle_rule, Op, Plan, Stream, OPERATORS};
 
 /// A stream of a state.
@@ -24,10 +24,12 @@ pub struct Record {
     pub latest: [Option<i64>; 2],
 }
 
-#[derive(Clone, PartialEq, Debug)]
+#[derive(Clone, PartialEq, Debug, Default)]
 pub struct Found {
     pub plan: Plan,
     pub records: Vec<Record>,
+    /// not of the bytes: by which rule the calls divide
+    pub division: Division,
 }
 
 fn word(bytes: &[u8], at: usize) -> u64 {
@@ -114,7 +116,7 @@ impl Found {
             return None;
         }
         let (plan, records): (Plan, Vec<Record>) = state.chunks(256).take(n).map(|r| read_record(r, n)).collect::<Option<Vec<_>>>()?.into_iter().unzip();
-        keeps_cycle_rule(&plan).then_some(Found { plan, records })
+        keeps_cycle_rule(&plan).then_some(Found { plan, records, division: Division::Down })
     }
 
     pub fn bytes(&self) -> Vec<u8> {
@@ -138,6 +140,11 @@ impl Found {
             }
         }
         state
+    }
+
+    /// A stream of the plan divides.
+    pub fn divides(&self) -> bool {
+        self.plan.iter().any(|stream| matches!(stream.op.on_signals().unwrap_or(stream.op), Op::Div | Op::Rem))
     }
 
     /// The set points of a delay from its bound on, and the latest below it, which stands for the earlier ones: b's held
@@ -195,9 +202,9 @@ impl Found {
             op if op.on_signals().is_some() => {
                 x.or(z)?;
                 let [x, z] = self.latest(s, t + 1);
-                at_one_stamp(Stream { op: op.on_signals()?, ..stream }, t, x, z)
+                at_one_stamp(Stream { op: op.on_signals()?, ..stream }, self.division, t, x, z)
             }
-            _ => at_one_stamp(stream, t, x, z),
+            _ => at_one_stamp(stream, self.division, t, x, z),
         }
     }
 

@@ -12,3 +12,4 @@ pub mod plan;
 pub mod random;
 pub mod replay;
 pub mod saved;
+pub mod worked;

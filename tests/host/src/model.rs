@@ -1,6 +1,6 @@
 //! A model of the calls on whole histories: every event that ever came in is kept, and the sentences of document 01 ("When
-//! an equation can move", "The calls") and of document 02's signal forms are followed on them. Slow and plain; it has no bytes
-//! and keeps nothing aside.
+//! an equation can move", "The calls"), of document 02's signal forms and of its rule of division are followed on them. Slow and
+//! plain; it has no bytes and keeps nothing aside.
 
 use crate::engine::{Answer, Call};
 use crate::evaluator::{Events, HORIZON};
@@ -74,9 +74,9 @@ impl Model {
             op if op.on_signals().is_some() => {
                 x.or(z)?;
                 let latest = |i: usize| self.events[i].range(..=t as u32).next_back().map(|(_, v)| *v);
-                at_one_stamp(Stream { op: op.on_signals()?, ..stream }, t, latest(stream.a), latest(stream.b))
+                at_one_stamp(Stream { op: op.on_signals()?, ..stream }, Division::Down, t, latest(stream.a), latest(stream.b))
             }
-            _ => at_one_stamp(stream, t, x, z),
+            _ => at_one_stamp(stream, Division::Down, t, x, z),
         }
     }
 
@@ -192,9 +192,35 @@ impl Model {
     }
 }
 
+/// The rule of division: document 02's, and the one before it, by which versions up to 1.2 worked out what they saved.
+#[derive(Clone, Copy, PartialEq, Eq, Debug, Default)]
+pub enum Division {
+    /// "a quotient goes down to the next whole number and the remainder has the divisor's sign"
+    #[default]
+    Down,
+    /// "Division cuts toward zero and the remainder has the dividend's sign."
+    TowardZero,
+}
+
+impl Division {
+    /// Quotient and remainder; none for "a zero divisor".
+    fn of(self, x: i64, y: i64) -> Option<(i128, i128)> {
+        let (x, y) = (x as i128, y as i128);
+        if y == 0 {
+            return None;
+        }
+        // Rust's % has the dividend's sign; a y more and once again, it has y's
+        let left = match self {
+            Division::Down => (x % y + y) % y,
+            Division::TowardZero => x % y,
+        };
+        Some(((x - left) / y, left))
+    }
+}
+
 /// The table's rows of document 01 that look at one stamp alone: all but last and delay, and no signal form. x and z are the
 /// arguments' events.
-pub fn at_one_stamp(stream: Stream, t: u64, x: Option<i64>, z: Option<i64>) -> Option<i64> {
+pub fn at_one_stamp(stream: Stream, division: Division, t: u64, x: Option<i64>, z: Option<i64>) -> Option<i64> {
     match stream.op {
         Op::In | Op::Nil => None,
         Op::Unit => (t == 0).then_some(0),
@@ -205,11 +231,8 @@ pub fn at_one_stamp(stream: Stream, t: u64, x: Option<i64>, z: Option<i64>) -> O
         Op::Add => x?.checked_add(z?),
         Op::Sub => x?.checked_sub(z?),
         Op::Mul => x?.checked_mul(z?),
-        Op::Div => x?.checked_div(z?),
-        Op::Rem => match (x?, z?) {
-            (_, -1) => Some(0),
-            (x, z) => x.checked_rem(z),
-        },
+        Op::Div => i64::try_from(division.of(x?, z?)?.0).ok(),
+        Op::Rem => i64::try_from(division.of(x?, z?)?.1).ok(),
         Op::Lt => Some((x? < z?) as i64),
         Op::Le => Some((x? <= z?) as i64),
         Op::Eq => Some((x? == z?) as i64),

@@ -54,6 +54,7 @@ impl Random {
             1 => self.next() as i64,
             2..=4 => 0,
             5..=9 => self.below(41) as i64 - 20,
+            10..=11 => -1 - self.below(9) as i64,
             _ => self.below(9) as i64 + 1,
         }
     }
@@ -70,7 +71,7 @@ fn recursion(random: &mut Random, plan: &mut Plan, order: &[usize], place: usize
         plan[second] = if random.chance(50) {
             Stream { op: Op::Plus, a: first, b: 0, k: random.value(), out: out(random) }
         } else {
-            let op = random.pick(&[Op::Add, Op::Sub, Op::Mul, Op::Add, Op::Rem, Op::Merge, Op::Le, Op::Sadd, Op::Ssub, Op::Slt]);
+            let op = random.pick(&[Op::Add, Op::Sub, Op::Mul, Op::Add, Op::Div, Op::Rem, Op::Merge, Op::Le, Op::Sadd, Op::Ssub, Op::Srem, Op::Slt]);
             Stream { op, a: first, b: lower(random), k: 0, out: out(random) }
         };
     } else {
@@ -123,8 +124,9 @@ pub fn plan(random: &mut Random, most: usize) -> Plan {
                 42..=53 => Op::Set,
                 54..=60 => Op::Plus,
                 61..=65 => Op::Time,
-                66..=70 => Op::Keep,
-                71..=80 => random.pick(&SIGNALS).0,
+                66..=69 => Op::Keep,
+                70..=72 => random.pick(&[Op::Div, Op::Rem, Op::Sdiv, Op::Srem]),
+                73..=81 => random.pick(&SIGNALS).0,
                 _ => random.pick(&OPERATORS).0,
             }
         };

@@ -1,5 +1,5 @@
 //! States saved by an earlier version, as text (tests/states): the plan in short form, the calls that made the state with their
-//! answers, and its bytes but for the zeros.
+//! answers, and its bytes but for the zeros. The second line says where these hold results of division by the earlier rule.
 
 use crate::engine::{Answer, Call, STATE_LENGTH};
 use crate::layout::RECORD;
@@ -12,6 +12,15 @@ pub struct Saved {
     pub plan_line: String,
     pub calls: Vec<(Call, Answer)>,
     pub bytes: Vec<u8>,
+}
+
+/// Of a file whose answers or bytes the calls would not give today: "Division cuts toward zero" was the rule up to version 1.2.
+const CUT: &str = "with results of division cut toward zero";
+
+impl Saved {
+    pub fn is_cut(&self) -> bool {
+        self.head[1].contains(CUT)
+    }
 }
 
 fn words<T: std::str::FromStr>(text: &str) -> Vec<T> {

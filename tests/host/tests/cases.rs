@@ -1,5 +1,5 @@
-//! The cases of document 01 and the examples of document 002, each worked out by hand, against the evaluator and against
-//! both engines in several orders of calls.
+//! The cases of document 01, M9 as document 02 amends it, and the examples of document 002, each worked out by hand, against the
+//! evaluator and against both engines in several orders of calls.
 
 use host::engine::Call;
 use host::evaluator::{evaluate, Events, HORIZON};
@@ -124,13 +124,15 @@ fn m8_a_delay_of_0_or_less_fires_nothing() {
     gives("in; in; delay 0 1 out", &[(0, &[(3, -2)]), (1, &[(3, 0)])], HORIZON, &[(2, &[])]);
 }
 
+/// As document 02 amends it: "−7 div 2 is −4, rem 1; 7 div −2 is −4, rem −1".
 #[test]
-fn m9_division_cuts_toward_zero() {
+fn m9_a_quotient_goes_down() {
+    // −7 = −4 · 2 + 1, 7 = 3 · 2 + 1
     let plan = "in; set 0 k2; div 0 1 out; rem 0 1 out";
-    gives(plan, &[(0, &[(1, -7), (2, 7)])], HORIZON, &[(2, &[(1, -3), (2, 3)]), (3, &[(1, -1), (2, 1)])]);
-    // the remainder has the dividend's sign, whatever the divisor's: −7 = 3 · −2 − 1, 7 = −3 · −2 + 1
+    gives(plan, &[(0, &[(1, -7), (2, 7)])], HORIZON, &[(2, &[(1, -4), (2, 3)]), (3, &[(1, 1), (2, 1)])]);
+    // the remainder has the divisor's sign, whatever the dividend's: −7 = 3 · −2 − 1, 7 = −4 · −2 − 1
     let plan = "in; set 0 k-2; div 0 1 out; rem 0 1 out";
-    gives(plan, &[(0, &[(1, -7), (2, 7)])], HORIZON, &[(2, &[(1, 3), (2, -3)]), (3, &[(1, -1), (2, 1)])]);
+    gives(plan, &[(0, &[(1, -7), (2, 7)])], HORIZON, &[(2, &[(1, 3), (2, -4)]), (3, &[(1, -1), (2, -1)])]);
 }
 
 #[test]

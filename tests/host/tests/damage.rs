@@ -6,6 +6,7 @@ use host::engine::{engines, Answer, Call, STATE_LENGTH};
 use host::evaluator::HORIZON;
 use host::found::Found;
 use host::history::Session;
+use host::model::Division;
 use host::plan::{parse, text_of};
 use host::random::{plan, rounds, seed, Random};
 use std::ops::RangeInclusive;
@@ -245,6 +246,8 @@ fn damaged_states() {
     // signal forms: readings of an argument below the bound, which the form is not told; events from a kept value, with nothing
     // of that argument held; kept fields that the layout gives no meaning
     let (mut untold, mut from_kept, mut unmeant) = (0u64, 0u64, 0u64);
+    // moves to which it matters that a quotient goes down
+    let mut down = 0u64;
     let (mut good, mut bad, mut moves, mut done) = (0u64, 0u64, 0u64, [0u64; 5]);
     for round in 0..rounds(15_000) {
         let mut random = Random::of(11, round);
@@ -308,6 +311,10 @@ fn damaged_states() {
                 };
                 assert_eq!(answers[0], wanted, "library and model, {}", story());
                 assert!(states[0][..] == after[..], "library and model leave other states, {}\nlibrary\n{}\nmodel\n{}", story(), shown(&states[0], plan.len()), shown(&after, plan.len()));
+                if let (Call::Move(_) | Call::Run(_), Some(found)) = (call, &found) {
+                    let mut toward_zero = Found { division: Division::TowardZero, ..found.clone() };
+                    down += (found.divides() && (toward_zero.call(call), toward_zero.bytes()) != (wanted, after.clone())) as u64;
+                }
                 for d in (0..plan.len()).filter(|&d| before[256 * d] == 19) {
                     let newest = host::layout::held(&before, d).last().map(|(t, _)| *t as u64 + 1);
                     let since = u64::from_le_bytes(before[256 * d + 32..256 * d + 40].try_into().unwrap());
@@ -358,9 +365,9 @@ fn damaged_states() {
          {edge}, lower {lower}, before since {before_since}",
         seed()
     );
-    println!("seed {}: signal forms, readings of an argument below the bound {untold}, events from a kept value {from_kept}, without meaning {unmeant}", seed());
+    println!("seed {}: signal forms, readings of an argument below the bound {untold}, events from a kept value {from_kept}, without meaning {unmeant}; moves and runs with a quotient that goes down {down}", seed());
     assert!(good > bad && moves > 0 && done.iter().all(|&count| count > 0));
-    let reached = [below, at, above, edge, lower, before_since, untold, from_kept, unmeant];
+    let reached = [below, at, above, edge, lower, before_since, untold, from_kept, unmeant, down];
     assert!(reached.iter().all(|&count| count > 0) || rounds(15_000) < 15_000, "a kind of state was never met: {reached:?}");
 }
 

@@ -15,7 +15,7 @@ fn record(bound: u64, held: &[(u32, i64)]) -> Record {
 }
 
 fn bytes(plan: &str, a: Record, b: Record, third: Record) -> Vec<u8> {
-    Found { plan: short(plan), records: vec![a, b, third] }.bytes()
+    Found { plan: short(plan), records: vec![a, b, third], ..Found::default() }.bytes()
 }
 
 fn number(number: u32) -> Answer {

@@ -2,7 +2,7 @@
 //! back, the order of inputs, and full streams. Both engines make every call.
 
 use host::engine::Call;
-use host::evaluator::{evaluate, HORIZON};
+use host::evaluator::{evaluate, rounded, HORIZON};
 use host::history::{any_call, Session};
 use host::layout;
 use host::model::Model;
@@ -26,8 +26,9 @@ fn reaches(plan: &[host::plan::Stream], from: usize, to: usize) -> bool {
 /// Every call's number, results, bounds, held events, marks and kept latest values are those of the model on whole histories.
 #[test]
 fn numbers_and_states_are_those_of_the_model_on_whole_histories() {
-    let (mut calls, mut done, mut full, mut kept) = (0u64, 0u64, 0u64, 0u64);
-    for round in 0..rounds(5000) {
+    let (mut calls, mut done, mut full, mut kept, mut down) = (0u64, 0u64, 0u64, 0u64, 0u64);
+    let all = rounds(5000);
+    for round in 0..all {
         let mut random = Random::of(2, round);
         let plan = plan(&mut random, 12);
         let mut session = Session::load(&plan);
@@ -50,9 +51,11 @@ fn numbers_and_states_are_those_of_the_model_on_whole_histories() {
             calls += 1;
             done += (answer.number == 0) as u64;
         }
+        down += (0..plan.len()).map(|s| rounded(&plan, &model.events, s)).sum::<u64>();
     }
-    println!("seed {}: {calls} calls, {done} done, full streams met {full} times, signal forms that keep both values {kept}", seed());
+    println!("seed {}: {calls} calls, {done} done, full streams met {full} times, signal forms that keep both values {kept}, divisions that go down {down}", seed());
     assert!(done * 3 > calls && full > 0 && kept > 0, "too many calls refused: {done} of {calls}");
+    assert!(all < 1000 || down > all / 250, "too few divisions that go down: {down}");
 }
 
 /// Handed out is a beginning at every moment looked at, and complete at rest; from copies put back too.
@@ -61,6 +64,8 @@ fn handed_out_is_a_beginning_and_complete_at_rest() {
     let (mut checked, mut rested, mut events, mut copies) = (0u64, 0u64, 0u64, 0u64);
     // how often the operators that look back had an event, and of lasts and delays how many read themselves through others
     let (mut firings, mut lasts, mut signals, mut recursive) = (0u64, 0u64, 0u64, 0u64);
+    // and divisions an inexact quotient below zero
+    let mut down = 0u64;
     let all = rounds(6000);
     for round in 0..all {
         let mut random = Random::of(3, round);
@@ -91,6 +96,7 @@ fn handed_out_is_a_beginning_and_complete_at_rest() {
         }
         events += session.handed.iter().map(|h| h.len() as u64).sum::<u64>();
         if let Some(streams) = evaluate(&plan, &session.accepted, session.least_known().min(500), 5_000) {
+            down += (0..plan.len()).map(|s| rounded(&plan, &streams, s)).sum::<u64>();
             for (s, stream) in plan.iter().enumerate().filter(|(s, _)| !streams[*s].is_empty()) {
                 match stream.op {
                     Op::Delay => firings += streams[s].len() as u64,
@@ -105,9 +111,10 @@ fn handed_out_is_a_beginning_and_complete_at_rest() {
         }
     }
     println!("seed {}: {all} lists, {checked} checked, {rested} at rest, {events} events handed out, {copies} copies put back", seed());
-    println!("seed {}: {firings} firings, {lasts} events of last, {recursive} of these streams in a cycle, {signals} events of signal forms", seed());
+    println!("seed {}: {firings} firings, {lasts} events of last, {recursive} of these streams in a cycle, {signals} events of signal forms, {down} divisions that go down", seed());
     assert!(checked * 10 > all * 9 && rested * 2 > all && events > 5 * all && copies > 0);
     assert!(firings > all / 2 && lasts > all && recursive > all / 10 && signals > all / 2);
+    assert!(all < 1000 || down > all / 250, "too few divisions that go down: {down}");
 }
 
 /// The same accepted readings in another order of inputs, other moves and other collections: the same events handed out,

@@ -7,38 +7,14 @@ use host::history::Session;
 use host::layout;
 use host::plan::{parse, short, text_of, Op, Plan, Stream, SIGNALS};
 use host::random::{plan, rounds, seed, Random};
+use host::worked::{as_defined, collected, numbers, runs};
 use Call::{Collect, Move, Progress, Reading, Run};
 
 // ---- what a case says
 
-/// The calls with the numbers that they return.
-fn numbers(session: &mut Session, calls: &[(Call, u32)]) {
-    for (call, number) in calls {
-        assert_eq!(session.call(*call).number, *number, "{call:?}");
-    }
-}
-
-/// A run of n is done with so many moves.
-fn runs(session: &mut Session, n: u32, moves: u32) {
-    assert_eq!(session.call(Run(n)), Answer { moves, ..Answer::default() }, "run {n}");
-}
-
-/// An output is collected until nothing waits: these events, as (stamp, value).
-fn collected(session: &mut Session, stream: u32, events: &[(u32, i64)]) {
-    for (stamp, value) in events {
-        assert_eq!(session.call(Collect(stream)), Answer { stamp: *stamp, value: *value, ..Answer::default() });
-    }
-    numbers(session, &[(Collect(stream), 14)]);
-}
-
 /// Bytes of a record, from the first one named on.
 fn record(session: &Session, stream: usize, from: usize, bytes: &[u8]) {
     assert_eq!(&session.state()[256 * stream + from..256 * stream + from + bytes.len()], bytes, "record {stream} from {from} on");
-}
-
-/// Run and collected to the end, all that was handed out is what the definition gives.
-fn as_defined(session: &mut Session) {
-    assert!(session.rest(1000) && session.check_beginning() && session.check_rest());
 }
 
 /// Load's number, the same of both engines and by the rules.
@@ -79,7 +55,7 @@ fn case_1_3_a_zero_divisor_gives_no_event_and_stays_the_latest() {
     runs(&mut session, 9, 1);
     numbers(&mut session, &[(Reading(0, 4, 9), 0), (Progress(1, 5), 0)]);
     runs(&mut session, 9, 1);
-    // 8 div 2, and 9 div 2 cut toward zero
+    // 8 div 2, and 9 div 2, down from four and a half
     collected(&mut session, 2, &[(3, 4), (4, 4)]);
     as_defined(&mut session);
     // the 0 counts: a at 2 after b's 0 at 1 is nothing, though b had a 2 before
@@ -205,9 +181,9 @@ fn the_stored_numbers() {
 
 #[test]
 fn each_form_once_by_hand() {
-    // a has −7 at 1 and 7 at 4, b has 2 at 2 and at 3: −7 and 2 at 2 and 3, 7 and 2 at 4
+    // a has −7 at 1 and 7 at 4, b has 2 at 2 and at 3: −7 and 2 at 2 and 3, 7 and 2 at 4. −7 = −4 · 2 + 1, 7 = 3 · 2 + 1
     for (form, twice, then) in [
-        ("sadd", -5, 9), ("ssub", -9, 5), ("smul", -14, 14), ("sdiv", -3, 3), ("srem", -1, 1), ("slt", 1, 0), ("sle", 1, 0), ("seq", 0, 0),
+        ("sadd", -5, 9), ("ssub", -9, 5), ("smul", -14, 14), ("sdiv", -4, 3), ("srem", 1, 1), ("slt", 1, 0), ("sle", 1, 0), ("seq", 0, 0),
     ] {
         let mut session = Session::load(&short(&format!("in; in; {form} 0 1 out")));
         numbers(&mut session, &[(Reading(0, 1, -7), 0), (Reading(1, 2, 2), 0), (Reading(1, 3, 2), 0), (Reading(0, 4, 7), 0), (Progress(1, 5), 0)]);

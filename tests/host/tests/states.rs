@@ -1,11 +1,15 @@
-//! States saved by earlier versions, under tests/states: each is read, is what its calls leave today, and goes on.
+//! States saved by earlier versions, under tests/states: each is read, is what its calls leave today but for the rule of division,
+//! and goes on.
 
-use host::engine::{Call, LIBRARY, STATE_LENGTH};
-use host::found::Found;
+use host::engine::{Answer, Call, LIBRARY, STATE_LENGTH};
+use host::found::{Found, Record};
 use host::history::{any_call, Session};
+use host::layout;
+use host::model::Division;
 use host::plan::text_of;
 use host::random::{rounds, seed, Random};
 use host::saved::{read, write, Saved};
+use host::worked::{collected, numbers, runs};
 use std::fs;
 use std::path::PathBuf;
 
@@ -19,8 +23,12 @@ fn files() -> Vec<PathBuf> {
 fn states() -> Vec<(String, Saved)> {
     let name = |path: &PathBuf| path.file_name().unwrap().to_string_lossy().into_owned();
     let states: Vec<(String, Saved)> = files().iter().map(|path| (name(path), read(&fs::read_to_string(path).unwrap()))).collect();
-    assert!(states.len() >= 3, "only {} saved states", states.len());
+    assert!(states.len() >= 6, "only {} saved states", states.len());
     states
+}
+
+fn named(name: &str) -> Saved {
+    states().into_iter().find(|(found, _)| found == name).unwrap_or_else(|| panic!("no state {name}")).1
 }
 
 #[test]
@@ -35,19 +43,56 @@ fn each_saved_state_is_read() {
     }
 }
 
+/// What a file's calls answer and leave on the model, by a rule of division.
+fn made_by(saved: &Saved, division: Division) -> (Vec<Answer>, Vec<u8>) {
+    let mut model = Found { division, ..Found::read(Session::load(&saved.plan).state()).expect("a state") };
+    (saved.calls.iter().map(|(call, _)| model.call(*call)).collect(), model.bytes())
+}
+
+/// The same with every value taken for 0: numbers, moves, bounds, marks, stamps, and which values are there.
+fn but_for_values((answers, state): &(Vec<Answer>, Vec<u8>)) -> (Vec<Answer>, Vec<Record>) {
+    let none = |value: Option<i64>| value.map(|_| 0);
+    let record = |r: Record| Record {
+        held: r.held.keys().map(|t| (*t, 0)).collect(),
+        prev: none(r.prev),
+        value: none(r.value),
+        prior: none(r.prior),
+        latest: r.latest.map(none),
+        ..r
+    };
+    let answers = answers.iter().map(|answer| Answer { value: 0, ..*answer }).collect();
+    (answers, Found::read(state).expect("a state").records.into_iter().map(record).collect())
+}
+
+/// Where no result of division by the earlier rule is inside, byte for byte. Where one is, the file is what its calls leave by
+/// that rule, today's is what they leave by the new one, and they differ in values alone.
 #[test]
 fn each_is_what_its_calls_leave_today() {
+    let mut cut = 0;
     for (name, saved) in states() {
+        let then: (Vec<Answer>, Vec<u8>) = (saved.calls.iter().map(|(_, answer)| *answer).collect(), saved.bytes.clone());
         let mut session = Session::load(&saved.plan);
-        for (call, answer) in &saved.calls {
-            assert_eq!(session.call(*call), *answer, "{name}: {call:?}");
+        let today = (saved.calls.iter().map(|(call, _)| session.call(*call)).collect::<Vec<_>>(), session.state().to_vec());
+        let same = |x: &(Vec<Answer>, Vec<u8>), y: &(Vec<Answer>, Vec<u8>), what: &str| {
+            assert_eq!(x.0, y.0, "{name}: answers, {what}");
+            assert!(x.1 == y.1, "{name}: bytes, {what}");
+        };
+        same(&today, &made_by(&saved, Division::Down), "today and the model");
+        if saved.is_cut() {
+            same(&then, &made_by(&saved, Division::TowardZero), "the file and the model by the earlier rule");
+            assert!(then != today, "{name}: holds no result of the earlier rule");
+            assert_eq!(but_for_values(&then), but_for_values(&today), "{name}");
+            cut += 1;
+        } else {
+            same(&then, &today, "the file and today");
         }
-        assert!(session.state() == saved.bytes, "{name}: other bytes");
     }
+    assert!(cut >= 2, "only {cut} states with results of the earlier rule");
 }
 
 /// Any calls on the state put back: answers and bytes are those of the model, and what was handed out before the copy and after
-/// it is what the definition gives for the readings before and after.
+/// it is what the definition gives for the readings before and after. The latter not of a state with results of the earlier rule
+/// of division: "demands 2 and 3 speak of states loaded since".
 #[test]
 fn each_goes_on() {
     for (name, saved) in states() {
@@ -57,20 +102,91 @@ fn each_goes_on() {
             let mut random = Random::of(30, round);
             let mut session = Session::put_back(&saved);
             let mut model = Found::read(&saved.bytes).expect("a state");
-            for _ in 0..random.below(120) {
-                let call = any_call(&mut random, &session);
-                assert_eq!(session.call(call), model.call(call), "{name}: {call:?}\n{}", session.story());
+            let mut both = |session: &mut Session, call: Call| {
+                let answer = session.call(call);
+                assert_eq!(answer, model.call(call), "{name}: {call:?}\n{}", session.story());
                 assert!(session.state() == model.bytes(), "{name}: another state than the model's\n{}", session.story());
                 calls += 1;
+                answer
+            };
+            for _ in 0..random.below(120) {
+                let call = any_call(&mut random, &session);
+                both(&mut session, call);
             }
-            checked += session.check_beginning() as u64;
-            if session.rest(4_000) {
-                rested += (session.check_beginning() && session.check_rest()) as u64;
+            if saved.is_cut() {
+                // to rest, so that all that is held, kept or waiting comes out
+                let mut idle = false;
+                while !idle {
+                    idle = both(&mut session, Call::Run(50)).moves == 0;
+                    for s in session.outputs() {
+                        while both(&mut session, Call::Collect(s as u32)).number == 0 {
+                            idle = false;
+                        }
+                    }
+                }
+                (checked, rested) = (checked + 1, rested + 1);
+            } else {
+                checked += session.check_beginning() as u64;
+                if session.rest(4_000) {
+                    rested += (session.check_beginning() && session.check_rest()) as u64;
+                }
             }
             events += session.handed.iter().map(|handed| handed.len() as u64).sum::<u64>();
         }
         println!("seed {}: {name}, {calls} calls on it, {events} events handed out, {checked} lists checked, {rested} at rest", seed());
         assert!(all < 20 || (checked * 2 > all && rested * 4 > all && events > 0));
+    }
+}
+
+// ---- "A state saved before this change goes on by the new rule from where it is"
+
+/// Case 2.13.
+#[test]
+fn waiting_readings_are_divided_by_the_new_rule() {
+    let saved = named("1.2-quotient.txt");
+    // before: −7 div 2 was −3
+    assert_eq!(saved.calls[3], (Call::Collect(2), Answer { stamp: 1, value: -3, ..Answer::default() }));
+    let mut session = Session::put_back(&saved);
+    // and the same two readings at 2 are −4
+    runs(&mut session, 9, 1);
+    collected(&mut session, 2, &[(2, -4)]);
+}
+
+/// Results of the earlier rule that are held or kept stay as they came in; what comes in later follows the new one.
+#[test]
+fn what_is_held_or_kept_stays_as_it_came_in() {
+    let saved = named("1.2-means.txt");
+    let held = |stream: usize| layout::held(&saved.bytes, stream);
+    let records = Found::read(&saved.bytes).expect("a state").records;
+    // worked out before the copy, toward zero: −7 and −2 at 1 are 3, rem −1; 7 and −2 at 2 are −3, rem 1; −9 and 4 at 3 are −2,
+    // rem −1; −7 and 2 at 5 are rem −1, and no quotient yet. Handed out were 3@1 of div, −1@1 and 1@2 of rem.
+    assert_eq!((held(2), held(3)), (vec![(2, -3), (3, -2)], vec![(3, -1), (5, -1)]));
+    assert_eq!((held(4), held(5)), (vec![(1, 3), (2, -3), (3, -2)], vec![(1, -1), (2, 1), (3, -1)]));
+    // sdiv and srem keep their arguments' latest values; last and sadd keep the quotient of 3, beside 1 of input 6
+    assert_eq!((records[4].latest, records[5].latest), ([Some(-9), Some(4)], [Some(-9), Some(4)]));
+    assert_eq!((records[7].prev, records[8].latest), (Some(-2), [Some(-2), Some(1)]));
+    // the quotient of 2 as last gave it at 3; −2 + 1
+    assert_eq!((held(7), held(8)), (vec![(3, -3)], vec![(3, -1)]));
+
+    let mut session = Session::put_back(&saved);
+    // to come: at 4 the kept −9 and 2, of the forms alone: −5, rem 1; at 5 −7 and 2: −4, rem 1; at 6 23 and −4: −6, rem −1.
+    // div moves twice, rem, which is past 5, once, each form three times, last and sadd once, to 4
+    runs(&mut session, 99, 2 + 1 + 3 + 3 + 1 + 1);
+    collected(&mut session, 2, &[(2, -3), (3, -2), (5, -4), (6, -6)]);
+    collected(&mut session, 3, &[(3, -1), (5, -1), (6, -1)]);
+    collected(&mut session, 4, &[(1, 3), (2, -3), (3, -2), (4, -5), (5, -4), (6, -6)]);
+    collected(&mut session, 5, &[(1, -1), (2, 1), (3, -1), (4, 1), (5, 1), (6, -1)]);
+    // at 4 the kept quotient −2, and −2 + 10
+    collected(&mut session, 7, &[(3, -3), (4, -2)]);
+    collected(&mut session, 8, &[(3, -1), (4, 8)]);
+
+    // then input 6 at 7: last has the −6 of 6; sadd −4 + 10, −6 + 10, −6 + 100. The four divisions only learn of the silence
+    numbers(&mut session, &[(Call::Reading(6, 7, 100), 0), (Call::Progress(0, 8), 0), (Call::Progress(1, 8), 0)]);
+    runs(&mut session, 99, 4 + 1 + 3);
+    collected(&mut session, 7, &[(7, -6)]);
+    collected(&mut session, 8, &[(5, 6), (6, 4), (7, 94)]);
+    for stream in 2..=5 {
+        collected(&mut session, stream, &[]);
     }
 }
 

@@ -9,10 +9,10 @@ use Rattle.edges.proofs.main.Lts as lts
 use Rattle.edges.proofs.print_row.Reads as print-row-reads
 
 abbrev Inv-loop : tie.InvT-loop
-Inv-loop edges i₀ i = (length edges ≡ 22) × (i ≤ 22)
+Inv-loop edges i₀ i = (length edges ≡ 25) × (i ≤ 25)
 
 abbrev μ-loop : tie.MeasureT-loop
-μ-loop edges i₀ i = 22 - i
+μ-loop edges i₀ i = 25 - i
 
 loop-holds : tie.Need-loop-holds Inv-loop μ-loop
 loop-holds c = search needs

@@ -10,10 +10,10 @@ use Rattle.edges.proofs.print_neg.Reads as print-neg-reads
 use Rattle.edges.proofs.print_pair.Reads as print-pair-reads
 
 abbrev Inv-loop : tie.InvT-loop
-Inv-loop x edges j₀ j = (length edges ≡ 22) × (j ≤ 22)
+Inv-loop x edges j₀ j = (length edges ≡ 25) × (j ≤ 25)
 
 abbrev μ-loop : tie.MeasureT-loop
-μ-loop x edges j₀ j = 22 - j
+μ-loop x edges j₀ j = 25 - j
 
 print-neg-requires : tie.Need-print-neg-requires Inv-loop μ-loop
 print-neg-requires c κs = search needs
