@@ -27,9 +27,8 @@ use Rattle.text.specs.declared.Lines.{Lines}
 use Rattle.text.specs.declared.Lines.the-variants as Lines
 use Rattle.text.specs.declared.Head.{Head}
 use Rattle.text.specs.declared.Head.the-variants as Head
-use Rattle.text.specs.Grammar.{planLine, streamsKey, stream, head}
-use Rattle.decimal.specs.Decimal.{decimal}
-use Rattle.render.specs.Render.{line, streamText, declaredText, allText, opening, render}
+use Rattle.text.specs.Grammar.{stream, head}
+use Rattle.render.specs.Render.{streamText, declaredText, allText, opening, render}
 use Rattle.render.proofs.Ranges.{stream-refused}
 use Rattle.render.proofs.Back.{stream-read}
 use Rattle.render.proofs.Heads.{head-fits, head-read, head-refused}
