@@ -247,7 +247,7 @@ fn rows_ok(state: &[u8], n: usize) -> bool
         }
         i += 1;
     }
-    true
+    true // also of no records
 }
 
 // How many records have an operator, from the first on, of so many at most.
