@@ -25,6 +25,6 @@ taking = record {
       let e = number-of text s l in
       let t = taken-exactly (capacity (length s)) (capacity-few (length s)) text in
       (λ q. t .0 (sym e ∙ q), λ x. e ∙ t .1 x);
-  every = λ ds s k.
-      number-of (render ds) s (omega (arith, k .some, k .few)) ∙ render-taken (capacity (length s)) (capacity-few (length s)) ds k .0;
+  every = λ ds s l k.
+      number-of (render ds) s l ∙ render-taken (capacity (length s)) (capacity-few (length s)) ds k .0;
 }

@@ -303,9 +303,6 @@ pub fn streams(state: &[u8]) -> Tested
         return Tested::NoState;
     }
     let n = streams_in(state, most);
-    if n == 0 {
-        return Tested::NoState;
-    }
     if !rows_ok(state, n) {
         return Tested::NoState;
     }
