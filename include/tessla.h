@@ -123,8 +123,8 @@ enum tessla_number {
 /*
  * Load: takes a plan text and fills a fresh state, all bounds 0, whatever the state held before.
  * Numbers: 15, 1; then the first faulty line decides between 2, 3 and 4; then 5; then 6.
- * A text of no bytes is taken, and no other text has no streams: every byte of the state becomes 0. plan=1 alone is 2, streams=0
- * is 3. Of a text of no bytes none is read, but the pointer is not to be null.
+ * A text of no bytes, and only that one, is a plan of no streams: it is taken, nothing is read through its pointer, and every byte
+ * of the state becomes 0. plan=1 alone is 2, streams=0 is 3.
  */
 uint32_t tessla_load(uint8_t *state, uint64_t state_length, const uint8_t *text, uint64_t text_length);
 
