@@ -71,7 +71,8 @@ extern "C" {
  *         is -4, rem 1; before, it was cut toward zero, -3, rem -1. A state saved before 1.3 is read and goes on by the new
  *         rule from where it is; what it holds stays as it came in.
  *   1.4   load takes a text of no bytes, refused 2 before: a plan of no streams, all bytes of the state 0. So a state of zeros is
- *         refused 15 no more. A firmware that told "not loaded" by that 15 has to ask tessla_streams, or the load's own number.
+ *         refused 15 no more. A firmware that took this 15 for a sign that nothing was loaded asks tessla_streams instead, or
+ *         keeps the number that load returned.
  */
 #define TESSLA_VERSION_MAJOR 1
 #define TESSLA_VERSION_MINOR 4
@@ -123,8 +124,8 @@ enum tessla_number {
 /*
  * Load: takes a plan text and fills a fresh state, all bounds 0, whatever the state held before.
  * Numbers: 15, 1; then the first faulty line decides between 2, 3 and 4; then 5; then 6.
- * A text of no bytes, and only that one, is a plan of no streams: it is taken, nothing is read through its pointer, and every byte
- * of the state becomes 0. plan=1 alone is 2, streams=0 is 3.
+ * A text of no bytes, and only that one, is a plan of no streams: it is taken, nothing is read through its pointer, and every
+ * byte of the state becomes 0. plan=1 alone is 2, streams=0 is 3.
  */
 uint32_t tessla_load(uint8_t *state, uint64_t state_length, const uint8_t *text, uint64_t text_length);
 

@@ -264,7 +264,8 @@ def nowhere(plan, told):
 
 # ---- all of them
 
-NO_STREAMS = "plan.txt has no bytes. If a plan was meant, it was not saved: write it into the file, or copy the nearest one from plans/"
+NO_STREAMS = (
+    "plan.txt has no bytes. If a plan was meant, it was not saved: write it into the file, or copy the nearest one from plans/")
 
 
 def warnings(plan):
