@@ -123,6 +123,24 @@ static void try_from(int i) {
     save_cut(i + 1, 1000000, NOTHING);
 }
 
+/* a logger without a plan saves and finds that, between two copies of a plan and as the first one of all */
+static void no_plan(void) {
+    static uint8_t empty[TESSLA_STATE_LENGTH], state[TESSLA_STATE_LENGTH];
+    uint32_t moves;
+    memset(empty, 0xEE, sizeof empty);
+    if (tessla_load(empty, sizeof empty, NULL, 0) != TESSLA_DONE) fail("load of no plan");
+    left = 1000000;
+    for (int first = 0; first < 2; first++) {
+        memset(flash, 0xFF, sizeof flash);
+        if (!first && (!save_cut(1, 1000000, NOTHING) || found() != 1)) fail("a save without a cut");
+        save(empty);
+        memset(state, 0xEE, sizeof state);
+        if (!restore(state) || memcmp(state, empty, sizeof state) != 0) fail("the copy of no plan is lost");
+        if (tessla_run(state, sizeof state, 5, &moves) != TESSLA_DONE || moves != 0) fail("what was restored is no state");
+        if (!save_cut(2, 1000000, NOTHING) || found() != 2) fail("no save after a copy of no plan");
+    }
+}
+
 /* the copy in a place, as if saved by this version */
 static void as_of(uint8_t *head, uint8_t major, uint8_t minor) {
     head[6] = major;
@@ -147,6 +165,7 @@ static void versions(void) {
 
 int main(void) {
     make_states();
+    no_plan();
     versions();
     /* flash as it comes, and flash with anything in it */
     for (int fill = 0; fill < 2; fill++) {
