@@ -12,7 +12,10 @@ BYTES = b"\n\r\t =-+.,0129azAZ#;\x00\x7f\x80\xff"
 
 
 def by_line(draw, lines):
-    """One line left out, doubled, swapped, put in or written anew."""
+    """One line left out, doubled, swapped, put in or written anew; put in where there is none."""
+    if not lines:
+        lines.append(draw.choice(LINES) + "\n")
+        return
     place = draw.randrange(len(lines))
     way = draw.randrange(7)
     if way == 0:
