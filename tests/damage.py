@@ -64,8 +64,6 @@ def by_field(draw, rows):
 def texts(draw, rounds):
     """So many texts: of the plans under plans/ and of random plans, with none to three edits."""
     good = [open(path, encoding="ascii").read() for path in sorted(glob.glob("plans/*/plan.txt"))]
-    # a text of no bytes has no line to damage
-    good = [text for text in good if text]
     for turn in range(rounds):
         if turn % 50 == 0:
             # at and above the greatest length
