@@ -21,7 +21,8 @@
  * from the start, and a state of zeros. On it both offers are refused 7, move 11 and collect 13, a run makes 0 moves, and the
  * zeros stay. A buffer that begins as zeros, as every static one does, is that state before the first load: it is not refused 15.
  * A load that is refused leaves the state as it was, zeros too: only its number tells. tessla_streams says whether there is a
- * plan. A plan may be loaded at any time, over whatever is there.
+ * plan. A plan may be loaded at any time, over whatever is there; so may no plan, and that ends the one that runs, with all it
+ * holds. So do not load the nothing that a card gives which could not be read.
  *
  * What a logger does with the calls; examples/logger.c does all of it:
  *
@@ -72,7 +73,8 @@ extern "C" {
  *         rule from where it is; what it holds stays as it came in.
  *   1.4   load takes a text of no bytes, refused 2 before: a plan of no streams, all bytes of the state 0. So a state of zeros is
  *         refused 15 no more. A firmware that took this 15 for a sign that nothing was loaded asks tessla_streams instead, or
- *         keeps the number that load returned.
+ *         keeps the number that load returned. Over a plan that runs a text of no bytes was refused, and the plan went on; now
+ *         it ends it.
  */
 #define TESSLA_VERSION_MAJOR 1
 #define TESSLA_VERSION_MINOR 4
