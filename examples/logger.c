@@ -2,6 +2,7 @@
  * A logger in small. Three sensors report by radio, in any order; the plan of logger_plan.h counts visits and corrects
  * weights.
  *
+ *   load       takes the plan of the card; without one the logger goes on too, and refuses every reading.
  *   receive    takes a reading from the radio. It waits in the line of its sensor until the engine takes it: none is lost as
  *              long as the line has room, and one that is lost is said.
  *   schedule   each minute: says how far every sensor is known, a silent or dead one above all.
@@ -48,6 +49,25 @@ static void put_number(const char *before, int64_t x, const char *after) {
     put(before);
     put(b + i);
     put(after);
+}
+
+/* ---- the card */
+
+/*
+ * Loads the plan of the card, and answers whether it was taken. A card without plan.txt, or with an empty one, has a text of no
+ * bytes: that is taken, a plan of no streams, and every reading is refused 7 until there is another. A refused load leaves the
+ * state as it was, also one without a plan: only its number tells.
+ */
+static int load(const char *text, uint32_t length) {
+    uint32_t number = tessla_load(state, sizeof state, (const uint8_t *)text, length);
+    if (number != TESSLA_DONE) {
+        put_number("plan refused=", number, ": ");
+        put(tessla_text(number));
+        put("\n");
+        return 0;
+    }
+    put(tessla_streams(state) == 0 ? "no plan on the card\n" : "plan loaded\n");
+    return 1;
 }
 
 /* ---- what comes out */
@@ -158,6 +178,12 @@ static void schedule(uint32_t now) {
 
 /* ---- a day */
 
+/* the group has not chosen a plan yet */
+static void early(void) {
+    receive(RING, 5, 7041);
+    schedule(8);
+}
+
 static void morning(void) {
     receive(THERMOMETER, 10, 200);
     receive(BALANCE, 12, 312);
@@ -180,13 +206,19 @@ static void evening(void) {
 }
 
 int main(void) {
-    uint32_t number = tessla_load(state, sizeof state, (const uint8_t *)PLAN, sizeof PLAN - 1);
-    if (number != TESSLA_DONE) {
-        put_number("plan refused=", number, ": ");
-        put(tessla_text(number));
-        put("\n");
-        return 1;
-    }
+    if (!load("", 0)) return 1;
+    early();
+
+    /* of a state without a plan no byte has to be saved; it is a state all the same, and is put back as one */
+    save(state);
+    put("saved\n");
+    memset(state, 0xFF, sizeof state);
+    if (!restore(state)) return 1;
+    put("put back\n");
+    early();
+
+    /* a plan is loaded over it at any time */
+    if (!load(PLAN, sizeof PLAN - 1)) return 1;
     put("morning\n");
     morning();
 

@@ -17,7 +17,7 @@ const uint8_t *flash_at(uint32_t place);
 void flash_erase(uint32_t place);
 void flash_write(uint32_t place, uint32_t at, const uint8_t word[WORD]);
 
-/* saves the state over the older of the two copies */
+/* saves the state over the older of the two copies; of one without a plan no byte has to be saved, and the copy is whole */
 void save(const uint8_t *state);
 
 /* fills the state from the newest whole copy, and answers 1; 0 if there is none, and the state is as it was */

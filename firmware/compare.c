@@ -94,6 +94,15 @@ static struct row rows[TESSLA_STREAM_LIMIT];
 
 static uint32_t load_rows(uint32_t n) { return load(write_plan(text, rows, n)); }
 
+static void text_of(const char *t) {
+    uint32_t n = 0;
+    while (t[n]) {
+        text[n] = (uint8_t)t[n];
+        n++;
+    }
+    load(n);
+}
+
 static void visits(void) {
     rows[0] = (struct row){ .op = IN };
     rows[1] = (struct row){ .op = UNIT };
@@ -135,6 +144,7 @@ static void wrong_lengths(uint64_t text_length) {
     for (uint32_t i = 0; i < WRONG_LENGTHS; i++) {
         length = WRONG[i];
         load(text_length);
+        load(0);
         reading(0, 9, 9);
         progress(0, 9);
         move(1);
@@ -274,6 +284,100 @@ static void signals(void) {
     }
 }
 
+/* ---- no plan */
+
+/* the calls that firmware/test knows the answers to, on a state of no streams, and whether all its bytes are 0 then */
+static void without_a_plan(void) {
+    run(5);
+    move(0);
+    reading(0, 0, 0);
+    progress(0, 0);
+    progress(0, TESSLA_HORIZON + 1);
+    collect(0);
+    uint32_t i = 0;
+    while (i < LENGTH && state[i] == 0) i++;
+    head(i == LENGTH ? "all bytes 0" : "a byte not 0");
+}
+
+/* loaded, texts that are refused, a byte that makes no state of it, and loaded again */
+static void no_plan(void) {
+    head("no plan");
+    memset(room, 0xA5, sizeof room);
+    load(0);
+    without_a_plan();
+    text_of("plan=1\nstreams=0\n");
+    text_of("plan=1\n");
+    text_of("\n");
+    without_a_plan();
+    state[LENGTH - 1] = 1;
+    without_a_plan();
+    /* with no text to point at */
+    text = 0;
+    load(0);
+    text = words;
+    without_a_plan();
+}
+
+/* zeros: every stream, every alignment, other lengths, one byte set, a plan in them and gone again */
+static void zeros(void) {
+    head("zeros");
+    for (uint32_t o = 0; o < 8; o++) {
+        memset(room, 0xEE, sizeof room);
+        state = room + o;
+        text = words + (7 - o);
+        load(0);
+        without_a_plan();
+    }
+    state = room;
+    text = words;
+    memset(room, 0, sizeof room);
+    streams();
+    for (uint32_t i = 0; i < COUNT(BOUNDS); i++) progress(0, BOUNDS[i]);
+    for (uint32_t i = 0; i < COUNT(STAMPS); i++) reading(0, STAMPS[i], VALUES[i]);
+    run(0);
+    run(0xFFFFFFFF);
+    for (uint32_t i = 0; i < WRONG_LENGTHS; i++) {
+        length = WRONG[i];
+        load(0);
+        without_a_plan();
+    }
+    length = LENGTH;
+    /* each bit of the first record, by turns, and some bytes behind it */
+    for (uint32_t at = 1; at < LENGTH; at += at < 64 ? 1 : 61) {
+        state[at] = (uint8_t)(1 << at % 8);
+        run(1);
+        collect(0);
+        state[at] = 0;
+    }
+    /* the first byte: a stream of an operator without arguments, else no state */
+    for (uint32_t op = 0; op < 256; op += op < 30 ? 1 : 25) {
+        state[0] = (uint8_t)op;
+        reading(0, 3, 7);
+        move(0);
+        run(2);
+        collect(0);
+        memset(state, 0, LENGTH);
+    }
+    for (uint32_t i = 0; i < 2; i++) {
+        visits();
+        load_rows(6);
+        reading(0, 3, 7);
+        run(100);
+        collect(5);
+        memcpy(copy, state, LENGTH);
+        load(0);
+        without_a_plan();
+    }
+    /* the copy put back, and its first records gone */
+    memcpy(state, copy, LENGTH);
+    run(100);
+    for (uint32_t i = 0; i < 6; i++) {
+        memset(state + 256 * i, 0, 256);
+        run(100);
+    }
+    without_a_plan();
+}
+
 static void full(void) {
     head("full");
     visits();
@@ -285,15 +389,6 @@ static void full(void) {
 }
 
 /* ---- plan texts that are refused, and 32 streams */
-
-static void text_of(const char *t) {
-    uint32_t n = 0;
-    while (t[n]) {
-        text[n] = (uint8_t)t[n];
-        n++;
-    }
-    load(n);
-}
 
 static void texts(void) {
     head("texts");
@@ -360,6 +455,7 @@ static int64_t some_value(void) {
 }
 
 static uint32_t some_plan(void) {
+    if (next(25) == 0) return 0;
     uint32_t n = next(4) ? 1 + next(10) : 1 + next(32);
     for (uint32_t i = 0; i < n; i++) {
         struct row r = { .op = (uint8_t)(i == 0 || next(5) == 0 ? IN : 1 + next(SEQ)) };
@@ -374,22 +470,22 @@ static uint32_t some_plan(void) {
     return n;
 }
 
-/* one draw in each expression: the order of two would be the compiler's choice */
+/* one draw in each expression: the order of two would be the compiler's choice; without streams a call asks for the first */
 static void some_call(uint32_t n, uint32_t *now) {
-    uint32_t t, s = next(20) ? next(n) : next(40);
+    uint32_t t, most = n ? n : 1, s = next(20) ? next(most) : next(40);
     switch (next(9)) {
     case 0:
     case 1:
     case 2:
         for (uint32_t i = 0; i < n && rows[s % n].op != IN; i++) s++;
-        s = next(20) ? s % n : s;
+        s = next(20) ? s % most : s;
         *now += next(3);
         t = *now + next(6);
         reading(s, t, some_value());
         break;
     case 3:
         for (uint32_t i = 0; i < n && rows[s % n].op != IN; i++) s++;
-        progress(s % n, next(30) ? *now + next(8) : next(2) ? TESSLA_HORIZON : TESSLA_HORIZON + next(2));
+        progress(s % most, next(30) ? *now + next(8) : next(2) ? TESSLA_HORIZON : TESSLA_HORIZON + next(2));
         break;
     case 4: move(s); break;
     case 5: run(next(4)); break;
@@ -410,14 +506,17 @@ static void random_calls(uint32_t plans, uint32_t calls) {
         /* a damaged byte, and the state put back */
         memcpy(copy, state, LENGTH);
         for (uint32_t i = 0; i < 6; i++) {
-            uint32_t at = next(4) ? next(n * 256) : next(LENGTH);
+            uint32_t at = next(4) ? next((n ? n : 1) * 256) : next(LENGTH);
             state[at] ^= (uint8_t)(1 << next(8));
             if (run(1) != 0) memcpy(state, copy, LENGTH);
             some_call(n, &now);
         }
         /* a damaged text */
-        uint32_t end = write_plan(text, rows, n), at = next(end);
-        text[at] ^= (uint8_t)(1 << next(5));
+        uint32_t end = write_plan(text, rows, n);
+        if (end) {
+            uint32_t at = next(end);
+            text[at] ^= (uint8_t)(1 << next(5));
+        }
         load(end);
     }
     state = room;
@@ -425,12 +524,11 @@ static void random_calls(uint32_t plans, uint32_t calls) {
 }
 
 int main(void) {
-    head("no state");
-    reading(0, 0, 0);
-    progress(0, 0);
-    move(0);
-    run(0);
-    collect(0);
+    head("never loaded");
+    without_a_plan();
+    no_plan();
+    head("visits");
+    memset(room, 0, sizeof room);
     visits();
     uint32_t n = write_plan(text, rows, 6);
     load(n);
@@ -458,6 +556,7 @@ int main(void) {
     values();
     divisions();
     signals();
+    zeros();
     full();
     texts();
     random_calls(RANDOM_PLANS, RANDOM_CALLS);

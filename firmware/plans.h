@@ -51,9 +51,10 @@ static void add_row(struct text *t, struct row r) {
     add_line(t, "out=", r.out);
 }
 
-/* the text of a plan of n rows; its length */
+/* the text of a plan of n rows; its length, 0 for no rows */
 static uint32_t write_plan(uint8_t *bytes, const struct row *rows, uint32_t n) {
     struct text t = { bytes, 0 };
+    if (n == 0) return 0;
     add_line(&t, "plan=", 1);
     add_line(&t, "streams=", n);
     for (uint32_t i = 0; i < n; i++) add_row(&t, rows[i]);

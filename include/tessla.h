@@ -17,6 +17,13 @@
  * Every length is a uint64_t, on a 32-bit controller too. Include this header; do not write the prototypes again: with
  * size_t in place of uint64_t a program for a 32-bit machine still links, and every call answers wrongly.
  *
+ * No plan. Load takes a text of no bytes too, for a logger that goes out before its plan is chosen: a plan of no streams, at rest
+ * from the start, and a state of zeros. On it both offers are refused 7, move 11 and collect 13, a run makes 0 moves, and the
+ * zeros stay. A buffer that begins as zeros, as every static one does, is that state before the first load: it is not refused 15.
+ * A load that is refused leaves the state as it was, zeros too: only its number tells. tessla_streams says whether there is a
+ * plan. A plan may be loaded at any time, over whatever is there; so may no plan, and that ends the one that runs, with all it
+ * holds. So do not load the nothing that a card gives which could not be read.
+ *
  * What a logger does with the calls; examples/logger.c does all of it:
  *
  * Progress. An output is known only as far as the inputs that it is worked out from, and an input holds 16 readings that
@@ -45,7 +52,8 @@
  * had the calls made up to its copy: what was accepted or handed out after the copy does not count for it. Readings offered
  * after the copy are to be offered again, and events collected after the copy are handed out again. A copy damaged in storage
  * is refused 15 where its contents are no state; where they happen to be one, no call can know that it is not the one that was
- * saved. So save to two places in turn, each with a checksum: examples/saving.c does, and loses no copy to a power cut.
+ * saved: a storage that gives back zeros gives a state without a plan. So save to two places in turn, each with a checksum:
+ * examples/saving.c does, and loses no copy to a power cut.
  */
 #ifndef TESSLA_H
 #define TESSLA_H
@@ -63,10 +71,14 @@ extern "C" {
  *   1.3   div, rem, sdiv, srem: a quotient goes down to the next whole number and the remainder has the divisor's sign, -7 div 2
  *         is -4, rem 1; before, it was cut toward zero, -3, rem -1. A state saved before 1.3 is read and goes on by the new
  *         rule from where it is; what it holds stays as it came in.
+ *   1.4   load takes a text of no bytes, refused 2 before: a plan of no streams, all bytes of the state 0. So a state of zeros is
+ *         refused 15 no more. A firmware that took this 15 for a sign that nothing was loaded asks tessla_streams instead, or
+ *         keeps the number that load returned. Over a plan that runs a text of no bytes was refused, and the plan went on; now
+ *         it ends it.
  */
 #define TESSLA_VERSION_MAJOR 1
-#define TESSLA_VERSION_MINOR 3
-#define TESSLA_VERSION "1.3"
+#define TESSLA_VERSION_MINOR 4
+#define TESSLA_VERSION "1.4"
 
 /* The length of the state in bytes. Any other length is refused 15. */
 #define TESSLA_STATE_LENGTH 12288
@@ -74,7 +86,7 @@ extern "C" {
 /* The most bytes that a plan text may have. A longer one is refused 1. */
 #define TESSLA_TEXT_LIMIT 2048
 
-/* A plan has 1 to 32 streams; a stream holds at most 16 events. */
+/* A plan has at most 32 streams, and none if its text has no bytes; a stream holds at most 16 events. */
 #define TESSLA_STREAM_LIMIT 32
 #define TESSLA_ROOM 16
 
@@ -107,12 +119,15 @@ enum tessla_number {
 
 /*
  * Where more than one number applies, the one named first below is returned.
- * Number 15 comes before all others; load tests only the length of the state, never what it holds.
+ * Number 15 comes before all others; load tests only the length of the state, never what it holds. A state that
+ * is all zeros is refused 15 by no call; one whose byte 0 is 0 and some other byte is not, by each but load.
  */
 
 /*
- * Load: takes a plan text and fills a fresh state, all bounds 0.
+ * Load: takes a plan text and fills a fresh state, all bounds 0, whatever the state held before.
  * Numbers: 15, 1; then the first faulty line decides between 2, 3 and 4; then 5; then 6.
+ * A text of no bytes, and only that one, is a plan of no streams: it is taken, nothing is read through its pointer, and every
+ * byte of the state becomes 0. plan=1 alone is 2, streams=0 is 3.
  */
 uint32_t tessla_load(uint8_t *state, uint64_t state_length, const uint8_t *text, uint64_t text_length);
 
@@ -158,14 +173,14 @@ static inline int tessla_is_output(const uint8_t *state, uint32_t stream) {
     return stream < TESSLA_STREAM_LIMIT && state[stream * TESSLA_RECORD + 3] == 1;
 }
 
-/* How many streams the plan has. */
+/* How many streams the plan has; 0 of a state without a plan. */
 static inline uint32_t tessla_streams(const uint8_t *state) {
     uint32_t n = 0;
     while (n < TESSLA_STREAM_LIMIT && state[n * TESSLA_RECORD] != 0) n++;
     return n;
 }
 
-/* How many bytes of the state are used; all behind them is 0. */
+/* How many bytes of the state are used; all behind them is 0. Of a state without a plan none: to put it back, fill it with 0. */
 static inline uint32_t tessla_used_length(const uint8_t *state) {
     return tessla_streams(state) * TESSLA_RECORD;
 }

@@ -1,4 +1,4 @@
-"""Damaged plan texts, for the tests: edits of good plans, from the ones a hand makes to single bytes."""
+"""Damaged plan texts, for the tests: edits of good plans, from the ones a hand makes to single bytes; and texts of few bytes."""
 import glob
 
 from shortly import OPERATORS, random_plan, text_of
@@ -6,11 +6,16 @@ from shortly import OPERATORS, random_plan, text_of
 NUMBERS = ["0", "1", "5", "31", "32", "33", "00", "01", "-0", "-1", "+1", "999", "1000", "", "1.5", "0,5", "9223372036854775807", "9223372036854775808", "-9223372036854775808", "-9223372036854775809"]
 NAMES = list(OPERATORS) + ["", "Merge", "merg", "count", "filter", "on", "x", "sneg", "sadds", "Sadd", "smerge", "add1", "abcdef", "in "]
 LINES = ["", "# x", "plan=1", "plan=2", "streams=3", "op=in", "a=0", "b=0", "k=0", "out=0", "out=1", "out=2", " a=0", "a =0", "OP=in", "\t", "a=0\r"]
+# the plan of no streams, and what is close to it
+FEW = [b"", b"", b"", b"\n", b" ", b"\x00", b"\xef\xbb\xbf", b"plan=1", b"plan=1\n", b"plan=1\n\n", b"streams=0\n", b"plan=1\nstreams=0", b"plan=1\nstreams=0\n", b"plan=1\nstreams=0\n\n"]
 BYTES = b"\n\r\t =-+.,0129azAZ#;\x00\x7f\x80\xff"
 
 
 def by_line(draw, lines):
-    """One line left out, doubled, swapped, put in or written anew."""
+    """One line left out, doubled, swapped, put in or written anew; put in where there is none."""
+    if not lines:
+        lines.append(draw.choice(LINES) + "\n")
+        return
     place = draw.randrange(len(lines))
     way = draw.randrange(7)
     if way == 0:
@@ -63,6 +68,9 @@ def texts(draw, rounds):
         if turn % 50 == 0:
             # at and above the greatest length
             yield (draw.choice(good) + "x" * 2048).encode()[:2047 + turn // 50 % 4]
+            continue
+        if turn % 25 == 1:
+            yield draw.choice(FEW)
             continue
         if turn % 3 == 0:
             rows = random_plan(draw, draw.choice([1, 2, 5, 12, 32, 33]))

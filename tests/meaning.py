@@ -53,7 +53,7 @@ def in_order(plan):
 
 def meaning(plan, readings, until, most=None):
     """To each stream its events below `until`, a dict from stamp to value by rising stamp; None if more than `most` stamps
-    would have to be looked at. A plan is a list of (op, a, b, k, out); `readings` has a dict for each input.
+    would have to be looked at. A plan is a list of (op, a, b, k, out), or of none; `readings` has a dict for each input.
 
     Something can happen at 0 (unit), at the stamps of readings, and at p + v for an event of a delay's first argument at p
     with value v: where the delay is set at p to ring at p + v, unless its second argument has an event in between."""

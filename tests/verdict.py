@@ -1,6 +1,6 @@
 #!/usr/bin/env python3
-"""A second judge of plan texts, from document 01's "Plan text" and "Load" with document 02's operators, apart from the library:
-it reads a text from the standard input and prints `number=N line=L stream=S`, as the program `verdict` does. `verdict(text)`
+"""A second judge of plan texts, from document 01's "Plan text" and "Load" with document 02's operators and its plan of no streams,
+apart from the library: it reads a text from the standard input and prints `number=N line=L stream=S`, as the program `verdict` does. `verdict(text)`
 gives the three."""
 import re
 import sys
@@ -45,6 +45,9 @@ def read(text):
     """The rows (op, a, b, k, out) of a text that passes numbers 1 to 4."""
     if len(text) > 2048:
         raise Fault(1, 0, 0)
+    # "An empty plan text now means a plan of no streams"
+    if not text:
+        return []
     lines = re.findall(rb"[^\n]*\n|[^\n]+", text)
     take(lines, 0, "plan", 0)
     count = int(take(lines, 1, "streams", 0))

@@ -262,8 +262,16 @@ def nowhere(plan, told):
     return said
 
 
+# ---- all of them
+
+NO_STREAMS = (
+    "plan.txt has no bytes. If a plan was meant, it was not saved: write it into the file, or copy the nearest one from plans/")
+
+
 def warnings(plan):
     """All warnings, in words."""
+    if not plan:
+        return ["warning: " + NO_STREAMS]
     may = possible(plan)
     ticking = endless(plan, may)
     found = nevers(plan, may) + ticking + strangers(plan, may, clocks(plan, may)) + nowhere(plan, {s for s, _ in ticking})

@@ -26,7 +26,7 @@ class Trace:
 
     def __init__(self, plan):
         self.plan = plan
-        entered = inputs(plan) if plan else []
+        entered = inputs(plan or [])
         timers = hints.again(plan, hints.possible(plan)) if plan else {}
         # how far each input is known: at most, if all readings are taken, and for sure, if some may be refused for lack of room
         self.known = dict.fromkeys(entered, 0)
@@ -59,7 +59,7 @@ class Trace:
             self.progress += 1
         else:
             self.readings += 1
-        if self.plan:
+        if self.plan is not None:
             self.offer(place, line, *parts)
 
     def offer(self, place, line, s, stamp, value):

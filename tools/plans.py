@@ -47,7 +47,7 @@ def lines_of(text):
 
 
 def fields(text):
-    """The streams of a text whose lines have the right form, also if it breaks rule 5 or 6."""
+    """The streams of a text whose lines have the right form, also if it breaks rule 5 or 6; none of the text of no bytes."""
     words = [line.rstrip(b"\n").split(b"=")[1].decode() for line in lines_of(text)[2:]]
     rows = [words[place:place + 5] for place in range(0, len(words), 5)]
     return [Stream(op, int(a), int(b), int(k), out == "1") for op, a, b, k, out in rows]
@@ -70,8 +70,10 @@ def inputs(plan):
 
 
 def no_input(plan, s):
-    """In words: stream s takes no readings."""
+    """In words: stream s takes no readings, and what there is."""
     what = "there is no stream %d" % s if s >= len(plan) else "stream %d (%s) is no input" % (s, plan[s].op)
+    if not plan:
+        return what, "the plan has no streams: put the plan of these readings into plan.txt"
     return what, "the inputs of plan.txt are %s" % joined(inputs(plan)) if inputs(plan) else "the plan has no input"
 
 

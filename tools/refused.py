@@ -55,12 +55,26 @@ def op_lines(lines):
     return sum(1 for line in lines if re.match(rb"\s*op\s*=", line, re.I))
 
 
+# ---- nothing in it
+
+NO_PLAN = ". For a card without a plan the file has to have no bytes at all: the command : >plan.txt in its folder makes one"
+
+
+def looks_empty(text):
+    """Whether an editor shows nothing of a text that has bytes: blanks, line ends, a mark at the beginning."""
+    return text != b"" and re.fullmatch(rb"(\xef\xbb\xbf|\xff\xfe|\xfe\xff)?[ \t\r\n\0]*", text) is not None
+
+
+def unseen(text):
+    return Cause("the file looks empty, but has %s in it" % plural(len(text), "byte"), "write the plan into it" + NO_PLAN)
+
+
 # ---- too few lines, too many
 
 def ends_early(lines, line, count):
     """The text ends before this line."""
     if line <= 2:
-        return Cause("the text ends before this line", "write the line and those that follow it")
+        return Cause("the text ends before this line", "write the line and those that follow it" + NO_PLAN)
     stream, place = divmod(line - 3, 5)
     if place > 0:
         return Cause(
@@ -210,8 +224,8 @@ def as_in_a_plan(line, where):
 def of_form(text, line):
     """Number 2: what is wrong at a line."""
     lines = lines_of(text)
-    if not text:
-        return Cause("the file is empty", "write the plan into it, or copy the nearest one from plans/")
+    if looks_empty(text):
+        return unseen(text)
     if line == 1 and causes.of_file(text):
         return causes.of_file(text)
     if line > len(lines):
@@ -232,11 +246,13 @@ def of_form(text, line):
 def of_count(text):
     """Number 3."""
     lines = lines_of(text)
-    there = op_lines(lines)
-    what = "streams=%d: a plan has 1 to %d streams" % (count_of(lines), STREAMS)
+    there, count = op_lines(lines), count_of(lines)
+    what = "streams=%d: %s" % (count, "a plan has at most %d streams" % STREAMS if count else "the number is 1 or more")
     if 1 <= there <= STREAMS:
         return Cause(what, "write streams=%d, as many as the text has op lines" % there)
-    return Cause(what, "leave streams out, or split the plan into two" if there else "add a stream")
+    if there:
+        return Cause(what, "leave streams out, or split the plan into two")
+    return Cause(what, "write how many streams the plan has, and five lines for each" if count else "add the streams" + NO_PLAN)
 
 
 def of_operator(text, line):
@@ -330,5 +346,5 @@ def explain(text, verdict):
     if where:
         said.append("  due here: %s" % where[1])
     said.append("  do: %s" % cause.do)
-    more = elsewhere(text, line) if number in (1, 2) and cause != causes.UTF_16 else None
+    more = elsewhere(text, line) if number in (1, 2) and cause != causes.UTF_16 and not looks_empty(text) else None
     return said + ([more] if more else []) + ["  load answers %d" % number]

@@ -211,19 +211,19 @@ static bool record_good(const uint8_t *r, unsigned n) {
     return low <= bound && kept_good(r) && all_zero(r + used, RECORD - used);
 }
 
-/* the number of streams, or 0 where the state is refused 15 */
-static unsigned streams_of(const uint8_t *state, uint64_t length) {
-    if (length != STATE) return 0;
+/* whether these bytes are a state, else it is refused 15; and how many streams it has, all bytes 0 being a state of none */
+static bool is_state(const uint8_t *state, uint64_t length, unsigned *streams) {
+    if (length != STATE) return false;
     unsigned n = 0;
     while (n < STREAMS && state[RECORD * n] != 0) n++;
     struct edges e;
     for (unsigned s = 0; s < n; s++) {
         const uint8_t *r = state + RECORD * s;
-        if (!record_good(r, n)) return 0;
+        if (!record_good(r, n)) return false;
         note(&e, s, op_of(r), arg_a(r), arg_b(r));
     }
-    if (!all_zero(state + RECORD * n, STATE - RECORD * (size_t)n)) return 0;
-    return no_cycle(&e, n) ? n : 0;
+    *streams = n;
+    return all_zero(state + RECORD * n, STATE - RECORD * (size_t)n) && no_cycle(&e, n);
 }
 
 /* ---- load */
@@ -296,6 +296,11 @@ struct line {
 uint32_t ref_load(uint8_t *state, uint64_t state_length, const uint8_t *text, uint64_t text_length) {
     if (state_length != STATE) return 15;
     if (text_length > TEXT) return 1;
+    /* the plan of no streams */
+    if (text_length == 0) {
+        memset(state, 0, STATE);
+        return 0;
+    }
     struct text t = { text, text_length, 0 };
     struct line lines[STREAMS];
     uint64_t n;
@@ -555,8 +560,8 @@ static bool moved(uint8_t *state, unsigned n, unsigned s) {
 /* ---- the other calls */
 
 uint32_t ref_offer_reading(uint8_t *state, uint64_t state_length, uint32_t stream, uint32_t stamp, int64_t value) {
-    unsigned n = streams_of(state, state_length);
-    if (n == 0) return 15;
+    unsigned n;
+    if (!is_state(state, state_length, &n)) return 15;
     if (stream >= n || state[RECORD * stream] != IN) return 7;
     const uint8_t *o = state + RECORD * stream;
     if (stamp < bound_of(o)) return 8;
@@ -566,8 +571,8 @@ uint32_t ref_offer_reading(uint8_t *state, uint64_t state_length, uint32_t strea
 }
 
 uint32_t ref_offer_progress(uint8_t *state, uint64_t state_length, uint32_t stream, uint64_t bound) {
-    unsigned n = streams_of(state, state_length);
-    if (n == 0) return 15;
+    unsigned n;
+    if (!is_state(state, state_length, &n)) return 15;
     if (stream >= n || state[RECORD * stream] != IN) return 7;
     uint8_t *o = state + RECORD * stream;
     if (bound > HORIZON) return 10;
@@ -577,16 +582,16 @@ uint32_t ref_offer_progress(uint8_t *state, uint64_t state_length, uint32_t stre
 }
 
 uint32_t ref_move(uint8_t *state, uint64_t state_length, uint32_t stream) {
-    unsigned n = streams_of(state, state_length);
-    if (n == 0) return 15;
+    unsigned n;
+    if (!is_state(state, state_length, &n)) return 15;
     if (stream >= n || state[RECORD * stream] == IN) return 11;
     return moved(state, n, stream) ? 0 : 12;
 }
 
 uint32_t ref_run(uint8_t *state, uint64_t state_length, uint32_t n, uint32_t *moves) {
     *moves = 0;
-    unsigned count = streams_of(state, state_length);
-    if (count == 0) return 15;
+    unsigned count;
+    if (!is_state(state, state_length, &count)) return 15;
     for (unsigned s = 0; s < count && *moves < n;) {
         if (moved(state, count, s)) {
             ++*moves;
@@ -601,8 +606,8 @@ uint32_t ref_run(uint8_t *state, uint64_t state_length, uint32_t n, uint32_t *mo
 uint32_t ref_collect(uint8_t *state, uint64_t state_length, uint32_t stream, uint32_t *stamp, int64_t *value) {
     *stamp = 0;
     *value = 0;
-    unsigned n = streams_of(state, state_length);
-    if (n == 0) return 15;
+    unsigned n;
+    if (!is_state(state, state_length, &n)) return 15;
     if (stream >= n || !is_out(state + RECORD * stream)) return 13;
     uint8_t *o = state + RECORD * stream;
     unsigned j = place(o, mark_of(o));

@@ -10,11 +10,12 @@ static uint8_t state[TESSLA_STATE_LENGTH];
 static int faults;
 
 static void expect(int holds, const char *what, uint32_t at) {
-    if (!holds) printf("FAILED: %s, %lu\n", what, (unsigned long)at), faults++;
+    if (!holds && ++faults <= 20) printf("FAILED: %s, %lu\n", what, (unsigned long)at);
 }
 
-/* a plan of n streams, unit and plus in turn, of which every third is an output */
+/* a plan of n streams, unit and plus in turn, of which every third is an output; without streams it has no text */
 static uint32_t make(char *text, uint32_t n) {
+    if (n == 0) return 0;
     uint32_t at = (uint32_t)sprintf(text, "plan=1\nstreams=%lu\n", (unsigned long)n);
     for (uint32_t i = 0; i < n; i++)
         at += (uint32_t)sprintf(text + at, "op=%s\na=0\nb=0\nk=0\nout=%d\n", i % 2 ? "plus" : "unit", i % 3 == 2);
@@ -37,7 +38,8 @@ static void look(uint32_t n) {
 int main(void) {
     char text[TESSLA_TEXT_LIMIT + 1], version[16];
     uint32_t moves;
-    for (uint32_t n = 1; n <= TESSLA_STREAM_LIMIT; n++) {
+    for (uint32_t n = 0; n <= TESSLA_STREAM_LIMIT; n++) {
+        memset(state, 0xA5, sizeof state);
         expect(tessla_load(state, sizeof state, (const uint8_t *)text, make(text, n)) == TESSLA_DONE, "load", n);
         look(n);
         tessla_run(state, sizeof state, 1000, &moves);
@@ -45,6 +47,14 @@ int main(void) {
     }
     expect(tessla_load(state, sizeof state, (const uint8_t *)PLAN, sizeof PLAN - 1) == TESSLA_DONE, "load", 0);
     look(14);
+    /* no plan over that one, and no text to point at */
+    expect(tessla_load(state, sizeof state, NULL, 0) == TESSLA_DONE, "load", 0);
+    look(0);
+    expect(tessla_offer_reading(state, sizeof state, 0, 5, 7) == TESSLA_NO_INPUT, "a reading without a plan", 0);
+    expect(tessla_offer_progress(state, sizeof state, 0, TESSLA_HORIZON + 1) == TESSLA_NO_INPUT, "progress without a plan", 0);
+    expect(tessla_move(state, sizeof state, 0) == TESSLA_NO_EQUATION, "a move without a plan", 0);
+    expect(tessla_run(state, sizeof state, 5, &moves) == TESSLA_DONE && moves == 0, "a run without a plan", moves);
+    look(0);
     expect(!tessla_is_output(state, UINT32_MAX) && !tessla_is_output(state, 1u << 24), "a stream far out", 0);
 
     for (uint32_t n = 0; n <= TESSLA_BAD_STATE; n++)

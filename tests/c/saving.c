@@ -130,6 +130,27 @@ static void as_of(uint8_t *head, uint8_t major, uint8_t minor) {
     store_number(head + AT_SUM, sum_of(head, head + HEAD_LENGTH, number_at(head + AT_LENGTH)));
 }
 
+/* a logger without a plan saves and finds that, as the first copy of all and after one of a plan. So it does with what a version
+   that knew no such plan saved of a buffer that was never loaded: the head alone, too */
+static void no_plan(void) {
+    static uint8_t empty[TESSLA_STATE_LENGTH], state[TESSLA_STATE_LENGTH];
+    uint32_t moves;
+    memset(empty, 0xEE, sizeof empty);
+    if (tessla_load(empty, sizeof empty, NULL, 0) != TESSLA_DONE) fail("load of no plan");
+    for (int minor = 0; minor <= TESSLA_VERSION_MINOR; minor++)
+        for (int first = 0; first < 2; first++) {
+            memset(flash, 0xFF, sizeof flash);
+            if (!first && (!save_cut(1, 1000000, NOTHING) || found() != 1)) fail("a save without a cut");
+            left = 1000000;
+            save(empty);
+            as_of(flash[newest()], TESSLA_VERSION_MAJOR, (uint8_t)minor);
+            memset(state, 0xEE, sizeof state);
+            if (!restore(state) || memcmp(state, empty, sizeof state) != 0) fail("the copy of no plan is lost");
+            if (tessla_run(state, sizeof state, 5, &moves) != TESSLA_DONE || moves != 0) fail("what was restored is no state");
+            if (!save_cut(2, 1000000, NOTHING) || found() != 2) fail("no save after a copy of no plan");
+        }
+}
+
 /* a copy of every earlier minor version is found, and the next save goes on from it; one of another first part is none */
 static void versions(void) {
     for (int minor = 0; minor <= TESSLA_VERSION_MINOR; minor++) {
@@ -147,6 +168,7 @@ static void versions(void) {
 
 int main(void) {
     make_states();
+    no_plan();
     versions();
     /* flash as it comes, and flash with anything in it */
     for (int fill = 0; fill < 2; fill++) {

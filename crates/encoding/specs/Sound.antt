@@ -85,9 +85,10 @@ pub record SoundCell (n : ℕ) (c : Cell) : Type 0 where
 abbrev pub Own : Cell → Type 0
 Own c = T (isDelay (eqnGroup (c .eqn))) → Rising 0 (c .kept .since) (c .held)
 
--- a state of a size with room for so many streams
+-- a state of a size with room for so many streams; it may have none
 pub record Sound (cap : ℕ) (M : State) : Type 0 where
-  pub some : 0 < length M
+  -- the length is one that states have
+  pub size : 0 < cap
   pub few : length M ≤ cap
   pub each : (i : ℕ) → i < length M → SoundCell (length M) (cellAt M i)
   pub own : (i : ℕ) → i < length M → Own (cellAt M i)

@@ -3,3 +3,4 @@ pub mod Loads
 pub mod Refused
 pub mod Taking
 pub mod Whole
+pub mod NoPlan

@@ -5,7 +5,7 @@ use mathlib.Core.Bool.{Bool, true, false, cond}
 use mathlib.Core.List.{List}
 use lib.Dec.{ltb}
 use lib.ListN.{length}
-use borrow.Author.Tests.{eq-eqb, ne-eqb, lt-ltb, le-ltb}
+use borrow.Author.Tests.{eq-eqb, ne-eqb, ltb-true, lt-ltb, le-ltb}
 use native.Mathlib.Omega.{arith}
 use native.Mathlib.Decide.{ℕ-discrete}
 use Rattle.machine.specs.State.{loaded}
@@ -44,9 +44,9 @@ module _ (text s : List ℕ) (most : ℕ) (m : most ≡ capacity (length s)) whe
 
 -- ---- a load
 
-pub load-done : (text s : List ℕ) → loadReply text s .number ≡ 0 → (number (capacity (length s)) text ≡ 0) × (loadReply text s .buffer ≡ bytesOf (length s) (loaded (declared (capacity (length s)) text)))
+pub load-done : (text s : List ℕ) → loadReply text s .number ≡ 0 → (number (capacity (length s)) text ≡ 0) × (loadReply text s .buffer ≡ bytesOf (length s) (loaded (declared (capacity (length s)) text))) × (0 < capacity (length s))
 unfolding loadReply
-load-done text s = by (ltb 0 (capacity (length s)))
+load-done text s = by (ltb 0 (capacity (length s))) refl
   where
     most : ℕ
     most = capacity (length s)
@@ -55,9 +55,9 @@ load-done text s = by (ltb 0 (capacity (length s)))
     full zero e = (refl, refl)
     full (suc n) e = absurd (omega arith)
 
-    by : (x : Bool) → cond x (loadOf (number most text) text s) (notState s) .number ≡ 0 → (number most text ≡ 0) × (cond x (loadOf (number most text) text s) (notState s) .buffer ≡ bytesOf (length s) (loaded (declared most text)))
-    by true e = full (number most text) e
-    by false e = absurd (omega arith)
+    by : (x : Bool) → ltb 0 most ≡ x → cond x (loadOf (number most text) text s) (notState s) .number ≡ 0 → (number most text ≡ 0) × (cond x (loadOf (number most text) text s) (notState s) .buffer ≡ bytesOf (length s) (loaded (declared most text))) × (0 < most)
+    by true l e = let f = full (number most text) e in (f .0, f .1, ltb-true 0 most l)
+    by false l e = absurd (omega arith)
 
 -- a refused load leaves the buffer
 pub load-refused : (text s : List ℕ) → (loadReply text s .number ≡ 0 → ⊥) → loadReply text s .buffer ≡ s
@@ -82,5 +82,5 @@ load-length text s = go (ℕ-discrete (loadReply text s .number) 0)
     go (yes e) =
         let d = load-done text s e in
         let ds = declared (capacity (length s)) text in
-        ap length (d .1) ∙ bytes-length (length s) (loaded ds) (loaded-sound ds (taken-rendered (capacity (length s)) text (d .0) .1))
+        ap length (d .1) ∙ bytes-length (length s) (loaded ds) (loaded-sound (d .2) ds (taken-rendered (capacity (length s)) text (d .0) .1))
     go (no n) = ap length (load-refused text s n)

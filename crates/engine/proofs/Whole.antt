@@ -80,16 +80,16 @@ record Kept (ds : List Declared) (cs : List Call) (seen : List Seen) (b : List �
   made : callsOf seen ≡ cs
 
 -- a load that was done: the plan is read with the room that the buffer has, which stays as long as it was
-start : (text b : List ℕ) (size : ℕ) → number (capacity size) text ≡ 0 → b ≡ bytesOf size (loaded (declared (capacity size) text)) → Kept (declared (capacity (length b)) text) [] [] b
+start : (text b : List ℕ) (size : ℕ) → 0 < capacity size → number (capacity size) text ≡ 0 → b ≡ bytesOf size (loaded (declared (capacity size) text)) → Kept (declared (capacity (length b)) text) [] [] b
 unfolding after log
-start text b size e q =
-    let sized : length b ≡ size = ap length q ∙ bytes-length size (loaded (declared (capacity size) text)) (loaded-sound (declared (capacity size) text) (taken-rendered (capacity size) text e .1)) in
-    fresh (ap (λ (n : ℕ). number (capacity n) text) sized ∙ e) (q ∙ ap (λ (n : ℕ). bytesOf n (loaded (declared (capacity n) text))) (sym sized))
+start text b size l e q =
+    let sized : length b ≡ size = ap length q ∙ bytes-length size (loaded (declared (capacity size) text)) (loaded-sound l (declared (capacity size) text) (taken-rendered (capacity size) text e .1)) in
+    fresh (rw sized l) (ap (λ (n : ℕ). number (capacity n) text) sized ∙ e) (q ∙ ap (λ (n : ℕ). bytesOf n (loaded (declared (capacity n) text))) (sym sized))
   where
-    fresh : number (capacity (length b)) text ≡ 0 → b ≡ bytesOf (length b) (loaded (declared (capacity (length b)) text)) → Kept (declared (capacity (length b)) text) [] [] b
-    fresh e q =
+    fresh : 0 < capacity (length b) → number (capacity (length b)) text ≡ 0 → b ≡ bytesOf (length b) (loaded (declared (capacity (length b)) text)) → Kept (declared (capacity (length b)) text) [] [] b
+    fresh l e q =
         let k = taken-rendered (capacity (length b)) text e .1 in
-        record { rules = k; typed = tt; sound = loaded-sound (declared (capacity (length b)) text) k; bytes = q; logged = refl; made = refl }
+        record { rules = k; typed = tt; sound = loaded-sound l (declared (capacity (length b)) text) k; bytes = q; logged = refl; made = refl }
 
 -- one call more, on a buffer that stays as long as it was
 further : (ds : List Declared) (cs : List Call) (seen : List Seen) (b : List ℕ) (c : Call) → Typed c → Kept ds cs seen b → Kept ds (cs ++ c ∷ []) (seen ++ seenIn c (reply c b) ∷ []) (reply c b .buffer)
@@ -151,7 +151,7 @@ kept-act (load text) past p t h k = by (eqb (loadReply text (p .bytes) .number) 
   where
     by : (x : Bool) → eqb (loadReply text (p .bytes) .number) 0 ≡ x
         → KeptIn (cond x (some (record { plan = declared (capacity (length (loadReply text (p .bytes) .buffer))) text; seen = [] })) (p .course)) (loadReply text (p .bytes) .buffer)
-    by true e = let d = load-done text (p .bytes) (eqb-true (loadReply text (p .bytes) .number) 0 e) in ([], start text (loadReply text (p .bytes) .buffer) (length (p .bytes)) (d .0) (d .1))
+    by true e = let d = load-done text (p .bytes) (eqb-true (loadReply text (p .bytes) .number) 0 e) in ([], start text (loadReply text (p .bytes) .buffer) (length (p .bytes)) (d .2) (d .0) (d .1))
     by false e = subst (KeptIn (p .course)) (sym (load-refused text (p .bytes) (eqb-false (loadReply text (p .bytes) .number) 0 e))) k
 kept-act (make c) past p t h k = by (p .course) k
   where
@@ -260,7 +260,7 @@ load-then text s e cs t =
     let d = load-done text s e in
     let b = loadReply text s .buffer in
     let ds = declared (capacity (length b)) text in
-    kept-inside ds cs (seenBy b cs) (leftBy b cs) (calls-kept cs ds [] [] b t (start text b (length s) (d .0) (d .1)))
+    kept-inside ds cs (seenBy b cs) (leftBy b cs) (calls-kept cs ds [] [] b t (start text b (length s) (d .2) (d .0) (d .1)))
 
 -- ---- a copy put back
 

@@ -45,8 +45,6 @@ pub record Refusals : Type 0 where
 pub record Taking : Type 0 where
   pub exactly : (text s : List ℕ) → 0 < capacity (length s)
       → (loadReply text s .number ≡ 0) ↔ ((ds : List Declared) × (render ds ≡ text) × KeepsRules (capacity (length s)) ds)
-  -- and such a plan has such a text
-  pub every : (ds : List Declared) (s : List ℕ) → KeepsRules (capacity (length s)) ds → loadReply (render ds) s .number ≡ 0
 
 -- That every stream is what the definition gives is below, of what is handed out; of what came into a stream, is held and kept
 -- it is in specs/Inside.antt, with the machine.

@@ -121,12 +121,18 @@ module _ (s : List ℕ) where
   count-begins : {p : ℕ} → skip s 0 planLine ≡ Past p → Begins s 2 p
   count-begins {p} e = line-after p (112 ∷ 108 ∷ 97 ∷ 110 ∷ 61 ∷ 49 ∷ []) [] top-begins (clean-unended (112 ∷ 108 ∷ 97 ∷ 110 ∷ 61 ∷ 49 ∷ []) refl) tt (skip-read s planLine 0 p e)
 
-  head-begins : (cap : ℕ) {n at : ℕ} → head cap s ≡ Head.Streams n at → Begins s 3 at
-  head-begins cap {n} {at} e = head-case cap s n at e (λ p w f x y. field-after streamsKey refl (count-begins w) f)
+  -- of a text of some bytes
+  head-begins : (cap : ℕ) {n at : ℕ} → head cap s ≡ Head.Streams n at → (s ≡ [] → n ≡ 0 → ⊥) → Begins s 3 at
+  head-begins cap {n} {at} e some = head-case cap s n at e (λ z m q. absurd (some z m)) (λ p w f x y. field-after streamsKey refl (count-begins w) f)
+
+  -- no bytes have no first line
+  no-line : {q : ℕ} → skip [] 0 planLine ≡ Past q → ⊥
+  unfolding skip
+  no-line e = let z : _≡_ {A = ℕ} 0 1 = cc in omega arith
 
   -- The line that the grammar reads as the l-th has just l - 1 whole lines before it.
   pub line-begins : (cap : ℕ) {l q : ℕ} → LineAt cap s l q → Begins s l q
   line-begins cap top = top-begins
   line-begins cap (count e) = count-begins e
-  line-begins cap (inside h l w v) = line-in (stream-in (head-begins cap h) w) v
-  line-begins cap (beyond h w) = stream-in (head-begins cap h) w
+  line-begins cap (inside h l w v) = line-in (stream-in (head-begins cap h (λ z m. omega arith)) w) v
+  line-begins cap (beyond e h w) = stream-in (head-begins cap h (λ z m. no-line (ap (λ (x : List ℕ). skip x 0 planLine) (sym z) ∙ e))) w

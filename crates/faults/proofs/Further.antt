@@ -98,7 +98,7 @@ module _ (s : List ℕ) where
       most-beyond m q top = omega arith
       most-beyond m q (count e) = omega arith
       most-beyond m q (inside e u w v) = let z = head-count e in let y = line-most v in omega arith
-      most-beyond m q (beyond e w) = let z = head-count e in omega arith
+      most-beyond m q (beyond o e w) = let z = head-count e in omega arith
 
       -- within a stream
       most-inside : {i p r : ℕ} → i < n → StreamIn s at i p → stream s p ≡ Lines.Refused r → Most (3 + 5 * i + streamLine s p)
@@ -116,7 +116,7 @@ module _ (s : List ℕ) where
               let z : j ≡ i = omega arith in
               let g = ap (streamLine s) (stream-once y w z) in
               omega arith
-      most-inside {i} u w e m q (beyond {n = j} {p = x} f y) =
+      most-inside {i} u w e m q (beyond {n = j} {p = x} g f y) =
           let z = head-count f in
           let o : j ≤ i = stream-most w e (subst (λ (t : ℕ). StreamIn s t j x) (z .1) y) in
           absurd (omega arith)
@@ -178,7 +178,7 @@ module _ (cap : ℕ) (s : List ℕ) (f : declared.Fault) (l : 0 < f .line) (few 
   head-most r h Absent e m q top = omega arith
   head-most r h Absent e m q (count g) = absurd (no-word (sym e ∙ g))
   head-most r h x e m q (inside g u w v) = absurd (no-head (sym h ∙ g))
-  head-most r h x e m q (beyond g w) = absurd (no-head (sym h ∙ g))
+  head-most r h x e m q (beyond o g w) = absurd (no-head (sym h ∙ g))
 
   at-head : (x : Head) → head cap s ≡ x → f ≡ faultOfHead cap s (f .stream) x → Last
   at-head (Head.Streams n at) h e = at-streams n at h e

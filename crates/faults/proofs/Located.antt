@@ -28,6 +28,7 @@ use Rattle.text.specs.declared.Head.{Head}
 use Rattle.text.specs.declared.Head.the-variants as Head
 use Rattle.text.specs.Grammar.{planLine, firstKey, secondKey, opLine, stream, head}
 use Rattle.render.proofs.Ranges.{fields-case, stream-case}
+use Rattle.render.proofs.Heads.{head-case}
 use Rattle.plan.specs.Rules.{keeps, Form, refused, formed, put, others, streams, planFrom}
 use Rattle.plan.proofs.Forms.{clash}
 use Rattle.plan.proofs.Noted.{read-sound, plan-length}
@@ -89,18 +90,24 @@ module _ (s : List ℕ) where
     abbrev Read : ℕ → Type 0
     Read l = Somewhere (LineAt cap s l)
 
+    first-at : {i p : ℕ} → StreamIn s at i p → i ≡ 0 → p ≡ at
+    first-at first e = refl
+    first-at (next w v) e = absurd (omega arith)
+
     read-in : {i p j : ℕ} → i < n → StreamIn s at i p → Somewhere (LineIn s p j) → Read (3 + 5 * i + j)
     read-in u w l = (l .0, inside h u w (l .1))
 
     form-read : (m i p : ℕ) → i + m ≡ n → StreamIn s at i p → 0 < formFault s i p m .line → Read (formFault s i p m .line)
     unfolding formFault
-    form-read zero i p u w l = by (eqb p (length s)) l
+    form-read zero i p u w l = by (eqb p (length s)) refl l
       where
-        by : (t : Bool) → 0 < cond t none (fault 2 (3 + 5 * i) 0) .line → Read (cond t none (fault 2 (3 + 5 * i) 0) .line)
-        by true l = absurd (omega arith)
-        by false l =
+        by : (t : Bool) → eqb p (length s) ≡ t → 0 < cond t none (fault 2 (3 + 5 * i) 0) .line → Read (cond t none (fault 2 (3 + 5 * i) 0) .line)
+        by true e l = absurd (omega arith)
+        by false e l =
             let z : n ≡ i = omega arith in
-            subst (λ (x : ℕ). Read (3 + 5 * x)) z (p, beyond h (subst (λ (x : ℕ). StreamIn s at x p) (sym z) w))
+            -- of no bytes none are left over
+            head-case cap s n at h (λ b m q. let y = ap length b in let x = first-at w (omega arith) in absurd (eqb-false p (length s) e (omega arith)))
+            (λ q f g x y. subst (λ (x : ℕ). Read (3 + 5 * x)) z (p, beyond f h (subst (λ (x : ℕ). StreamIn s at x p) (sym z) w)))
     form-read (suc m) i p u w l = by (stream s p) refl l (λ f e. form-read m (i + 1) (f .next) (omega arith) (next w e))
       where
         by : (x : Lines) → stream s p ≡ x → 0 < streamOr x (λ r. inStream r i (streamLine s p)) (λ f. formFault s (i + 1) (f .next) m) .line

@@ -4,6 +4,7 @@ use mathlib.Core.Path.{_≡_, refl, subst}
 use mathlib.Core.Bool.{Bool, true, false, cond, _&&_}
 use mathlib.Core.List.{List}
 use native.Mathlib.Omega.{arith}
+use native.Mathlib.Decide.{ℕ-discrete}
 use lib.Dec.{eqb, lit≤}
 use lib.ListN.{length}
 use Rattle.operators.specs.Limits.{countFits}
@@ -20,6 +21,7 @@ use Rattle.text.specs.declared.Lines.the-variants as Lines
 use Rattle.text.specs.declared.Head.{Head}
 use Rattle.text.specs.declared.Head.the-variants as Head
 use Rattle.text.specs.Grammar.{planLine, streamsKey, firstKey, secondKey, opLine, next, fieldsAfter, streamAfter, stream, counts, headAfter, head}
+use Rattle.text.proofs.Heads.{no-bytes, some-bytes}
 use Rattle.plan.specs.Rules.{keeps, allKeep, Form, refused, formed, put, others, streams}
 use Rattle.faults.specs.declared.Fault as declared
 use Rattle.faults.specs.Faults.{fault, none, inStream, streamLine, streamOr, formFault, fieldBroken, ruleFault}
@@ -57,8 +59,7 @@ LowHead (Head.Streams n at) = Unit {0}
 LowHead (Head.Refused r) = r ≤ 4
 
 pub head-low : (cap : ℕ) (s : List ℕ) (r : ℕ) → head cap s ≡ Head.Refused r → r ≤ 4
-unfolding head
-head-low cap s r e = subst LowHead e (by-word (skip s 0 planLine))
+head-low cap s r e = subst LowHead e (by (ℕ-discrete (length s) 0))
   where
     by-count : (n p : ℕ) (b : Bool) → LowHead (cond b (Head.Streams n p) (Head.Refused 3))
     by-count n p true = tt
@@ -71,6 +72,10 @@ head-low cap s r e = subst LowHead e (by-word (skip s 0 planLine))
     by-word : (x : Word) → LowHead (headAfter cap s x)
     by-word (Past p) = by-number (field s p streamsKey 3)
     by-word Absent = lit≤ tt
+
+    by : Dec (length s ≡ 0) → LowHead (head cap s)
+    by (yes z) = rw (no-bytes cap s z) tt
+    by (no z) = rw (some-bytes cap s z) (by-word (skip s 0 planLine))
 
 module _ (s : List ℕ) where
   -- ## The first faulty line

@@ -36,11 +36,13 @@ abbrev pub cases : List Case
 cases =
     -- taken
     row (alone "op=in\na=0\nb=0\nk=0\nout=0\n") 0 0 0
+    ∷ row "" 0 0 0
     -- the first two lines
-    ∷ row "" 2 1 0
+    ∷ row "\n" 2 1 0
     ∷ row "plan=2\nstreams=1\n" 2 1 0
     ∷ row "plan=1\n" 2 2 0
     ∷ row "plan=1\nstreams=01\n" 2 2 0
+    ∷ row "plan=1\nstreams=0\n" 3 2 0
     ∷ row "plan=1\nstreams=33\n" 3 2 0
     -- a stream's lines: each in turn, a line that is missing, the last line's ending byte
     ∷ row (alone "op=In\n") 2 3 0

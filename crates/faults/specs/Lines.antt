@@ -48,12 +48,12 @@ pub data StreamIn (s : List ℕ) (at : ℕ) : ℕ → ℕ → Type 0 where
   first : StreamIn s at 0 at
   next : {i p : ℕ} {f : Fields} → StreamIn s at i p → stream s p ≡ Lines.Stream f → StreamIn s at (i + 1) (f .next)
 
--- a line of a text that announces n streams, and where the text should end
+-- a line of a text that announces n streams, and where a text that has lines should end
 pub data LineAt (cap : ℕ) (s : List ℕ) : ℕ → ℕ → Type 0 where
   top : LineAt cap s 1 0
   count : {p : ℕ} → skip s 0 planLine ≡ Past p → LineAt cap s 2 p
   inside : {n at i p j q : ℕ} → head cap s ≡ Head.Streams n at → i < n → StreamIn s at i p → LineIn s p j q → LineAt cap s (3 + 5 * i + j) q
-  beyond : {n at p : ℕ} → head cap s ≡ Head.Streams n at → StreamIn s at n p → LineAt cap s (3 + 5 * n) p
+  beyond : {n at p q : ℕ} → skip s 0 planLine ≡ Past q → head cap s ≡ Head.Streams n at → StreamIn s at n p → LineAt cap s (3 + 5 * n) p
 
 -- ## The line of a fault
 

@@ -58,10 +58,10 @@ unfolding loaded
 plan-loaded [] = refl
 plan-loaded (d ∷ ds) = ap (λ (l : Plan). d .eqn ∷ l) (plan-loaded ds)
 
--- a plan that keeps the rules loads as a sound state
-pub loaded-sound : {cap : ℕ} (ds : List Declared) → KeepsRules cap ds → Sound cap (loaded ds)
-loaded-sound ds k = record {
-  some = rw (many ds) (k .some);
+-- a plan that keeps the rules loads as a sound state, in a buffer of a length that states have
+pub loaded-sound : {cap : ℕ} → 0 < cap → (ds : List Declared) → KeepsRules cap ds → Sound cap (loaded ds)
+loaded-sound l ds k = record {
+  size = l;
   few = rw (many ds) (k .few);
   each = λ i h. rw (many ds) (at i (subst (λ (n : ℕ). i < n) (many ds) h));
   own = λ i h. own-at i (subst (λ (n : ℕ). i < n) (many ds) h);

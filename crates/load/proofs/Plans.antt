@@ -51,7 +51,6 @@ pub sound-rules : {cap : ℕ} (M : State) → Sound cap M → KeepsRules cap (de
 sound-rules M ok =
     let m : length (declaredIn M) ≡ length M = length-map M declares in
     record {
-      some = rw m (ok .some);
       few = rw m (ok .few);
       each = rw m (each-keeps (length M) M (ok .each));
       clear = subst Acyclic (sym (same-plan M)) (ok .acyclic);
@@ -64,7 +63,7 @@ valid-plan-taken s b e =
     (render (declaredIn (stateIn s)), k .0, k .1)
 
 -- and the plan of a taken text passes: its fresh state is valid, all else in it being 0
-pub taken-plan-valid : (size : ℕ) (text : List ℕ) → number (capacity size) text ≡ 0 → valid (bytesOf size (loaded (declared (capacity size) text))) ≡ true
-taken-plan-valid size text e =
+pub taken-plan-valid : (size : ℕ) → 0 < capacity size → (text : List ℕ) → number (capacity size) text ≡ 0 → valid (bytesOf size (loaded (declared (capacity size) text))) ≡ true
+taken-plan-valid size l text e =
     let ds = declared (capacity size) text in
-    bytes-valid size (loaded ds) (loaded-sound ds (taken-rendered (capacity size) text e .1))
+    bytes-valid size (loaded ds) (loaded-sound l ds (taken-rendered (capacity size) text e .1))

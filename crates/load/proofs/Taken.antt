@@ -174,7 +174,7 @@ taken-filled text s e =
     let M : State = loaded (map declaredFrom fs) in
     let m : length M ≡ n = many (map declaredFrom fs) ∙ length-map fs declaredFrom ∙ t .1 in
     ap (λ (x : Head). filledHead text x s) (p .opens)
-    ∙ ap (λ (st : Raws). encode n (written text (p .start) n 0 st)) (cleared size n (omega (arith, h .1, capacity-fits size)))
+    ∙ ap (λ (st : Raws). encode n (written text (p .start) n 0 st)) (cleared size n (omega (arith, h, capacity-fits size)))
     ∙ ap (encode n) (pass-rows text z n (p .start) 0 (length text) fs [] refl (p .lists) ∙ ap (λ (l : List Raw). rows text z l) (all-fresh n fs (p .kept) (t .0)))
     ∙ ap (λ (j : ℕ). encode j (record { rows = map ofCell M; spare = replicate (size - j * 256) 0 })) (sym m)
     ∙ ap (λ (ds : List Declared). bytesOf size (loaded ds)) (sym (parts-declared most text p))

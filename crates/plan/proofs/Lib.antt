@@ -6,3 +6,4 @@ pub mod Rendered
 pub mod Taken
 pub mod Second
 pub mod Worked
+pub mod Empty

@@ -29,7 +29,7 @@ use Rattle.text.specs.declared.Head.the-variants as Head
 use Rattle.lines.specs.Form.{valueKey, outKey, ending}
 use Rattle.text.specs.Grammar.{planLine, streamsKey, opKey, firstKey, secondKey, stream, head}
 use Rattle.decimal.specs.Decimal.{decimal, valueText}
-use Rattle.render.specs.Render.{bitText, line, streamText, declaredText, allText, render}
+use Rattle.render.specs.Render.{bitText, line, streamText, declaredText, allText, opening, render}
 use Rattle.decimal.proofs.Digits.{digits-few}
 use Rattle.render.proofs.Streams.{bitsOf, outOf, name-short, stream-written}
 use Rattle.render.proofs.Heads.{head-written}
@@ -176,13 +176,18 @@ all-length n [] k h = lit≤ tt
 all-length n (d ∷ ds) k h = rw (length-append (declaredText d) (allText ds)) (omega (arith, declared-length n d (k .0) h, all-length n ds (k .1) h))
 
 -- every plan that keeps the rules renders within the limit
+opening-short : (n : ℕ) → n < 10 ^ 3 → length (opening n) ≤ 19
+opening-short zero h = omega arith
+opening-short (suc n) h =
+    rw (length-append planLine (line streamsKey (decimal (suc n))))
+    (omega (arith, line-length streamsKey (decimal (suc n)), digits-few 19 (suc n) 3 (lit< tt) h))
+
 pub render-short : (cap : ℕ) → cap ≤ mostStreams → (ds : List Declared) → KeepsRules cap ds → length (render ds) ≤ textLimit
 unfolding render
 render-short cap c ds k =
     let n = length ds in
-    let l = line streamsKey (decimal n) in
-    rw (length-append planLine (l ++ allText ds), length-append l (allText ds))
-    (omega (arith, line-length streamsKey (decimal n), digits-few 19 n 3 (lit< tt) (omega (arith, k .few)), all-length n ds (k .each) (omega (arith, k .few)), k .few))
+    rw (length-append (opening n) (allText ds))
+    (omega (arith, opening-short n (omega (arith, k .few)), all-length n ds (k .each) (omega (arith, k .few)), k .few))
 
 -- ## Rule 6
 
@@ -216,9 +221,14 @@ read-back : (cap : ℕ) (s : List ℕ) (n at : ℕ) (fs : List Fields) (end : �
 unfolding declared
 read-back cap s n at fs end h e = rw (h, e)
 
-rendered : (ds : List Declared) → render ds ≡ planLine ++ (line streamsKey (decimal (length ds)) ++ allText ds)
+rendered : (ds : List Declared) → render ds ≡ opening (length ds) ++ allText ds
 unfolding render
 rendered ds = refl
+
+no-lines : (ds : List Declared) → length ds ≡ 0 → allText ds ≡ []
+unfolding allText
+no-lines [] e = refl
+no-lines (d ∷ ds) e = absurd (omega arith)
 
 -- the text of a plan that keeps the rules is taken, and reading it gives the plan back
 pub render-taken : (cap : ℕ) → cap ≤ mostStreams → (ds : List Declared) → KeepsRules cap ds → (number cap (render ds) ≡ 0) × (declared cap (render ds) ≡ ds)
@@ -226,7 +236,7 @@ render-taken cap c ds k =
     let s = render ds in
     let n = length ds in
     let few : n ≤ mostStreams = omega (arith, k .few) in
-    let h = head-written cap s n (allText ds) (k .some) (k .few) (omega arith) (rendered ds) in
+    let h = head-written cap s n (allText ds) (k .few) (omega arith) (no-lines ds) (rendered ds) in
     let w = streams-written s n few ds (k .each) (h .0) [] (h .3) (h .2 ∙ sym (append-nil (allText ds))) in
     let z : length s - w .end ≡ 0 = sym (length-drop (w .end) s) ∙ ap length (w .behind) in
     let end : w .end ≡ length s = omega (arith, w .within) in (

@@ -66,4 +66,4 @@ pub taken-stored : (cap : ℕ) → cap ≤ mostStreams → (s : List ℕ) (p : P
 taken-stored cap c s p =
     let r = read-sound s (p .count) (p .start) (p .fields) (length s) (p .lists) in
     let h = head-fits cap s (p .count) (p .start) (p .opens) in
-    (all-stored (p .count) (p .fields) (omega (arith, h .1)) (r .0) (streams-read s (p .count) (p .start) (p .fields) (length s) (p .lists) .1) (p .kept), r .1)
+    (all-stored (p .count) (p .fields) (omega (arith, h)) (r .0) (streams-read s (p .count) (p .start) (p .fields) (length s) (p .lists) .1) (p .kept), r .1)

@@ -27,9 +27,8 @@ use Rattle.text.specs.declared.Lines.{Lines}
 use Rattle.text.specs.declared.Lines.the-variants as Lines
 use Rattle.text.specs.declared.Head.{Head}
 use Rattle.text.specs.declared.Head.the-variants as Head
-use Rattle.text.specs.Grammar.{planLine, streamsKey, stream, head}
-use Rattle.decimal.specs.Decimal.{decimal}
-use Rattle.render.specs.Render.{line, streamText, declaredText, allText, render}
+use Rattle.text.specs.Grammar.{stream, head}
+use Rattle.render.specs.Render.{streamText, declaredText, allText, opening, render}
 use Rattle.render.proofs.Ranges.{stream-refused}
 use Rattle.render.proofs.Back.{stream-read}
 use Rattle.render.proofs.Heads.{head-fits, head-read, head-refused}
@@ -161,7 +160,7 @@ pub parts-declared : (cap : ℕ) (s : List ℕ) (p : Parts cap s) → declared c
 unfolding declared
 parts-declared cap s p = rw (p .opens, p .lists)
 
-rendered : (ds : List Declared) (n : ℕ) → length ds ≡ n → render ds ≡ planLine ++ (line streamsKey (decimal n) ++ allText ds)
+rendered : (ds : List Declared) (n : ℕ) → length ds ≡ n → render ds ≡ opening n ++ allText ds
 unfolding render
 rendered ds n e = rw e
 
@@ -178,10 +177,9 @@ taken-rendered cap s e =
     let x = head-read cap s n (p .start) (p .opens) in
     let y : drop (p .start) s ≡ allText ds = t .0 ∙ rw (drop-length s, append-nil (fieldsText (p .fields))) (all-text n (p .fields) (r .0) (p .kept)) in
     subst (λ (l : List Declared). (render l ≡ s) × KeepsRules cap l) (sym (parts-declared cap s p)) (
-      rendered ds n m ∙ ap (λ (l : List ℕ). planLine ++ (line streamsKey (decimal n) ++ l)) (sym y) ∙ sym x,
+      rendered ds n m ∙ ap (λ (l : List ℕ). opening n ++ l) (sym y) ∙ sym x,
       record {
-        some = omega (arith, h .0, m);
-        few = omega (arith, h .1, m);
+        few = omega (arith, h, m);
         each = subst (λ (i : ℕ). Each i ds) (sym m) (each-keeps n (p .fields) (r .0) (t .1) (p .kept));
         clear = subst Acyclic (same-plan (p .fields)) (test-sound cap (planFrom (p .fields)) (p .clear));
       },

@@ -37,7 +37,9 @@ pair s = "plan=1\nstreams=2\n" ++ s
 unfoldable pub rows : List Row
 rows =
     -- the first faulty line decides: in the opening lines, in a stream's, a line that is missing
-    row "" 2
+    row "\n" 2
+    ∷ row "plan=1\n" 2
+    ∷ row "plan=1\nstreams=0\n" 3
     ∷ row "plan=1\nstreams=33\n" 3
     ∷ row "plan=1\nstreams=033\n" 2
     ∷ row "plan=1\nstreams=32\n" 2
@@ -112,8 +114,10 @@ negates a = "op=neg\na=" ++ (a ++ "\nb=0\nk=0\nout=0\n")
 
 unfoldable pub takens : List Taken
 takens =
+    -- the text of no bytes
+    taken "" []
     -- last of itself, and a signal form in a cycle by way of a last's first argument
-    taken (pair "op=last\na=0\nb=1\nk=0\nout=1\nop=in\na=0\nb=0\nk=0\nout=0\n") (outer (last 0 1) ∷ inner input ∷ [])
+    ∷ taken (pair "op=last\na=0\nb=1\nk=0\nout=1\nop=in\na=0\nb=0\nk=0\nout=0\n") (outer (last 0 1) ∷ inner input ∷ [])
     ∷ taken ("plan=1\nstreams=3\n" ++ "op=in\na=0\nb=0\nk=0\nout=0\n" ++ "op=last\na=2\nb=0\nk=0\nout=0\n" ++ "op=sadd\na=0\nb=1\nk=0\nout=1\n")
     (inner input ∷ inner (last 2 0) ∷ outer (signal add 0 1) ∷ [])
     -- a chain of as many streams as there can be

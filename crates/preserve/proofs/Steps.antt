@@ -41,7 +41,7 @@ plan-same M N l h =
 
 pub sound-again : {cap : ℕ} (M N : State) → Sound cap M → length N ≡ length M → ((i : ℕ) → cellAt N i .eqn ≡ cellAt M i .eqn) → ((i : ℕ) → i < length M → SoundCell (length M) (cellAt N i)) → ((i : ℕ) → i < length M → Own (cellAt N i)) → Sound cap N
 sound-again M N ok l q h w = record {
-  some = rw l (ok .some);
+  size = ok .size;
   few = rw l (ok .few);
   each = λ i k. rw l (h i (rw l at k));
   own = λ i k. w i (rw l at k);

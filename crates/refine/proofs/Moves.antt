@@ -84,11 +84,10 @@ arg-is n a h = rw (lt-ltb a n h)
 
 -- the state while a stream is written has sound cells, but its new event is not yet counted in `since`
 record Cells (M : State) : Type 0 where
-  pub some : 0 < length M
   pub each : (i : ℕ) → i < length M → SoundCell (length M) (cellAt M i)
 
 cells : {cap : ℕ} (M : State) → Sound cap M → Cells M
-cells M ok = record { some = ok .some; each = ok .each }
+cells M ok = record { each = ok .each }
 
 module _ (size : ℕ) (M : State) (ok : Cells M) where
   row : (j : ℕ) → j < length M → rowAt (rawsOf size M) j ≡ ofCell (cellAt M j)
@@ -100,10 +99,10 @@ module _ (size : ℕ) (M : State) (ok : Cells M) where
 
   module _ (i : ℕ) (l : i < length M) where
     below-a : argA (cellAt M i .eqn) < length M
-    below-a = first-below (length M) (cellAt M i .eqn) (ok .some) (ok .each i l .arguments)
+    below-a = first-below (length M) (cellAt M i .eqn) (omega arith) (ok .each i l .arguments)
 
     below-b : argB (cellAt M i .eqn) < length M
-    below-b = second-below (length M) (cellAt M i .eqn) (ok .some) (ok .each i l .arguments)
+    below-b = second-below (length M) (cellAt M i .eqn) (omega arith) (ok .each i l .arguments)
 
     own : ownIn i (rawsOf size M) ≡ cellAt M i
     own = own-is i l
@@ -201,7 +200,6 @@ module _ {cap : ℕ} (size : ℕ) (M : State) (ok : Sound cap M) (i : ℕ) (l : 
 
     cells-N : Cells (set M i (advance y new (cellAt M i)))
     cells-N = record {
-      some = rw (length-set M i (advance y new (cellAt M i))) (ok .some);
       each = λ j h. rw (length-set M i (advance y new (cellAt M i))) (at j (rw (length-set M i (advance y new (cellAt M i))) at h));
     }
       where

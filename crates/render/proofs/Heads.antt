@@ -1,8 +1,8 @@
 -- The first two lines, written and read.
-use Prim.Native.Nat.{ℕ, suc, _^_, _<_, _≤_}
+use Prim.Native.Nat.{ℕ, zero, suc, _^_, _<_, _≤_}
 use mathlib.Core.Path.{_≡_, refl, sym, ap, _∙_}
 use mathlib.Core.Bool.{Bool, true, false, cond, true≢false}
-use mathlib.Core.List.{List, _++_}
+use mathlib.Core.List.{List, [], _∷_, _++_}
 use native.Mathlib.Omega.{arith}
 use lib.Dec.{leb, lit<, lit≤}
 use lib.ListN.{length, drop}
@@ -18,16 +18,19 @@ use Rattle.text.specs.declared.Head.the-variants as Head
 use Rattle.lines.specs.Form.{skip, field}
 use Rattle.text.specs.Grammar.{planLine, streamsKey, counts, headAfter, head}
 use Rattle.decimal.specs.Decimal.{decimal}
-use Rattle.render.specs.Render.{line}
+use Rattle.text.proofs.Heads.{no-bytes, some-bytes}
+use Rattle.render.specs.Render.{line, opening}
 use Rattle.render.proofs.Written.{on, skip-written, field-written}
 use Rattle.render.proofs.Back.{skip-read, field-read}
 
--- a count of streams that is as it may be is read
-pub head-written : (cap : ℕ) (s : List ℕ) (n : ℕ) (r : List ℕ) → 1 ≤ n → n ≤ cap → n < 10 ^ 3 → s ≡ planLine ++ (line streamsKey (decimal n) ++ r) → (p : ℕ) × (head cap s ≡ Head.Streams n p) × (drop p s ≡ r) × (p ≤ length s)
-unfolding head
-head-written cap s n r l h d e =
+-- a count of streams that is as it may be is read; behind no streams nothing stands
+pub head-written : (cap : ℕ) (s : List ℕ) (n : ℕ) (r : List ℕ) → n ≤ cap → n < 10 ^ 3 → (n ≡ 0 → r ≡ []) → s ≡ opening n ++ r → (p : ℕ) × (head cap s ≡ Head.Streams n p) × (drop p s ≡ r) × (p ≤ length s)
+head-written cap s zero r h d z e = (0, no-bytes cap s (ap length (e ∙ z refl)), e, omega arith)
+head-written cap s (suc m) r h d z e =
+    let n = suc m in
     let f = field-written s 7 streamsKey n 3 r (lit< tt) (lit≤ tt) d (on s 0 planLine (line streamsKey (decimal n) ++ r) e) in
-    (f .0, rw (skip-written s planLine 0 (line streamsKey (decimal n) ++ r) e, f .1, le-leb 1 n l, le-leb n cap h), f .2, f .3)
+    let some : length s ≡ 0 → ⊥ = λ q. let w : length (planLine ++ (line streamsKey (decimal n) ++ r)) ≡ 0 = sym (ap length e) ∙ q in omega arith in
+    (f .0, some-bytes cap s some ∙ rw (skip-written s planLine 0 (line streamsKey (decimal n) ++ r) e, f .1, le-leb 1 n (omega arith), le-leb n cap h), f .2, f .3)
 
 -- ## Case by case
 
@@ -50,9 +53,9 @@ refusalIn (Head.Refused r) = r
 refused : {A : Type 0} {n at r : ℕ} → Head.Refused r ≡ Head.Streams n at → A
 refused e = absurd (true≢false (sym (ap isStreams e)))
 
-pub head-case : {A : Type 0} (cap : ℕ) (s : List ℕ) (n at : ℕ) → head cap s ≡ Head.Streams n at → ((p : ℕ) → skip s 0 planLine ≡ Past p → field s p streamsKey 3 ≡ Number n at → 1 ≤ n → n ≤ cap → A) → A
-unfolding head
-head-case {A = A} cap s n at e c = by-word (skip s 0 planLine) refl e
+-- of a text of some bytes
+some-case : {A : Type 0} (cap : ℕ) (s : List ℕ) (n at : ℕ) → headAfter cap s (skip s 0 planLine) ≡ Head.Streams n at → ((p : ℕ) → skip s 0 planLine ≡ Past p → field s p streamsKey 3 ≡ Number n at → 1 ≤ n → n ≤ cap → A) → A
+some-case {A = A} cap s n at e c = by-word (skip s 0 planLine) refl e
   where
     by-count : (p m t : ℕ) (b : Bool) → countFits cap m ≡ b → skip s 0 planLine ≡ Past p → field s p streamsKey 3 ≡ Number m t → cond b (Head.Streams m t) (Head.Refused 3) ≡ Head.Streams n at → A
     by-count p m t false q f g e = refused e
@@ -69,20 +72,29 @@ head-case {A = A} cap s n at e c = by-word (skip s 0 planLine) refl e
     by-word (Past p) f e = by-found p (field s p streamsKey 3) f refl e
     by-word Absent f e = refused e
 
--- a head that is taken has as many streams as a plan may
-pub head-fits : (cap : ℕ) (s : List ℕ) (n at : ℕ) → head cap s ≡ Head.Streams n at → (1 ≤ n) × (n ≤ cap)
-head-fits cap s n at e = head-case cap s n at e (λ p f g l h. (l, h))
+pub head-case : {A : Type 0} (cap : ℕ) (s : List ℕ) (n at : ℕ) → head cap s ≡ Head.Streams n at → (s ≡ [] → n ≡ 0 → at ≡ 0 → A) → ((p : ℕ) → skip s 0 planLine ≡ Past p → field s p streamsKey 3 ≡ Number n at → 1 ≤ n → n ≤ cap → A) → A
+head-case cap [] n at e none some = let q = sym (no-bytes cap [] refl) ∙ e in none refl (sym (ap countIn q)) (sym (ap placeIn q))
+head-case cap (b ∷ s) n at e none some = some-case cap (b ∷ s) n at (sym (some-bytes cap (b ∷ s) (λ z. omega arith)) ∙ e) some
 
-pub head-read : (cap : ℕ) (s : List ℕ) (n at : ℕ) → head cap s ≡ Head.Streams n at → s ≡ planLine ++ (line streamsKey (decimal n) ++ drop at s)
-head-read cap s n at e =
-    head-case cap s n at e
-    (λ p f g l h. skip-read s planLine 0 p f ∙ ap (λ (x : List ℕ). planLine ++ x) (field-read s p streamsKey 3 n at (lit< tt) (lit≤ tt) g))
+-- a text is announced no more streams than a plan may have
+pub head-fits : (cap : ℕ) (s : List ℕ) (n at : ℕ) → head cap s ≡ Head.Streams n at → n ≤ cap
+head-fits cap s n at e = head-case cap s n at e (λ z m q. omega arith) (λ p f g l h. h)
+
+pub head-read : (cap : ℕ) (s : List ℕ) (n at : ℕ) → head cap s ≡ Head.Streams n at → s ≡ opening n ++ drop at s
+head-read cap s n at e = head-case cap s n at e (λ z m q. rw (m, q)) (λ p f g l h. by n p f g l)
+  where
+    by : (m p : ℕ) → skip s 0 planLine ≡ Past p → field s p streamsKey 3 ≡ Number m at → 1 ≤ m → s ≡ opening m ++ drop at s
+    by zero p f g l = absurd (omega arith)
+    by (suc m) p f g l = skip-read s planLine 0 p f ∙ ap (λ (x : List ℕ). planLine ++ x) (field-read s p streamsKey 3 (suc m) at (lit< tt) (lit≤ tt) g)
 
 -- a head is never refused with the number 0
 pub head-refused : (cap : ℕ) (s : List ℕ) → head cap s ≡ Head.Refused 0 → ⊥
-unfolding head
-head-refused cap s e = by-word (skip s 0 planLine) e
+head-refused cap [] e = refused (sym e ∙ no-bytes cap [] refl)
+head-refused cap (b ∷ l) e = by-word (skip s 0 planLine) (sym (some-bytes cap s (λ z. omega arith)) ∙ e)
   where
+    s : List ℕ
+    s = b ∷ l
+
     clash : {r : ℕ} → Head.Refused (suc r) ≡ Head.Refused 0 → ⊥
     clash {r} e = let z : suc r ≡ 0 = ap refusalIn e in omega arith
 

@@ -1,5 +1,5 @@
 -- Believe: the text of a plan: the lines that load reads.
-use Prim.Native.Nat.{ℕ}
+use Prim.Native.Nat.{ℕ, zero, suc}
 use mathlib.Core.Bool.{Bool, true, false}
 use mathlib.Core.List.{List, [], _∷_, _++_}
 use lib.ListN.{length}
@@ -33,6 +33,11 @@ unfoldable pub allText : List Declared → List ℕ
 allText [] = []
 allText (d ∷ ds) = declaredText d ++ allText ds
 
--- "`plan=1`, `streams=N` (1 to 32), then for streams 0 to N−1 the five lines"
+-- the first two lines, of n streams: "`plan=1`, `streams=N` (1 to 32)"; "An empty plan text now means a plan of no streams"
+abbrev pub opening : ℕ → List ℕ
+opening zero = []
+opening (suc n) = planLine ++ line streamsKey (decimal (suc n))
+
+-- "then for streams 0 to N−1 the five lines"
 unfoldable pub render : List Declared → List ℕ
-render ds = planLine ++ (line streamsKey (decimal (length ds)) ++ allText ds)
+render ds = opening (length ds) ++ allText ds

@@ -4,3 +4,4 @@ pub mod Session
 pub mod Whole
 pub mod Truth
 pub mod Cases
+pub mod NoPlan

@@ -4,3 +4,4 @@ pub mod Back
 pub mod Rows
 pub mod Whole
 pub mod In
+pub mod Empty

@@ -2,13 +2,13 @@
 use Prim.Native.Nat.{ℕ, zero, suc, _+_, _*_, _-_, _<_, _≤_, _%_}
 use mathlib.Core.Path.{_≡_, refl, sym, ap, ap₂, _∙_}
 use mathlib.Core.List.{List, [], _∷_, _++_, map, append-assoc}
-use mathlib.Core.Bool.{Bool, true, false, not, cond, _&&_}
+use mathlib.Core.Bool.{Bool, true, false, cond, _&&_}
 use native.Mathlib.Omega.{arith}
 use native.Mathlib.Nat.{zero-add}
 use lib.Dec.{eqb, ltb}
 use lib.ListN.{length, getD, take, drop, replicate, length-map, length-append, length-drop, length-replicate}
 use lib.Seq.{length-take-le, take-at, drop-at, ext-getD}
-use borrow.Author.Tests.{eqb-false, ne-eqb, ltb-true, lt-ltb, not-true}
+use borrow.Author.Tests.{ne-eqb, ltb-true, lt-ltb}
 use Rattle.meaning.specs.Plan.{eqnAt}
 use Rattle.meaning.specs.CycleTest.{acyclic}
 use Rattle.meaning.proofs.Within.{reads-within}
@@ -41,7 +41,6 @@ use Rattle.roundtrip.proofs.Rows.{row-back, row-sound, row-own}
 
 pub record ValidFacts (s : List ℕ) : Type 0 where
   pub size : 0 < capacity (length s)
-  pub some : 0 < count s
   pub rows : allRows (rowOk (count s)) (count s) s ≡ true
   pub zeros : allZero (drop (count s * 256) s) ≡ true
   pub acyclic : acyclic (capacity (length s)) (planIn (count s) s) ≡ true
@@ -50,25 +49,17 @@ pub valid-facts : (s : List ℕ) → valid s ≡ true → ValidFacts s
 unfolding valid
 valid-facts s e =
     let a : Bool = ltb 0 (capacity (length s)) in
-    let b : Bool = not (eqb (count s) 0) in
     let c : Bool = allRows (rowOk (count s)) (count s) s in
     let d : Bool = allZero (drop (count s * 256) s) in
     let f : Bool = acyclic (capacity (length s)) (planIn (count s) s) in
-    let e₁ = right a (b && (c && (d && f))) e in
-    let e₂ = right b (c && (d && f)) e₁ in
-    let e₃ = right c (d && f) e₂ in
-    let z = eqb-false (count s) 0 (not-true (eqb (count s) 0) (left b (c && (d && f)) e₁)) in
+    let e₁ = right a (c && (d && f)) e in
+    let e₂ = right c (d && f) e₁ in
     record {
-      size = ltb-true 0 (capacity (length s)) (left a (b && (c && (d && f))) e);
-      some = positive (count s) z;
-      rows = left c (d && f) e₂;
-      zeros = left d f e₃;
-      acyclic = right d f e₃;
+      size = ltb-true 0 (capacity (length s)) (left a (c && (d && f)) e);
+      rows = left c (d && f) e₁;
+      zeros = left d f e₂;
+      acyclic = right d f e₂;
     }
-  where
-    positive : (n : ℕ) → (n ≡ 0 → ⊥) → 0 < n
-    positive zero z = absurd (z refl)
-    positive (suc n) z = omega arith
 
 map-at : (l : List Raw) (i : ℕ) → i < length l → cellAt (map toCell l) i ≡ toCell (getD l i noRaw)
 map-at [] i h = absurd (omega arith)
@@ -133,7 +124,7 @@ module _ (s : List ℕ) (b : Bytes s) (ok : valid s ≡ true) where
   valid-sound =
       let n = state-length (count s) s in
       record {
-        some = rw n (f .some);
+        size = f .size;
         few = rw n (count-few s);
         each = λ i h.
             let k : i < count s = omega arith in
@@ -276,8 +267,7 @@ module _ (size : ℕ) (M : State) (ok : Sound (capacity size) M) where
   pub bytes-valid : valid (bytesOf size M) ≡ true
   unfolding valid
   bytes-valid =
-      let room : ltb 0 (capacity (length (bytesOf size M))) ≡ true = ap (λ (x : ℕ). ltb 0 (capacity x)) bytes-length ∙ lt-ltb 0 (capacity size) (omega (arith, ok .some, ok .few)) in
-      let n : length M ≡ 0 → ⊥ = λ q. let h = ok .some in omega arith in
+      let room : ltb 0 (capacity (length (bytesOf size M))) ≡ true = ap (λ (x : ℕ). ltb 0 (capacity x)) bytes-length ∙ lt-ltb 0 (capacity size) (ok .size) in
       let rows : allRows (rowOk (length M)) (length M) (bytesOf size M) ≡ true =
       ap (allRows (rowOk (length M)) (length M)) bytes-are
       ∙ rows-pass (rowOk (length M)) M (replicate (size - length M * 256) 0) (all-rows′ M cells (all-cells Own M (ok .own))) in
@@ -285,7 +275,7 @@ module _ (size : ℕ) (M : State) (ok : Sound (capacity size) M) where
       ap (λ (l : List ℕ). allZero (drop (length M * 256) l)) bytes-are
       ∙ ap allZero (drop-at (rowsOf M) (replicate (size - length M * 256) 0) (length M * 256) rows-length) ∙ zeros-zero (size - length M * 256) in
       let cyc : acyclic (capacity (length (bytesOf size M))) (planIn (length M) (bytesOf size M)) ≡ true = ap₂ (λ (x : ℕ) (N : State). acyclic (capacity x) (planOf N)) bytes-length bytes-state ∙ test-passes in
-      rw (room, bytes-count, ne-eqb (length M) 0 n, rows, zeros) cyc
+      rw (room, bytes-count, rows, zeros) cyc
     where
       all-rows′ : (N : State) → All (SoundCell (length M)) N → All Own N → All (λ c. rowOk (length M) (encRaw (ofCell c)) ≡ true) N
       all-rows′ [] h w = tt

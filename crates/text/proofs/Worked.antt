@@ -27,7 +27,10 @@ opening s h = record { text = s; found = h }
 
 unfoldable pub openings : List Opening
 openings =
-    opening "plan=1\nstreams=1\n" (Head.Streams 1 17)
+    -- the text of no bytes, and no other, announces no streams
+    opening "" (Head.Streams 0 0)
+    ∷ opening "\n" (Head.Refused 2)
+    ∷ opening "plan=1\nstreams=1\n" (Head.Streams 1 17)
     ∷ opening "plan=1\nstreams=32\nop=nil\n" (Head.Streams 32 18)
     -- 3 streams 0 or above 32, whatever comes after it
     ∷ opening "plan=1\nstreams=0\n" (Head.Refused 3)
@@ -47,7 +50,6 @@ openings =
     ∷ opening "plan=01\nstreams=1\n" (Head.Refused 2)
     ∷ opening "plan=1\r\nstreams=1\n" (Head.Refused 2)
     ∷ opening "streams=1\nplan=1\n" (Head.Refused 2)
-    ∷ opening "" (Head.Refused 2)
     ∷ []
 
 pub openings-read : map (λ r. head 32 (bytes (r .text))) openings ≡ map (λ r. r .found) openings

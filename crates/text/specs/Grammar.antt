@@ -120,6 +120,7 @@ abbrev pub headAfter : ℕ → List ℕ → Word → Head
 headAfter cap s (Past p) = counts cap (field s p streamsKey 3)
 headAfter cap s Absent = Head.Refused 2
 
--- of a text that may announce so many streams
+-- of a text that may announce so many streams; "An empty plan text now means a plan of no streams"
 unfoldable pub head : ℕ → List ℕ → Head
-head cap s = headAfter cap s (skip s 0 planLine)
+head cap [] = Head.Streams 0 0
+head cap (b ∷ s) = headAfter cap (b ∷ s) (skip (b ∷ s) 0 planLine)

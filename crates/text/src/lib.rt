@@ -31,7 +31,8 @@ pub enum Lines {
     Refused(u32),
 }
 
-// What reading the first two lines finds: how many streams follow, and the position of the first; or the refusal.
+// What reading the first two lines finds: how many streams follow, and the position of the first; or the refusal. A text of no
+// bytes has no streams.
 pub enum Head {
     Streams(usize, usize),
     Refused(u32),
@@ -180,6 +181,9 @@ fn count(n: u64, most: usize, at: usize) -> Head
 pub fn read_head(text: &[u8], most: usize) -> Head
     ensures { λ r. ⌜ r ≡ head most (now (text .entry)) ⌝ }
 {
+    if text.len() == 0 {
+        return Head::Streams(0, 0);
+    }
     let Word::Past(p) = lines::skip(text, 0, b"plan=1\n") else {
         return Head::Refused(2);
     };

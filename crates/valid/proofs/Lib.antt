@@ -1,3 +1,4 @@
 pub mod Tests
 pub mod Graph
 pub mod Link
+pub mod Found

@@ -122,7 +122,7 @@ noted-at (suc n) s g i j l h k =
     suc-eq e = omega arith
 
 -- byte j of record i
-byte-in : (s : List ℕ) (i j : ℕ) → i * 256 + 256 ≤ length s → j < 8 → num j (decRaw (part s (i * 256) 256)) ≡ getD s (i * 256 + j) 0
+pub byte-in : (s : List ℕ) (i j : ℕ) → i * 256 + 256 ≤ length s → j < 8 → num j (decRaw (part s (i * 256) 256)) ≡ getD s (i * 256 + j) 0
 byte-in s i j l h =
     let p = part s (i * 256) 256 in
     let lp : length p ≡ 256 = length-take-le 256 (drop (i * 256) s) (rw (length-drop (i * 256) s) (omega arith)) in

@@ -1,7 +1,7 @@
 -- How: what number 15 tests, reason by reason.
 use Prim.Native.Nat.{ℕ, zero, suc, _+_, _-_, _*_}
 use mathlib.Core.List.{List, [], _∷_}
-use mathlib.Core.Bool.{Bool, true, cond, _&&_, not}
+use mathlib.Core.Bool.{Bool, true, cond, _&&_}
 use lib.ListN.{length, getD, take, drop, replicate}
 use lib.Seq.{sets}
 use Rattle.cycle.specs.Graph.{graphLength, entryOf, cleared}
@@ -117,16 +117,14 @@ count s = streamsIn (capacity (length s)) s
 abbrev pub planIn : ℕ → List ℕ → Plan
 planIn n s = planOf (stateOf n s)
 
--- A state: a length that states have, at least one stream, each record passes, every byte behind them is 0, and no cycle without a
--- delayed argument.
+-- A state: a length that states have, each record passes, every byte behind them is 0, and no cycle without a delayed argument.
 unfoldable pub valid : List ℕ → Bool
 unfolding rowOk allRows streamsIn
 valid s =
     ltb 0 (capacity (length s))
-    && (not (eqb (count s) 0)
     && (allRows (rowOk (count s)) (count s) s
     && (allZero (drop (count s * 256) s)
-    && acyclic (capacity (length s)) (planIn (count s) s))))
+    && acyclic (capacity (length s)) (planIn (count s) s)))
 
 -- what the test finds, as the code answers it
 unfoldable pub tested : List ℕ → Tested

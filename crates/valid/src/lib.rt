@@ -247,7 +247,7 @@ fn rows_ok(state: &[u8], n: usize) -> bool
         }
         i += 1;
     }
-    true
+    true // also of no records
 }
 
 // How many records have an operator, from the first on, of so many at most.
@@ -303,9 +303,6 @@ pub fn streams(state: &[u8]) -> Tested
         return Tested::NoState;
     }
     let n = streams_in(state, most);
-    if n == 0 {
-        return Tested::NoState;
-    }
     if !rows_ok(state, n) {
         return Tested::NoState;
     }

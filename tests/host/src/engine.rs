@@ -90,6 +90,12 @@ impl Engine {
         unsafe { (self.load)(state.as_mut_ptr(), state.len() as u64, text.as_ptr(), text.len() as u64) }
     }
 
+    /// A text of no bytes, with a pointer to nothing.
+    pub fn load_from_nowhere(&self, state: &mut [u8]) -> u32 {
+        // SAFETY: the length is that of the slice; no byte lies behind the other pointer, and its length says so.
+        unsafe { (self.load)(state.as_mut_ptr(), state.len() as u64, std::ptr::null(), 0) }
+    }
+
     pub fn call(&self, state: &mut [u8], call: Call) -> Answer {
         let (p, length) = (state.as_mut_ptr(), state.len() as u64);
         // SAFETY: p and length are those of a slice borrowed for writing; the results are locals.

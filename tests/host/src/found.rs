@@ -106,13 +106,19 @@ fn read_record(r: &[u8], n: usize) -> Option<(Stream, Record)> {
 }
 
 impl Found {
+    /// The state that load leaves: all bounds 0.
+    pub fn fresh(plan: &Plan) -> Found {
+        Found { plan: plan.clone(), records: vec![Record::default(); plan.len()], ..Found::default() }
+    }
+
     /// The state that bytes give, or none: 15.
     pub fn read(state: &[u8]) -> Option<Found> {
         if state.len() != STATE_LENGTH {
             return None;
         }
         let n = state.chunks(256).take(32).position(|r| r[0] == 0).unwrap_or(32);
-        if n == 0 || state[256 * n..].iter().any(|&x| x != 0) {
+        // with no streams too: all bytes are 0
+        if state[256 * n..].iter().any(|&x| x != 0) {
             return None;
         }
         let (plan, records): (Plan, Vec<Record>) = state.chunks(256).take(n).map(|r| read_record(r, n)).collect::<Option<Vec<_>>>()?.into_iter().unzip();

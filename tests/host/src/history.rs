@@ -4,6 +4,7 @@
 use crate::buffer::Lent;
 use crate::engine::{engines, Answer, Call, STATE_LENGTH};
 use crate::evaluator::{evaluate, Events, HORIZON};
+use crate::found::Found;
 use crate::plan::{text_of, Op, Plan};
 use crate::random::{seed, Random};
 use crate::saved::Saved;
@@ -22,42 +23,42 @@ pub struct Session {
 }
 
 impl Session {
-    pub fn load(plan: &Plan) -> Session {
-        let text = Lent::of(text_of(plan).as_bytes());
-        let states = engines()
-            .iter()
-            .map(|engine| {
-                // what the buffer held before does not matter
-                let mut state = Lent::of(&vec![0x5A; STATE_LENGTH]);
-                assert_eq!(engine.load(&mut state, &text), 0, "{}: {}", engine.name, text_of(plan));
-                assert!(state.untouched() && text.untouched());
-                state
-            })
-            .collect();
+    /// The list of no calls, over these states.
+    pub fn begin(plan: &Plan, states: Vec<Lent>) -> Session {
         let n = plan.len();
-        let session = Session {
-            plan: plan.clone(),
-            states,
-            accepted: vec![Events::new(); n],
-            known: vec![0; n],
-            handed: vec![vec![]; n],
-            list: vec![],
-        };
+        Session { plan: plan.clone(), states, accepted: vec![Events::new(); n], known: vec![0; n], handed: vec![vec![]; n], list: vec![] }
+    }
+
+    pub fn load(plan: &Plan) -> Session {
+        let states = engines().iter().map(|_| Lent::of(&vec![0x5A; STATE_LENGTH])).collect();
+        Session::load_over(plan, states)
+    }
+
+    /// "A load that is done starts a new list". What the buffers held before does not matter: all bounds are 0.
+    pub fn load_over(plan: &Plan, mut states: Vec<Lent>) -> Session {
+        let text = Lent::of(text_of(plan).as_bytes());
+        for (engine, state) in engines().iter().zip(&mut states) {
+            assert_eq!(engine.load(state, &text), 0, "{}: {:?}", engine.name, text_of(plan));
+            assert!(state.untouched() && text.untouched());
+        }
+        let session = Session::begin(plan, states);
         session.same();
+        assert!(session.state() == Found::fresh(plan).bytes(), "not a fresh state\n{}", session.story());
         session
+    }
+
+    /// A load "that is refused leaves the list as it was".
+    pub fn load_refused(&mut self, text: &[u8], number: u32) {
+        let before = self.states[0].to_vec();
+        for (engine, state) in engines().iter().zip(&mut self.states) {
+            assert_eq!(engine.load(state, text), number, "{}: {:?}", engine.name, String::from_utf8_lossy(text));
+            assert!(state[..] == before[..] && state.untouched(), "{} wrote on a refusal", engine.name);
+        }
     }
 
     /// A saved state put back: it has had the calls made up to its copy.
     pub fn put_back(saved: &Saved) -> Session {
-        let n = saved.plan.len();
-        let mut session = Session {
-            plan: saved.plan.clone(),
-            states: engines().iter().map(|_| Lent::of(&saved.bytes)).collect(),
-            accepted: vec![Events::new(); n],
-            known: vec![0; n],
-            handed: vec![vec![]; n],
-            list: vec![],
-        };
+        let mut session = Session::begin(&saved.plan, engines().iter().map(|_| Lent::of(&saved.bytes)).collect());
         for (call, answer) in &saved.calls {
             session.list.push(*call);
             session.note(*call, *answer);
@@ -194,7 +195,8 @@ impl Session {
 pub fn any_call(random: &mut Random, session: &Session) -> Call {
     let n = session.plan.len() as u64;
     let inputs = session.inputs();
-    let stream = if random.chance(4) { random.pick(&[n as u32, n as u32 + 1, 255, 256, u32::MAX]) } else { random.below(n) as u32 };
+    let outside = [n as u32, n as u32 + 1, 255, 256, u32::MAX];
+    let stream = if n == 0 || random.chance(4) { random.pick(&outside) } else { random.below(n) as u32 };
     let input = if inputs.is_empty() || random.chance(5) { stream } else { random.pick(&inputs) as u32 };
     let known = session.known.get(input as usize).copied().unwrap_or(0);
     match random.below(100) {

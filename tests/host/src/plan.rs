@@ -1,4 +1,5 @@
-//! A plan and its text, from document 01's "Plan text" and the numbers 1 to 6 of "Load", with document 02's signal forms.
+//! A plan and its text, from document 01's "Plan text" and the numbers 1 to 6 of "Load", with document 02's signal forms and its
+//! plan of no streams.
 
 #[derive(Clone, Copy, PartialEq, Eq, Debug)]
 pub enum Op {
@@ -71,7 +72,11 @@ impl Stream {
     }
 }
 
+/// The plan of no streams is written by no bytes, not by `streams=0`.
 pub fn text_of(plan: &[Stream]) -> String {
+    if plan.is_empty() {
+        return String::new();
+    }
     let mut text = format!("plan=1\nstreams={}\n", plan.len());
     for s in plan {
         text += &format!("op={}\na={}\nb={}\nk={}\nout={}\n", s.op.name(), s.a, s.b, s.k, s.out as u8);
@@ -79,8 +84,11 @@ pub fn text_of(plan: &[Stream]) -> String {
     text
 }
 
-/// A plan in short form, one stream after the other, as `in; unit; set 1 k0; last 5 0; merge 4 2 out`.
+/// A plan in short form, one stream after the other, as `in; unit; set 1 k0; last 5 0; merge 4 2 out`; nothing for no streams.
 pub fn short(text: &str) -> Plan {
+    if text.is_empty() {
+        return vec![];
+    }
     text.split(';')
         .map(|part| {
             let mut words = part.split_whitespace();
@@ -160,6 +168,10 @@ impl<'a> Lines<'a> {
 pub fn parse(text: &[u8]) -> Result<Plan, u32> {
     if text.len() > 2048 {
         return Err(1);
+    }
+    // "An empty plan text now means a plan of no streams"
+    if text.is_empty() {
+        return Ok(vec![]);
     }
     let mut lines = Lines(text);
     if lines.after("plan=") != Some(b"1") {

@@ -85,8 +85,12 @@ fn recursion(random: &mut Random, plan: &mut Plan, order: &[usize], place: usize
     plan[third] = Stream { op: Op::Merge, a: second, b: lower(random), k: 0, out: out(random) };
 }
 
-/// A plan that keeps every rule: undelayed arguments go down a random order of the streams, delayed ones go anywhere.
+/// A plan that keeps every rule: undelayed arguments go down a random order of the streams, delayed ones go anywhere. One in
+/// twenty-five has no streams.
 pub fn plan(random: &mut Random, most: usize) -> Plan {
+    if random.chance(4) {
+        return vec![];
+    }
     let n = if random.chance(15) { most } else { 1 + random.below(most as u64) as usize };
     let mut order: Vec<usize> = (0..n).collect();
     for i in (1..n).rev() {

@@ -1,4 +1,5 @@
-//! Document 01's replay over an engine: what the replay program prints for a plan and a trace.
+//! Document 01's replay over an engine: what the replay program prints for a plan and a trace. No bytes stand for a file that
+//! can't be opened.
 
 use crate::engine::{Call, Engine, STATE_LENGTH};
 use crate::plan::{number, parse, value};
@@ -32,6 +33,7 @@ pub fn replay(engine: &Engine, plan: &[u8], trace: &[u8]) -> String {
         let mut idle = true;
         loop {
             let moves = engine.call(state, Call::Run(1000)).moves;
+            assert!(streams > 0 || moves == 0, "{}: {moves} moves of no equation", engine.name);
             idle &= moves == 0;
             if moves < 1000 {
                 break;

@@ -58,12 +58,14 @@ fn damaged_text(random: &mut Random) -> Vec<u8> {
 
 #[test]
 fn damaged_texts() {
-    let mut met = [0u64; 7];
+    let (mut met, mut empty) = ([0u64; 7], 0u64);
     let mut random = Random::of(10, 0);
     for _ in 0..rounds(40_000) {
         let text = damaged_text(&mut random);
-        let number = parse(&text).err().unwrap_or(0);
+        let parsed = parse(&text);
+        let number = parsed.as_ref().err().copied().unwrap_or(0);
         met[number as usize] += 1;
+        empty += text.is_empty() as u64;
         let text = Lent::of(&text);
         let mut ends = vec![];
         for engine in engines() {
@@ -71,14 +73,17 @@ fn damaged_texts() {
             let mut state = Lent::of(&before);
             let answer = engine.load(&mut state, &text);
             assert_eq!(answer, number, "seed {}: {} against the rules\n{}", seed(), engine.name, String::from_utf8_lossy(&text));
-            assert!(number == 0 || state[..] == before, "seed {}: {} wrote on a refusal", seed(), engine.name);
+            match &parsed {
+                Ok(plan) => assert!(state[..] == Found::fresh(plan).bytes()[..], "seed {}: {} leaves no fresh state\n{}", seed(), engine.name, String::from_utf8_lossy(&text)),
+                Err(_) => assert!(state[..] == before, "seed {}: {} wrote on a refusal", seed(), engine.name),
+            }
             assert!(state.untouched() && text.untouched());
             ends.push(state);
         }
         assert!(ends[0][..] == ends[1][..], "seed {}: the loaded states differ\n{}", seed(), String::from_utf8_lossy(&text));
     }
-    println!("seed {}: numbers 0 to 6 met {met:?} times", seed());
-    assert!(met.iter().all(|&count| count > 0) || rounds(40_000) < 40_000, "a number was never met: {met:?}");
+    println!("seed {}: numbers 0 to 6 met {met:?} times, the text of no bytes {empty} times", seed());
+    assert!((met.iter().all(|&count| count > 0) && empty > 100) || rounds(40_000) < 40_000, "a number was never met: {met:?}, {empty}");
 }
 
 fn put(state: &mut [u8], at: usize, bytes: &[u8]) {
@@ -173,6 +178,17 @@ fn damage(random: &mut Random, state: &mut [u8], streams: usize) {
     }
 }
 
+/// One byte of a buffer of zeros: the first one, which may make a stream of it, or another, which never does.
+fn damage_zeros(random: &mut Random, state: &mut [u8]) {
+    if random.chance(25) {
+        state[0] = 1 + random.below(30) as u8;
+    } else {
+        let near = if random.chance(50) { 256 } else { STATE_LENGTH as u64 - 1 };
+        let at = 1 + random.below(near) as usize;
+        state[at] = if random.chance(50) { 1 << random.below(8) } else { 1 + random.below(255) as u8 };
+    }
+}
+
 /// The stored numbers of the signal forms.
 const SIGNAL: RangeInclusive<u8> = 20..=27;
 
@@ -248,14 +264,18 @@ fn damaged_states() {
     let (mut untold, mut from_kept, mut unmeant) = (0u64, 0u64, 0u64);
     // moves to which it matters that a quotient goes down
     let mut down = 0u64;
+    // buffers of zeros, which are the plan of no streams; a first stream alone in them; bytes behind a first byte that is 0
+    let (mut zeros, mut alone, mut headless) = (0u64, 0u64, 0u64);
     let (mut good, mut bad, mut moves, mut done) = (0u64, 0u64, 0u64, [0u64; 5]);
     for round in 0..rounds(15_000) {
         let mut random = Random::of(11, round);
         let plan = plan(&mut random, 12);
+        // the records that are looked at: the first one of a plan of no streams too
+        let records = plan.len().max(1);
         let mut session = Session::load(&plan);
         for _ in 0..random.below(60) {
-            let s = random.below(plan.len() as u64) as u32;
-            let known = session.known[s as usize];
+            let s = random.below(records as u64) as u32;
+            let known = session.known.get(s as usize).copied().unwrap_or(0);
             let call = match random.below(4) {
                 0 => Call::Reading(s, (known + random.below(4)).min(u32::MAX as u64) as u32, random.value()),
                 1 => Call::Progress(s, known + random.below(6)),
@@ -267,30 +287,38 @@ fn damaged_states() {
         for _ in 0..4 {
             let mut bytes = session.state().to_vec();
             let of_a_kind = random.below(10);
-            for _ in 0..(of_a_kind > 6) as u64 + random.below(3) {
-                damage(&mut random, &mut bytes, plan.len());
+            if random.chance(2) {
+                // wiped
+                bytes.fill(0);
+            }
+            if bytes[0] == 0 && random.chance(50) {
+                damage_zeros(&mut random, &mut bytes);
+            } else {
+                for _ in 0..(of_a_kind > 6) as u64 + random.below(3) {
+                    damage(&mut random, &mut bytes, records);
+                }
             }
             match of_a_kind {
-                0..=4 => ahead(&mut random, &mut bytes, plan.len()),
-                5..=6 => ahead_of_both(&mut random, &mut bytes, plan.len()),
+                0..=4 => ahead(&mut random, &mut bytes, records),
+                5..=6 => ahead_of_both(&mut random, &mut bytes, records),
                 _ => {}
             }
             let mut states = [Lent::of(&bytes), Lent::of(&bytes)];
             // a list of calls on the damaged state, which may go on as one that no call leaves
             for _ in 0..12 {
                 let before = states[0].to_vec();
-                let mut s = random.below(plan.len() as u64 + 1) as u32;
+                let mut s = random.below(records as u64 + 1) as u32;
                 // often the second argument of a delay or a signal form, for a reading below the bound of that
-                let seconds: Vec<usize> = (0..plan.len()).filter(|&d| before[256 * d] == 19 || SIGNAL.contains(&before[256 * d])).collect();
+                let seconds: Vec<usize> = (0..records).filter(|&d| before[256 * d] == 19 || SIGNAL.contains(&before[256 * d])).collect();
                 if !seconds.is_empty() && random.chance(20) {
                     s = before[256 * random.pick(&seconds) + 2] as u32;
                 }
                 // and often a signal form itself, for a move of it
-                let forms: Vec<usize> = (0..plan.len()).filter(|&f| SIGNAL.contains(&before[256 * f])).collect();
+                let forms: Vec<usize> = (0..records).filter(|&f| SIGNAL.contains(&before[256 * f])).collect();
                 if !forms.is_empty() && random.chance(20) {
                     s = random.pick(&forms) as u32;
                 }
-                let own = (s as usize).min(plan.len() - 1);
+                let own = (s as usize).min(records - 1);
                 let bound = host::layout::bound(&before, own).min(HORIZON);
                 let far = if random.chance(50) { 3 } else { 20 };
                 let (kind, call) = match random.below(10) {
@@ -302,7 +330,7 @@ fn damaged_states() {
                 };
                 let answers: Vec<Answer> =
                     engines().iter().zip(&mut states).map(|(engine, state)| engine.call(state, call)).collect();
-                let story = || format!("seed {} round {round}: {call:?} on\n{}", seed(), shown(&before, plan.len()));
+                let story = || format!("seed {} round {round}: {call:?} on\n{}", seed(), shown(&before, records));
                 assert_eq!(answers[0], answers[1], "library and reference, {}", story());
                 let found = Found::read(&before);
                 let (wanted, after) = match found.clone() {
@@ -310,12 +338,18 @@ fn damaged_states() {
                     Some(mut found) => (found.call(call), found.bytes()),
                 };
                 assert_eq!(answers[0], wanted, "library and model, {}", story());
-                assert!(states[0][..] == after[..], "library and model leave other states, {}\nlibrary\n{}\nmodel\n{}", story(), shown(&states[0], plan.len()), shown(&after, plan.len()));
+                assert!(states[0][..] == after[..], "library and model leave other states, {}\nlibrary\n{}\nmodel\n{}", story(), shown(&states[0], records), shown(&after, records));
+                if before[0] == 0 {
+                    zeros += found.is_some() as u64;
+                    headless += found.is_none() as u64;
+                    assert_eq!(found.is_some(), before.iter().all(|&x| x == 0), "{}", story());
+                }
+                alone += (found.is_some() && before[0] != 0 && plan.is_empty()) as u64;
                 if let (Call::Move(_) | Call::Run(_), Some(found)) = (call, &found) {
                     let mut toward_zero = Found { division: Division::TowardZero, ..found.clone() };
                     down += (found.divides() && (toward_zero.call(call), toward_zero.bytes()) != (wanted, after.clone())) as u64;
                 }
-                for d in (0..plan.len()).filter(|&d| before[256 * d] == 19) {
+                for d in (0..records).filter(|&d| before[256 * d] == 19) {
                     let newest = host::layout::held(&before, d).last().map(|(t, _)| *t as u64 + 1);
                     let since = u64::from_le_bytes(before[256 * d + 32..256 * d + 40].try_into().unwrap());
                     if let Some(newest) = newest {
@@ -330,7 +364,7 @@ fn damaged_states() {
                         before_since += (t < since) as u64;
                     }
                 }
-                for f in (0..plan.len()).filter(|&f| SIGNAL.contains(&before[256 * f])) {
+                for f in (0..records).filter(|&f| SIGNAL.contains(&before[256 * f])) {
                     let (a, b) = (before[256 * f + 1] as usize, before[256 * f + 2] as usize);
                     match call {
                         Call::Reading(s, t, _) if wanted.number == 0 && [a, b].contains(&(s as usize)) => {
@@ -343,7 +377,7 @@ fn damaged_states() {
                         _ => unmeant += no_meaning(&before[256 * f..256 * (f + 1)]) as u64,
                     }
                 }
-                assert!(states[0][..] == states[1][..], "library and reference leave other states, {}\nlibrary\n{}\nreference\n{}", story(), shown(&states[0], plan.len()), shown(&states[1], plan.len()));
+                assert!(states[0][..] == states[1][..], "library and reference leave other states, {}\nlibrary\n{}\nreference\n{}", story(), shown(&states[0], records), shown(&states[1], records));
                 if answers[0].number != 0 {
                     assert!(states[0][..] == before[..], "written on a refusal, {}", story());
                     assert_eq!(answers[0], Answer { number: answers[0].number, ..Answer::default() });
@@ -366,8 +400,9 @@ fn damaged_states() {
         seed()
     );
     println!("seed {}: signal forms, readings of an argument below the bound {untold}, events from a kept value {from_kept}, without meaning {unmeant}; moves and runs with a quotient that goes down {down}", seed());
+    println!("seed {}: calls on zeros {zeros}, on a first stream alone in them {alone}, on bytes behind a first byte that is 0 {headless}", seed());
     assert!(good > bad && moves > 0 && done.iter().all(|&count| count > 0));
-    let reached = [below, at, above, edge, lower, before_since, untold, from_kept, unmeant, down];
+    let reached = [below, at, above, edge, lower, before_since, untold, from_kept, unmeant, down, zeros, alone, headless];
     assert!(reached.iter().all(|&count| count > 0) || rounds(15_000) < 15_000, "a kind of state was never met: {reached:?}");
 }
 

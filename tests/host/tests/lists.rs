@@ -26,7 +26,7 @@ fn reaches(plan: &[host::plan::Stream], from: usize, to: usize) -> bool {
 /// Every call's number, results, bounds, held events, marks and kept latest values are those of the model on whole histories.
 #[test]
 fn numbers_and_states_are_those_of_the_model_on_whole_histories() {
-    let (mut calls, mut done, mut full, mut kept, mut down) = (0u64, 0u64, 0u64, 0u64, 0u64);
+    let (mut calls, mut done, mut full, mut kept, mut down, mut empty) = (0u64, 0u64, 0u64, 0u64, 0u64, 0u64);
     let all = rounds(5000);
     for round in 0..all {
         let mut random = Random::of(2, round);
@@ -52,8 +52,13 @@ fn numbers_and_states_are_those_of_the_model_on_whole_histories() {
             done += (answer.number == 0) as u64;
         }
         down += (0..plan.len()).map(|s| rounded(&plan, &model.events, s)).sum::<u64>();
+        if plan.is_empty() {
+            assert!(session.state().iter().all(|&x| x == 0), "{}", session.story());
+            empty += 1;
+        }
     }
-    println!("seed {}: {calls} calls, {done} done, full streams met {full} times, signal forms that keep both values {kept}, divisions that go down {down}", seed());
+    println!("seed {}: {calls} calls, {done} done, full streams met {full} times, signal forms that keep both values {kept}, divisions that go down {down}, plans of no streams {empty}", seed());
+    assert!(all < 1000 || empty > all / 50, "too few plans of no streams: {empty}");
     assert!(done * 3 > calls && full > 0 && kept > 0, "too many calls refused: {done} of {calls}");
     assert!(all < 1000 || down > all / 250, "too few divisions that go down: {down}");
 }
@@ -115,6 +120,48 @@ fn handed_out_is_a_beginning_and_complete_at_rest() {
     assert!(checked * 10 > all * 9 && rested * 2 > all && events > 5 * all && copies > 0);
     assert!(firings > all / 2 && lasts > all && recursive > all / 10 && signals > all / 2);
     assert!(all < 1000 || down > all / 250, "too few divisions that go down: {down}");
+}
+
+/// Texts that load refuses, with their numbers.
+const REFUSED: [(&[u8], u32); 8] = [
+    (&[b'x'; 2049], 1), (b"\n", 2), (b"plan=1\n", 2), (b"plan=1\nstreams=0\n", 3), (b"plan=1\nstreams=33\n", 3),
+    (b"plan=1\nstreams=1\nop=no\na=0\nb=0\nk=0\nout=0\n", 4), (b"plan=1\nstreams=1\nop=in\na=0\nb=0\nk=0\nout=1\n", 5),
+    (b"plan=1\nstreams=1\nop=neg\na=0\nb=0\nk=0\nout=0\n", 6),
+];
+
+/// One load after the other into the same buffers: one that is done starts a new list, with streams or without, and nothing of
+/// the list before is left; one that is refused leaves the list.
+#[test]
+fn loads_over_one_another() {
+    // loads done, by whether the plan before had streams and whether the plan after has; loads refused
+    let (mut met, mut refused) = ([[0u64; 2]; 2], 0u64);
+    let all = rounds(600);
+    for round in 0..all {
+        let mut random = Random::of(8, round);
+        let mut session = Session::load(&plan(&mut random, 12));
+        for _ in 0..5 {
+            let mut model = Model::new(&session.plan);
+            for _ in 0..random.below(50) {
+                let call = any_call(&mut random, &session);
+                assert_eq!(session.call(call), model.call(call), "the model's answer to {call:?}\n{}", session.story());
+                if random.chance(10) {
+                    let (text, number) = random.pick(&REFUSED);
+                    session.load_refused(text, number);
+                    refused += 1;
+                }
+            }
+            session.check_beginning();
+            if random.chance(50) && session.rest(2_000) {
+                session.check_beginning();
+                session.check_rest();
+            }
+            let next = if random.chance(40) { vec![] } else { plan(&mut random, 12) };
+            met[session.plan.is_empty() as usize][next.is_empty() as usize] += 1;
+            session = Session::load_over(&next, session.states);
+        }
+    }
+    println!("seed {}: loads done over a plan {:?}, over none {:?}, the second to a plan of no streams; refused {refused}", seed(), met[0], met[1]);
+    assert!(met.iter().flatten().all(|&count| count > all / 4) && refused > all);
 }
 
 /// The same accepted readings in another order of inputs, other moves and other collections: the same events handed out,

@@ -113,7 +113,9 @@ fn the_edges_of_the_replay() {
         for (trace, printed) in cases {
             assert_eq!(replay(&engine, plan, trace.as_bytes()), *printed, "{} on {trace:?}", engine.name);
         }
-        assert_eq!(replay(&engine, b"", b"s=0 t=1 v=1\n"), "refused=2\n");
+        // no bytes are the plan of no streams; any other text without a whole plan is refused
+        assert_eq!(replay(&engine, b"", b"s=0 t=1 v=1\n"), "refused=7\n");
+        assert_eq!(replay(&engine, b"\n", b"s=0 t=1 v=1\n"), "refused=2\n");
         assert_eq!(replay(&engine, &[b'x'; 2049], b""), "refused=1\n");
     }
 }

@@ -47,6 +47,8 @@ fn a_plan_is_taken() {
     assert_eq!(refused(&plan_of(&[IN])), 0);
     assert_eq!(refused(&with("op=set")), 0);
     assert_eq!(refused(&text_of(&short("in; unit; set 1 k0; last 5 0; plus 3 k1; merge 4 2 out"))), 0);
+    // "An empty plan text now means a plan of no streams"
+    assert_eq!(refused(""), 0);
 }
 
 #[test]
@@ -62,7 +64,6 @@ fn number_1_the_text_is_too_long() {
 
 #[test]
 fn number_2_form() {
-    assert_eq!(refused(""), 2);
     for text in ["\n", "plan=1", "plan=1\n", "plan=2\nstreams=1\n", "plan=01\n", " plan=1\n", "plan=1\r\nstreams=1\r\n", "Plan=1\n"] {
         assert_eq!(refused(text), 2, "{text:?}");
     }
@@ -323,8 +324,14 @@ fn number_15_contents() {
                 assert!(state[..] == bytes[..] && state.untouched());
             }
         }
-        // all 0 is no stream at all
-        assert_eq!(engine.call(&mut vec![0; STATE_LENGTH], Call::Run(0)).number, 15);
+        // without streams all bytes are 0, and it is a state; with a byte left of what was loaded it is none
+        let mut bytes = vec![0; STATE_LENGTH];
+        assert_eq!(engine.call(&mut bytes, Call::Run(0)).number, 0);
+        for at in (1..1280).filter(|&at| good[at] != 0) {
+            bytes[at] = good[at];
+            assert_eq!(engine.call(&mut bytes, Call::Run(0)).number, 15, "{}: byte {at} alone", engine.name);
+            bytes[at] = 0;
+        }
     }
 }
 

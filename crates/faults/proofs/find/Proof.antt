@@ -25,7 +25,7 @@ enum-known-n : tie.Need-enum-known-n
 enum-known-n c = search needs
 
 plan-fault-requires : tie.Need-plan-fault-requires
-plan-fault-requires c κs = (c .before .before .before .before .before .before .pre, head-fits (c .before .before .before .before .before .before .args .most) (now (c .before .before .before .before .before .before .args .text)) (c .before .n .given .0 .0) (c .before .n .given .0 .1 .0) (sym (c .before .before .before .read-head .ensures) ∙ c .before .n .given .1) .1, sym (c .before .before .before .read-head .ensures) ∙ c .before .n .given .1)
+plan-fault-requires c κs = (c .before .before .before .before .before .before .pre, head-fits (c .before .before .before .before .before .before .args .most) (now (c .before .before .before .before .before .before .args .text)) (c .before .n .given .0 .0) (c .before .n .given .0 .1 .0) (sym (c .before .before .before .read-head .ensures) ∙ c .before .n .given .1), sym (c .before .before .before .read-head .ensures) ∙ c .before .n .given .1)
 
 enum-known-r : tie.Need-enum-known-r
 enum-known-r c = search needs

@@ -24,7 +24,7 @@ clear-requires : tie.Need-clear-requires
 clear-requires c κs = search needs
 
 write-requires : tie.Need-write-requires
-write-requires c κs = let a = c .before .before .before .before .before .before .before .before .before .before .before .args in let n = c .before .before .before .before .before .before .n .given .0 .0 in let p = c .before .before .before .before .before .before .n .given .0 .1 .0 in let h = sym (c .before .before .before .before .before .before .before .before .read-head .ensures) ∙ c .before .before .before .before .before .before .n .given .1 in let z : c .before .before .before .clear .last .0 ≡ replicate (length (now (a .state))) 0 = c .before .before .before .clear .ensures ∙ sets-whole (now (a .state)) (replicate (length (now (a .state))) 0) (sym (length-replicate {A = ℕ} (length (now (a .state))) 0)) in let f = head-fits (a .most) (now (a .text)) n p h in let y : length (c .before .before .before .clear .last .0) ≡ length (now (a .state)) = ap length z ∙ length-replicate {A = ℕ} (length (now (a .state))) 0 in omega (arith, f .1, y, c .before .before .before .before .before .before .before .before .before .before .before .pre)
+write-requires c κs = let a = c .before .before .before .before .before .before .before .before .before .before .before .args in let n = c .before .before .before .before .before .before .n .given .0 .0 in let p = c .before .before .before .before .before .before .n .given .0 .1 .0 in let h = sym (c .before .before .before .before .before .before .before .before .read-head .ensures) ∙ c .before .before .before .before .before .before .n .given .1 in let z : c .before .before .before .clear .last .0 ≡ replicate (length (now (a .state))) 0 = c .before .before .before .clear .ensures ∙ sets-whole (now (a .state)) (replicate (length (now (a .state))) 0) (sym (length-replicate {A = ℕ} (length (now (a .state))) 0)) in let f = head-fits (a .most) (now (a .text)) n p h in let y : length (c .before .before .before .clear .last .0) ≡ length (now (a .state)) = ap length z ∙ length-replicate {A = ℕ} (length (now (a .state))) 0 in omega (arith, f, y, c .before .before .before .before .before .before .before .before .before .before .before .pre)
 
 enum-told : tie.Need-enum-told
 enum-told c = search needs

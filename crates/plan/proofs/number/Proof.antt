@@ -21,7 +21,7 @@ enum-known-n : tie.Need-enum-known-n
 enum-known-n c = search needs
 
 plan-number-requires : tie.Need-plan-number-requires
-plan-number-requires c κs = (head-fits (c .before .before .before .before .before .before .args .most) (now (c .before .before .before .before .before .before .args .text)) (c .before .n .given .0 .0) (c .before .n .given .0 .1 .0) (sym (c .before .before .before .read-head .ensures) ∙ c .before .n .given .1) .1, c .before .before .before .before .before .before .pre)
+plan-number-requires c κs = (head-fits (c .before .before .before .before .before .before .args .most) (now (c .before .before .before .before .before .before .args .text)) (c .before .n .given .0 .0) (c .before .n .given .0 .1 .0) (sym (c .before .before .before .read-head .ensures) ∙ c .before .n .given .1), c .before .before .before .before .before .before .pre)
 
 enum-known-r : tie.Need-enum-known-r
 enum-known-r c = search needs
