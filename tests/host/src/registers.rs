@@ -191,7 +191,7 @@ impl Calls for Option<Found> {
     }
 }
 
-/// An engine's direct calls on a state of its own. An output waits if one could be collected.
+/// An engine's direct calls on a state of its own. An output waits if one that holds anything could be collected.
 #[derive(Clone)]
 pub struct Direct {
     pub engine: Engine,
@@ -213,7 +213,8 @@ impl Calls for Direct {
         answer
     }
     fn waits(&self) -> bool {
-        let outputs = (0..self.state.len() / layout::RECORD).filter(|&s| layout::is_output(&self.state, s));
+        let holds = |s: &usize| layout::is_output(&self.state, *s) && !layout::held(&self.state, *s).is_empty();
+        let outputs = (0..self.state.len() / layout::RECORD).filter(holds);
         outputs.map(|s| Call::Collect(s as u32)).any(|collect| self.engine.call(&mut self.state.clone(), collect).number == 0)
     }
 }
