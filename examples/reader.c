@@ -68,8 +68,8 @@ static uint32_t collect(uint32_t stream) {
 
 /*
  * Until the line is down, and answers how many events were handed out. The flags that were read are cleared, and no other, before
- * anything is collected: a collect sets the second one again if more waits. The first one asks for nothing here, since who
- * starts a command looks at its status; a collect that finds nothing sets it too.
+ * anything is collected: a collect sets bit 1 again if more waits. Bit 0 asks for nothing here, since who starts a command looks
+ * at its status at once; a collect that finds nothing sets it too.
  */
 static uint32_t poll(void) {
     uint32_t events = 0;

@@ -40,24 +40,25 @@
  * collected after it. A run that made no move is not enough: a collection makes room, and then there is more to do.
  *
  * Interrupts. No call may interrupt a call on the same state or the same block; calls on different ones do not know of each
- * other. Let the interrupt put a reading into a line, and the main loop offer it. A call itself may be interrupted at any time,
+ * other. Let the interrupt put a reading into a queue, and the main loop offer it. A call itself may be interrupted at any time,
  * for as long as you like; a state is to be copied between calls only.
  *
- * The budget of a run. On a Cortex-M0+ at 48 MHz every call on a state but load first looks at the whole of it, 1.0 to 1.3 ms by
- * the manual's cycles; a move in a run then takes 0.1 to 0.2 ms. In the plans that were measured a run of n moves takes at most
- * 1.3 ms and a millisecond for each four moves, if the outputs are collected; where 31 outputs are full a move takes 1.1 ms.
- * Leave the watchdog twice that. Few calls with much work in each cost least (docs/PERFORMANCE.md, "On the controller").
+ * The budget of a run. On a Cortex-M0+ at 48 MHz every call on a state, but for load and plain register writes, first looks at
+ * the whole of it, 1.0 to 1.3 ms by the manual's cycles; a move in a run then takes 0.1 to 0.2 ms. In the plans that were measured
+ * a run of n moves takes at most 1.3 ms and a millisecond for each four moves, if the outputs are collected; where 31 outputs
+ * are full a move takes 1.1 ms. By that the 64 moves of a command 3 take 18 ms. Leave the watchdog twice that. Few calls with
+ * much work in each cost least (docs/PERFORMANCE.md, "On the controller").
  *
  * Registers. A board that talks in single bytes makes the calls through a block of 24 bytes, tessla_register_write below;
  * examples/reader.c is a driver for one. A firmware that makes the calls itself needs no block.
  *
  * A copy of the state. The buffer may be copied anywhere, to flash say, and put back later, at any address. Only the records
- * of the plan's streams are used, tessla_used_length bytes; all behind them is 0 and need not be saved. A state put back has
- * had the calls made up to its copy: what was accepted or handed out after the copy does not count for it. Readings offered
- * after the copy are to be offered again, and events collected after the copy are handed out again. A copy damaged in storage
- * is refused 15 where its contents are no state; where they happen to be one, no call can know that it is not the one that was
- * saved: a storage that gives back zeros gives a state without a plan. So save to two places in turn, each with a checksum:
- * examples/saving.c does, and loses no copy to a power cut.
+ * of the plan's streams are used, tessla_used_length bytes; all behind them is 0 and need not be saved. A block of registers is
+ * no part of the state: begin with a fresh one. A state put back has had the calls made up to its copy: what was accepted or
+ * handed out after the copy does not count for it. Readings offered after the copy are to be offered again, and events collected
+ * after the copy are handed out again. A copy damaged in storage is refused 15 where its contents are no state; where they
+ * happen to be one, no call can know that it is not the one that was saved: a storage that gives back zeros gives a state without
+ * a plan. So save to two places in turn, each with a checksum: examples/saving.c does, and loses no copy to a power cut.
  */
 #ifndef TESSLA_H
 #define TESSLA_H
@@ -174,8 +175,8 @@ uint32_t tessla_collect(uint8_t *state, uint64_t state_length, uint32_t stream, 
 
 /*
  * The block of registers: TESSLA_BLOCK_LENGTH bytes that the firmware owns and lends beside a state. A number lies with its least
- * byte first, a value in two's complement. The firmware reads the bytes itself, between two writes; it writes them by
- * tessla_register_write only. What the block holds first is the firmware's: zeros are best, and no contents are refused.
+ * byte first, a value in two's complement. The firmware reads the bytes as they lie, between two writes. What the block holds at
+ * first is the firmware's: zeros are best, and no contents are refused.
  *
  *    place                       bytes      a write        holds
  */
@@ -218,19 +219,21 @@ enum tessla_flag {
  * any other write as none. So writes and calls may be mixed on one state, and a state may have more than one block. A call made
  * straight sets no status and no flag. Load and offers of progress have no command: make these calls.
  *
- * Nothing but the written 1 clears a flag, a success least of all. Bit 0 says that something was refused; what, is in the status,
- * until the next command: read it, or take the returned number, after each. To collect until 14 ends with a refusal, so bit 0 is
- * set then. To learn whether something waits now, clear bit 1, then give a command: it is set again exactly if something does.
+ * Nothing but a written 1 clears a flag; a success does not. Bit 0 says that something was refused; what, is in the status, but
+ * only until the next command: look at it, or at the returned number, after each. Who collects until 14 has bit 0 set by that.
+ * To learn whether something waits now, clear bit 1 and give a command: if it is not refused 15, bit 1 is set exactly if an
+ * output has an event waiting after it.
  *
  * Keep a reading until it is taken: after a 9 the collects put another stream and another value into the block, so write all of
  * the reading again before command 1 is given again.
  *
  * When the work is done. Command 3 gives no count of its moves, and where nothing waits after it there may be more to do: 64 moves
- * were not enough. Every move raises the bound of its stream, and none lowers one. So no equation can move exactly if a command
- * 3 left the state as it was, which tessla_bounds tells by one number; and all is collected exactly if bit 1, cleared before a
- * command, is not set after it. Command 3 and collect, until one command 3 shows both. No number of commands would do for
- * every plan: a timer may make any number of moves before an output has an event. A board that sees nothing but the block
- * cannot tell; let it command 3 again whenever it has time, which at rest changes nothing.
+ * may not have been enough. Every move raises the bound of its stream, and none lowers a bound. So a command 3 that is done leaves
+ * all bounds as they were, by tessla_bounds one number, exactly if no equation could move, and then none can after it; and bit
+ * 1, cleared before it, is clear after it exactly if nothing waits. Collect and give command 3, again and again, until one command
+ * 3 shows both. No number of commands is enough for every plan: a timer may ring any number of times before an output has an
+ * event. A board that sees the block alone cannot tell; let it give command 3 again whenever it has time: at rest that changes
+ * nothing.
  */
 uint32_t tessla_register_write(uint8_t *state, uint64_t state_length, uint8_t *block, uint64_t block_length, uint32_t at,
                                uint8_t byte);

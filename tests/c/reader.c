@@ -43,7 +43,7 @@ static void loaded(void) {
     length = 0;
 }
 
-/* what was printed since the plan was loaded; at rest, with everything collected, by document 01's words */
+/* what was printed since the plan was loaded; and that no equation can move and nothing waits, by the calls' numbers */
 static void printed_is(const char *wanted, const char *what) {
     printed[length] = 0;
     if (strcmp(printed, wanted) != 0) printf("%swhere this was worked out:\n%s", printed, wanted);
