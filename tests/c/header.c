@@ -79,6 +79,14 @@ static uint64_t number_at(uint32_t at, uint32_t bytes) {
     return x;
 }
 
+/* a command returns this number, and leaves it as the status and these flags */
+static void command_is(enum tessla_command command, uint32_t number, uint8_t flags) {
+    expect(write(TESSLA_AT_COMMAND, (uint8_t)command) == number, "the number of a command", command);
+    expect(block[TESSLA_AT_COMMAND] == command, "the command", command);
+    expect(block[TESSLA_AT_STATUS] == number, "the status after a command", command);
+    expect(block[TESSLA_AT_FLAGS] == flags, "the flags after a command", command);
+}
+
 /* what is written at a place by its name goes where the header says, and so does what a command leaves */
 static void look_at_places(void) {
     uint32_t up, stamp = 0x01020304;
@@ -93,33 +101,46 @@ static void look_at_places(void) {
     write_number(TESSLA_AT_STREAM, 4, 0);
     write_number(TESSLA_AT_STAMP, 4, stamp);
     write_number(TESSLA_AT_VALUE, 8, (uint64_t)value);
-    expect(write(TESSLA_AT_COMMAND, TESSLA_COMMAND_OFFER) == TESSLA_DONE, "the offer", 0);
-    expect(write(TESSLA_AT_COMMAND, TESSLA_COMMAND_OFFER) == TESSLA_TOO_EARLY, "the offer again", 0);
-    expect(block[TESSLA_AT_STATUS] == TESSLA_TOO_EARLY, "the status of a refusal", 0);
-    expect(block[TESSLA_AT_FLAGS] == TESSLA_FLAG_REFUSED, "the flag of a refusal", 0);
-    expect(write(TESSLA_AT_FLAGS, TESSLA_FLAG_REFUSED) == TESSLA_DONE && block[TESSLA_AT_FLAGS] == 0, "the flag cleared", 0);
-    expect(write(TESSLA_AT_COMMAND, TESSLA_COMMAND_RUN) == TESSLA_DONE, "the run", 0);
-    expect(block[TESSLA_AT_STATUS] == TESSLA_DONE && block[TESSLA_AT_FLAGS] == TESSLA_FLAG_WAITS, "the flag of what waits", 0);
-    expect(tessla_register_line(block, sizeof block, &up) == TESSLA_DONE && up == 1, "the line", up);
+    command_is(TESSLA_COMMAND_OFFER, TESSLA_DONE, 0);
+    command_is(TESSLA_COMMAND_OFFER, TESSLA_TOO_EARLY, TESSLA_FLAG_REFUSED);
+    command_is(TESSLA_COMMAND_RUN, TESSLA_DONE, both);
+    command_is(TESSLA_COMMAND_OFFER, TESSLA_TOO_EARLY, both);
+    expect(write(TESSLA_AT_FLAGS, TESSLA_FLAG_REFUSED) == TESSLA_DONE, "a write to the flags", 0);
+    expect(block[TESSLA_AT_FLAGS] == TESSLA_FLAG_WAITS, "the one flag cleared", 0);
     write_number(TESSLA_AT_STREAM, 4, 1);
-    expect(write(TESSLA_AT_COMMAND, TESSLA_COMMAND_COLLECT) == TESSLA_DONE, "the collect", 0);
-    expect(block[TESSLA_AT_COMMAND] == TESSLA_COMMAND_COLLECT, "the command", 0);
-    expect(number_at(TESSLA_AT_STREAM, 4) == 1 && number_at(TESSLA_AT_STAMP, 4) == stamp, "stream and stamp", 0);
-    expect(number_at(TESSLA_AT_REPLY, 4) == stamp, "the reply stamp", 0);
-    expect((int64_t)number_at(TESSLA_AT_VALUE, 8) == -value, "the value", 0);
+    command_is(TESSLA_COMMAND_COLLECT, TESSLA_DONE, TESSLA_FLAG_WAITS);
+    /* refused, it leaves them; the second flag is not set, now that nothing waits */
+    for (int turn = 0; turn < 2; turn++) {
+        expect(number_at(TESSLA_AT_STREAM, 4) == 1 && number_at(TESSLA_AT_STAMP, 4) == stamp, "stream and stamp", 0);
+        expect(number_at(TESSLA_AT_REPLY, 4) == stamp, "the reply stamp", 0);
+        expect((int64_t)number_at(TESSLA_AT_VALUE, 8) == -value, "the value", 0);
+        expect(write(TESSLA_AT_FLAGS, both) == TESSLA_DONE && block[TESSLA_AT_FLAGS] == 0, "both flags cleared", 0);
+        command_is(TESSLA_COMMAND_COLLECT, TESSLA_NOTHING, TESSLA_FLAG_REFUSED);
+    }
 
-    /* every byte of the block, and some behind: what a write there does */
-    for (uint32_t at = 0; at < 40; at++) {
-        uint8_t was[TESSLA_BLOCK_LENGTH];
+    /* every byte of the block, and some behind, with the flags set and not: what a write there does */
+    for (uint32_t i = 0; i < 80; i++) {
+        uint32_t at = i / 2;
+        uint8_t was[TESSLA_BLOCK_LENGTH], fill = i % 2 ? 0x58 : 0x5B;
         int stored = at < TESSLA_AT_COMMAND || at == TESSLA_AT_MASK;
-        memset(block, 0x5B, sizeof block); /* both flags set, and both in the mask */
+        memset(block, fill, sizeof block);
         memcpy(was, block, sizeof was);
-        uint32_t number = write(at, 0xA7);
-        if (stored) was[at] = 0xA7;
+        uint32_t number = write(at, 0xFF);
+        if (stored) was[at] = 0xFF;
         else if (at == TESSLA_AT_FLAGS) was[at] = 0x58;
-        else was[TESSLA_AT_STATUS] = TESSLA_BAD_WRITE;
+        else was[TESSLA_AT_STATUS] = TESSLA_BAD_WRITE, was[TESSLA_AT_FLAGS] |= TESSLA_FLAG_REFUSED;
         expect(number == (stored || at == TESSLA_AT_FLAGS ? TESSLA_DONE : TESSLA_BAD_WRITE), "the number of a write", at);
         expect(memcmp(block, was, sizeof was) == 0, "the block after a write", at);
+    }
+
+    /* all flags and masks: a flag that is in the mask takes the line up, and the other bits do not */
+    for (uint32_t i = 0; i < 65536; i++) {
+        uint8_t flags = (uint8_t)i, mask = (uint8_t)(i >> 8);
+        uint32_t refused = flags & TESSLA_FLAG_REFUSED && mask & TESSLA_FLAG_REFUSED;
+        uint32_t waits = flags & TESSLA_FLAG_WAITS && mask & TESSLA_FLAG_WAITS;
+        block[TESSLA_AT_FLAGS] = flags;
+        block[TESSLA_AT_MASK] = mask;
+        expect(tessla_register_line(block, sizeof block, &up) == TESSLA_DONE && up == (refused || waits), "the line", i);
     }
     for (uint32_t n = 0; n < 40; n++) {
         uint8_t longer[40] = { 0 };
@@ -128,6 +149,22 @@ static void look_at_places(void) {
         expect(longer[TESSLA_AT_MASK] == (wanted ? 0 : both), "a block of another length", n);
         expect(tessla_register_line(longer, n, &up) == wanted && up == 0, "the block's length at the line", n);
     }
+}
+
+/* command 3 is a run of 64: it leaves the state that the call leaves, where there are more moves to make */
+static void look_at_a_run(void) {
+    static uint8_t copy[TESSLA_STATE_LENGTH];
+    uint32_t moves = 0;
+    expect(tessla_load(state, sizeof state, (const uint8_t *)PLAN, sizeof PLAN - 1) == TESSLA_DONE, "load", 0);
+    expect(tessla_offer_reading(state, sizeof state, THERMOMETER, 0, 200) == TESSLA_DONE, "a reading", 0);
+    expect(tessla_offer_progress(state, sizeof state, THERMOMETER, TESSLA_HORIZON) == TESSLA_DONE, "progress", 0);
+    for (uint32_t t = 1; t <= 16; t++)
+        expect(tessla_offer_reading(state, sizeof state, BALANCE, t, 300) == TESSLA_DONE, "a reading", t);
+    memcpy(copy, state, sizeof copy);
+    expect(tessla_run(copy, sizeof copy, 64, &moves) == TESSLA_DONE && moves == 64, "64 moves to make", 0);
+    expect(write(TESSLA_AT_COMMAND, TESSLA_COMMAND_RUN) == TESSLA_DONE, "the run", 0);
+    expect(memcmp(state, copy, sizeof copy) == 0, "64 moves by a command", 0);
+    expect(tessla_run(copy, sizeof copy, 1, &moves) == TESSLA_DONE && moves == 1, "a move more to make", 0);
 }
 
 int main(void) {
@@ -154,6 +191,7 @@ int main(void) {
 
     look_at_bounds();
     look_at_places();
+    look_at_a_run();
 
     for (uint32_t n = 0; n <= TESSLA_BAD_WRITE; n++)
         for (uint32_t m = 0; m < n; m++) expect(strcmp(tessla_text(n), tessla_text(m)) != 0, "one text for two numbers", n);

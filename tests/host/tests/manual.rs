@@ -185,20 +185,20 @@ fn stream_of(line: &str) -> &str {
     stream.split("  ").next().unwrap().trim()
 }
 
-/// The plans that the page writes out, stream by stream: the count of visits and the visits of one bird.
-fn written_out(page: &str) -> Vec<String> {
-    let blocks = page.split("```\n").skip(1).step_by(2).filter(|block| block.starts_with("0: in\n"));
-    blocks.map(|block| block.lines().map(stream_of).collect::<Vec<_>>().join("; ")).collect()
-}
-
 #[test]
 fn the_plans_that_are_written_out() {
     let page = page();
-    let blocks = written_out(&page);
+    let blocks: Vec<Vec<&str>> = page
+        .split("```\n")
+        .skip(1)
+        .step_by(2)
+        .filter(|block| block.starts_with("0: in\n"))
+        .map(|block| block.lines().map(stream_of).collect())
+        .collect();
     let visits = || vec![events("7041@60 7055@95 7041@130 9999@131 7041@301")];
     assert_eq!(blocks.len(), 2);
-    check(&blocks[0], &visits(), &events("0@0 1@60 2@95 3@130 4@131 5@301"));
-    check(&blocks[1], &visits(), &events("0@0 1@60 2@130 3@301"));
+    check(&blocks[0].join("; "), &visits(), &events("0@0 1@60 2@95 3@130 4@131 5@301"));
+    check(&blocks[1].join("; "), &visits(), &events("0@0 1@60 2@130 3@301"));
 
     // the shorter form, which repeats the count, is written between back quotes
     let from = page.find("`2: set 0 k7041`").expect("the form with five streams");
@@ -233,10 +233,10 @@ fn registers(page: &str) -> (Vec<Write>, Vec<u8>) {
     (writes.collect(), block.split_whitespace().map(|byte| byte.parse().unwrap()).collect())
 }
 
-/// Whether an engine shows this after each write, and this block at the end, with a plan loaded and the block zeros at first.
+/// Whether an engine shows this after each write, and this block at the end, with the plan loaded and the block zeros at first.
 fn shows(engine: &Engine, plan: &str, writes: &[Write], block_then: &[u8]) -> bool {
     let (mut state, mut block) = (vec![0; STATE_LENGTH], vec![0; BLOCK_LENGTH]);
-    assert_eq!(engine.load(&mut state, text_of(&short(plan)).as_bytes()), 0);
+    assert_eq!(engine.load(&mut state, plan.as_bytes()), 0);
     let each = writes.iter().all(|write| {
         let number = engine.write(&mut state, &mut block, write.at, write.byte);
         let (line, up) = engine.line(&block);
@@ -248,8 +248,9 @@ fn shows(engine: &Engine, plan: &str, writes: &[Write], block_then: &[u8]) -> bo
 #[test]
 fn each_write_to_the_registers() {
     let page = page();
-    let (plan, (writes, block)) = (&written_out(&page)[0], registers(&page));
-    assert_eq!(writes.len(), 17);
+    let plan = page.split("```\n").nth(1).expect("the first text of a plan");
+    let (writes, block) = registers(&page);
+    assert_eq!(writes.len(), 19);
     for engine in engines() {
         assert!(shows(&engine, plan, &writes, &block), "{}: {writes:?} {block:?}", engine.name);
         // and any other number in the example would be seen
