@@ -11,11 +11,6 @@ use host::random::{plan, rounds, seed, Random};
 use host::registers::{line, readers, started, Act, Block, Board, Calls, Direct, WAITING};
 use Call::{Collect, Progress, Reading, Run};
 
-/// A block of any contents.
-fn any_block(random: &mut Random) -> Vec<u8> {
-    (0..BLOCK_LENGTH).map(|_| random.next() as u8).collect()
-}
-
 /// The i-th write of a board: often the command that suits the stream in the block, a stream that has one, or a stamp that rises
 /// with i; else any byte to any place or outside.
 fn board_write(random: &mut Random, plan: &Plan, block: &[u8], i: u32) -> Act {
@@ -44,7 +39,7 @@ fn case_4_10_random_writes_are_the_same_direct_calls() {
     for round in 0..all {
         let mut random = Random::of(41, round);
         let plan = plan(&mut random, 10);
-        let block = if random.chance(30) { any_block(&mut random) } else { vec![0; BLOCK_LENGTH] };
+        let block = if random.chance(30) { random.bytes(BLOCK_LENGTH) } else { vec![0; BLOCK_LENGTH] };
         let loaded = Found::fresh(&plan).bytes();
         let mut boards = readers(&loaded, &block);
         let mut seconds: Vec<Direct> = boards.iter().map(|board| Direct::on(board.engine, &loaded)).collect();
@@ -95,7 +90,7 @@ fn a_board_that_only_writes() {
         let mut random = Random::of(42, round);
         let plan = plan(&mut random, 16);
         let mut session = Session::load(&plan);
-        session.set_block(&any_block(&mut random));
+        session.set_block(&random.bytes(BLOCK_LENGTH));
         let inputs = session.inputs();
         // works off until a run changes nothing and nothing waits
         let work = |session: &mut Session| {
@@ -163,7 +158,7 @@ fn calls_and_writes_on_one_state() {
         let mut random = Random::of(43, round);
         let plan = plan(&mut random, 8);
         let mut session = Session::load(&plan);
-        let block = any_block(&mut random);
+        let block = random.bytes(BLOCK_LENGTH);
         session.set_block(&block);
         let mut board = Board { calls: Found::fresh(&plan), block };
         for _ in 0..60 {
