@@ -334,11 +334,30 @@ fn lengths_above_32_bits() {
         let (mut lent, mut block) = (Lent::of(&state), Lent::of(&[]));
         for length in [(1 << 32) + 24, (1 << 33) + 24, (1 << 56) + 24, (1 << 63) + 24, u64::MAX, 1 << 32, u64::MAX - 23, 24 << 8, 24 << 32] {
             for (at, byte) in [(0, 1), (16, 1), (16, 2), (16, 3), (18, 1), (19, 1), (17, 1), (99, 1)] {
-                assert_eq!(engine.write_claiming(&mut lent, &mut block, length, at, byte), 17, "{}: {length}", engine.name);
+                let lengths = (STATE_LENGTH as u64, length);
+                assert_eq!(engine.write_claiming(&mut lent, &mut block, lengths, at, byte), 17, "{}: {length}", engine.name);
             }
             assert_eq!(engine.line_claiming(&block, length), (17, 0), "{}: {length}", engine.name);
         }
         assert!(lent[..] == state[..] && lent.untouched() && block.untouched());
+    }
+}
+
+/// A state whose length is not 12,288 as 64 bits: nothing is read or written through its pointer, plain writes are done, commands are
+/// refused 15, and what is no command 17.
+#[test]
+fn state_lengths_above_32_bits() {
+    let right = STATE_LENGTH as u64;
+    for engine in engines() {
+        let (mut state, mut block) = (Lent::of(&[]), Lent::of(&ZEROS));
+        for length in [(1 << 32) + right, (1 << 56) + right, (1 << 63) + right, u64::MAX, 1 << 32, right << 32, right + 1, right - 1, 0] {
+            for (at, byte, number) in [(5, 7, 0), (19, 3, 0), (16, 1, 15), (16, 2, 15), (16, 3, 15), (16, 4, 17), (17, 1, 17), (18, 255, 0), (99, 1, 17)] {
+                let lengths = (length, BLOCK_LENGTH as u64);
+                assert_eq!(engine.write_claiming(&mut state, &mut block, lengths, at, byte), number, "{}: {length}", engine.name);
+            }
+        }
+        assert_eq!(block[..], but(&ZEROS, &[(5, 7), (16, 3), (17, 17), (18, 1), (19, 3)]), "{}", engine.name);
+        assert!(block.untouched());
     }
 }
 
