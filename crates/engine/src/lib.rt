@@ -3,7 +3,7 @@
 ghost use mathlib.Core.Path.{_≡_};
 ghost use Rattle.machine.specs.Calls.{reading, progress, moving, running, collecting};
 ghost use Rattle.engine.specs.Load.{loadReply};
-ghost use Rattle.engine.specs.Reply.{reply};
+ghost use Rattle.calls.specs.Reply.{reply};
 use operators::Plan;
 use valid::Tested;
 

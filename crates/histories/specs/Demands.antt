@@ -22,9 +22,8 @@ use Rattle.operators.specs.Limits.{capacity}
 use Rattle.render.specs.Render.{render}
 use Rattle.plan.specs.Rules.{declared}
 use Rattle.plan.specs.Taken.{KeepsRules}
-use Rattle.calls.specs.Reply.{Reply}
-use Rattle.engine.specs.Reply.{reply}
+use Rattle.calls.specs.Reply.{Reply, reply}
 use Rattle.engine.specs.Load.{loadReply}
 
 -- ## Demand 1: "a bad one gets its number from document 01, and the lent buffers stay as they came"
 
