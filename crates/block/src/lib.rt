@@ -126,6 +126,14 @@ pub fn fill(block: &mut [u8], stamp: u32, value: i64)
     le::put(block, REPLY_STAMP, 4, stamp as u64);
 }
 
+// Stores a byte.
+pub fn store(block: &mut [u8], at: u32, byte: u8)
+    requires { ⌜ (length (now block) ≡ 24) × (at < 24) ⌝ }
+    ensures { λ _. ⌜ now (block .exit) ≡ set (now (block .entry)) at byte ⌝ }
+{
+    block[at as usize] = byte;
+}
+
 // Clears the flags that have a 1 in the byte.
 pub fn clear(block: &mut [u8], byte: u8)
     requires { ⌜ length (now block) ≡ 24 ⌝ }

@@ -2,7 +2,7 @@
 -- bytes give.
 use Prim.Native.Nat.{ℕ}
 use mathlib.Core.Bool.{cond}
-use mathlib.Core.List.{List}
+use mathlib.Core.List.{List, [], _∷_}
 use lib.IntN.{ℤ, pos}
 use lib.ListN.{length}
 use Rattle.machine.specs.Calls.{Call, Outcome, call}
@@ -40,3 +40,15 @@ notState s = plain 15 s
 
 unfoldable pub reply : Call → List ℕ → Reply
 reply c s = cond (valid s) (replyIn c s) (notState s)
+
+-- ---- calls one after the other
+
+-- the bytes that they leave
+unfoldable pub leftBy : List ℕ → List Call → List ℕ
+leftBy s [] = s
+leftBy s (c ∷ cs) = leftBy (reply c s .buffer) cs
+
+-- the numbers that they return
+unfoldable pub numbersBy : List ℕ → List Call → List ℕ
+numbersBy s [] = []
+numbersBy s (c ∷ cs) = reply c s .number ∷ numbersBy (reply c s .buffer) cs

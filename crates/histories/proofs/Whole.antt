@@ -28,10 +28,10 @@ use Rattle.plan.specs.Taken.{KeepsRules}
 use Rattle.plan.proofs.Taken.{taken-rendered}
 use Rattle.plan.proofs.Rendered.{arguments-at}
 use Rattle.load.proofs.Fresh.{loaded-sound}
-use Rattle.calls.specs.Reply.{Reply, replyOf, reply}
+use Rattle.calls.specs.Reply.{Reply, replyOf, reply, leftBy}
 use Rattle.calls.proofs.Replies.{call-15}
 use Rattle.engine.specs.Load.{loadReply}
-use Rattle.histories.specs.Demands.{Act, load, make, putBack, Course, Point, seenIn, courseOfCall, acted, pointFrom, pointAfter, TypedAct, AllTypedActs, leftBy, RestAhead, Demands, DemandsAt}
+use Rattle.histories.specs.Demands.{Act, load, make, putBack, Course, Point, seenIn, courseOfCall, acted, pointFrom, pointAfter, TypedAct, AllTypedActs, RestAhead, Demands, DemandsAt}
 use Rattle.histories.specs.Inside.{callsOf, Inside, InsideAt}
 use Rattle.calls.proofs.Answers.{reply-machine}
 use Rattle.engine.proofs.Loads.{load-done, load-refused}

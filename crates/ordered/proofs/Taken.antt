@@ -23,9 +23,9 @@ use Rattle.runs.proofs.Claimed.{shape, known-is}
 use Rattle.operators.specs.Limits.{capacity}
 use Rattle.operators.proofs.Sizes.{capacity-few}
 use Rattle.plan.specs.Rules.{declared}
-use Rattle.calls.specs.Reply.{Reply, reply}
+use Rattle.calls.specs.Reply.{Reply, reply, leftBy}
 use Rattle.engine.specs.Load.{loadReply}
-use Rattle.histories.specs.Demands.{seenIn, leftBy}
+use Rattle.histories.specs.Demands.{seenIn}
 use Rattle.histories.specs.Inside.{Inside}
 use Rattle.engine.proofs.Loads.{load-length}
 use Rattle.histories.proofs.Whole.{rules-keep, seenBy, load-then}

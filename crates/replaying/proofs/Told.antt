@@ -26,7 +26,6 @@ use Rattle.operators.specs.Limits.{capacity}
 use Rattle.operators.proofs.Sizes.{capacity-few}
 use Rattle.plan.specs.Rules.{declared}
 use Rattle.engine.specs.Load.{loadReply}
-use Rattle.histories.specs.Demands.{leftBy}
 use Rattle.histories.specs.Inside.{Inside}
 use Rattle.engine.proofs.Loads.{load-length}
 use Rattle.histories.proofs.Whole.{rules-keep, seenBy, load-then}

@@ -31,9 +31,9 @@ use Rattle.runs.specs.Claim.{seen, nextNumber, readings}
 use Rattle.runs.proofs.Numbers.{reading-number}
 use Rattle.runs.proofs.World.{Shape}
 use Rattle.runs.proofs.Claimed.{shape, known-is}
-use Rattle.calls.specs.Reply.{Reply, reply}
+use Rattle.calls.specs.Reply.{Reply, reply, leftBy}
 use Rattle.engine.specs.Load.{loadReply}
-use Rattle.histories.specs.Demands.{seenIn, leftBy}
+use Rattle.histories.specs.Demands.{seenIn}
 use Rattle.histories.specs.Inside.{Inside}
 use Rattle.engine.proofs.Loads.{load-length}
 use Rattle.histories.proofs.Whole.{rules-keep, seenBy, load-then}
