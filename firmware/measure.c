@@ -129,7 +129,7 @@ static void measure(const char *name, const struct row *rows, uint32_t n) {
     fill_block(0, 70, 7);
     MEASURE_CALL("plain write", tessla_register_write(S, B, TESSLA_AT_STAMP, 70));
     MEASURE_CALL("line", tessla_register_line(B, &up));
-    MEASURE_CALL("command 3", tessla_register_write(S, B, TESSLA_AT_COMMAND, TESSLA_COMMAND_RUN));
+    MEASURE_CALL("command 3 at rest", tessla_register_write(S, B, TESSLA_AT_COMMAND, TESSLA_COMMAND_RUN));
     memcpy(copy, state, sizeof state);
     MEASURE_CALL("progress", tessla_offer_progress(S, 0, 60));
     memcpy(state, copy, sizeof state);
@@ -143,6 +143,9 @@ static void measure(const char *name, const struct row *rows, uint32_t n) {
     memcpy(state, copy, sizeof state);
     tessla_offer_reading(S, 0, 70, 7);
     MEASURE_CALL("run to rest", tessla_run(S, 100000, &moves));
+    memcpy(state, copy, sizeof state);
+    tessla_offer_reading(S, 0, 70, 7);
+    MEASURE_CALL("command 3 to rest", tessla_register_write(S, B, TESSLA_AT_COMMAND, TESSLA_COMMAND_RUN));
     memcpy(state, copy, sizeof state);
     MEASURE("a reading to rest", to_rest(0, 70, 7));
     memcpy(copy, state, sizeof state);
