@@ -172,8 +172,9 @@ static void operations(const struct plan *p) {
     end(p->name, "command 3 at rest", used, p->streams);
 
     begin();
-    for (unsigned i = 0; i < used; i++) registered(copies[i], TESSLA_AT_MASK, (uint8_t)i);
-    end(p->name, "plain write", used, p->streams);
+    for (unsigned i = 0; i < used; i++)
+        for (uint32_t at = TESSLA_AT_STREAM; at < TESSLA_AT_COMMAND; at++) registered(copies[i], at, (uint8_t)i);
+    end(p->name, "plain write", (unsigned long)used * TESSLA_AT_COMMAND, p->streams);
 
     begin();
     for (unsigned i = 0; i < used; i++)

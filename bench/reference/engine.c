@@ -675,6 +675,15 @@ static uint32_t started(uint8_t *state, unsigned n, uint8_t *block) {
     }
 }
 
+/* apart, so that a plain write pays nothing for it */
+static __attribute__((noinline)) uint32_t commanded(uint8_t *state, uint64_t state_length, uint8_t *block) {
+    unsigned n;
+    if (!is_state(state, state_length, &n)) return ended(block, 15);
+    uint32_t number = started(state, n, block);
+    if (output_waits(state, n)) block[AT_FLAGS] |= WAITING;
+    return ended(block, number);
+}
+
 uint32_t ref_register_write(uint8_t *state, uint64_t state_length, uint8_t *block, uint64_t block_length, uint32_t at, uint8_t byte) {
     if (block_length != BLOCK) return 17;
     if (at == AT_FLAGS) {
@@ -687,11 +696,7 @@ uint32_t ref_register_write(uint8_t *state, uint64_t state_length, uint8_t *bloc
     }
     if (at != AT_COMMAND || byte < OFFER || byte > RUN) return ended(block, 17);
     block[AT_COMMAND] = byte;
-    unsigned n;
-    if (!is_state(state, state_length, &n)) return ended(block, 15);
-    uint32_t number = started(state, n, block);
-    if (output_waits(state, n)) block[AT_FLAGS] |= WAITING;
-    return ended(block, number);
+    return commanded(state, state_length, block);
 }
 
 uint32_t ref_register_line(const uint8_t *block, uint64_t block_length, uint32_t *up) {
