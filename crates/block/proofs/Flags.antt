@@ -12,7 +12,7 @@ use borrow.Author.Tests.{eq-eqb, ne-eqb}
 use mir.Syntax.{w64}
 use mir.Val.{ofZ}
 use Rattle.le.specs.Bytes.{enc}
-use Rattle.block.specs.Block.{blockLength, flagsIn, maskIn, filled, bit, withFlags, cleared, raised, lineUp, line}
+use Rattle.block.specs.Block.{blockLength, flagsIn, maskIn, filled, bit, withFlags, cleared, raised, lineUp, Line, line}
 
 pub bit-zero : (f : ℕ) → eqb (f % 2) 1 ≡ bit 0 f
 bit-zero f = let e : f ≡ f / 2 ^ 0 = omega arith in ap (λ (y : ℕ). eqb (y % 2) 1) e
@@ -53,3 +53,12 @@ module _ (b : List ℕ) where
     pub line-down : u ≡ false → (0 ≡ line b .number) × (0 ≡ line b .up)
     unfolding line
     line-down h = rw (eq-eqb (length b) blockLength l, up-is, h) (refl, refl)
+
+-- a refused line is down
+pub line-refused : (b : List ℕ) → (line b .number ≡ 0 → ⊥) → line b .up ≡ 0
+unfolding line
+line-refused b = go (eqb (length b) blockLength)
+  where
+    go : (p : Bool) → (let l : Line = cond p (record { number = 0; up = cond (lineUp b) 1 0 }) (record { number = 17; up = 0 }) in (l .number ≡ 0 → ⊥) → l .up ≡ 0)
+    go true d = absurd (d refl)
+    go false d = refl

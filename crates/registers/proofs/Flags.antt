@@ -1,13 +1,13 @@
 -- The flags after a write: what sets them, what clears them, and that the other bits stay.
 use Prim.Native.Nat.{ℕ, zero, suc, _<_, _≤_}
-use mathlib.Core.Path.{_≡_, refl, sym, ap, ap₂, _∙_, subst}
+use mathlib.Core.Path.{_≡_, refl, sym, ap, _∙_, subst}
 use mathlib.Core.Bool.{Bool, true, false, not, cond, _&&_, _||_, false≢true}
 use mathlib.Core.List.{List}
 use native.Mathlib.Omega.{arith}
 use lib.Dec.{eqb}
-use lib.ListN.{length, getD, set, length-set}
+use lib.ListN.{length, set, length-set}
 use lib.Seq.{getD-set-same, getD-set-other}
-use borrow.Author.Tests.{eqb-true, ne-eqb}
+use borrow.Author.Tests.{ne-eqb}
 use Rattle.block.specs.Block.{blockLength, commandAt, flagsAt, flagsIn, filled, bit, cleared, raised, ended}
 use Rattle.block.proofs.Bits.{raised-zero, raised-one, raised-others, cleared-zero, cleared-one, cleared-others}
 use Rattle.block.proofs.Places.{ended-flags, filled-length, filled-flags}

@@ -1,22 +1,19 @@
 -- What a refused write and a refused command leave, and what a done collect fills in.
-use Prim.Native.Nat.{ℕ, _<_, _≤_}
-use mathlib.Core.Path.{_≡_, refl, sym, ap, ap₂, _∙_, subst}
-use mathlib.Core.Bool.{Bool, true, false, not, cond, _||_}
+use Prim.Native.Nat.{ℕ, _≤_}
+use mathlib.Core.Path.{_≡_, refl, sym, ap, _∙_, subst}
+use mathlib.Core.Bool.{Bool, true, false, _||_}
 use mathlib.Core.List.{List}
 use native.Mathlib.Omega.{arith}
 use native.Mathlib.Decide.{ℕ-discrete}
-use lib.Dec.{eqb}
 use lib.ListN.{length, getD, set, length-set}
 use lib.Seq.{getD-set-other}
 use Rattle.le.specs.Bytes.{Bytes}
-use Rattle.meaning.specs.Events.{horizon}
-use Rattle.machine.specs.Calls.{collecting}
-use Rattle.block.specs.Block.{blockLength, streamIn, commandAt, statusAt, flagsAt, flagsIn, valueIn, replyStampIn, bit, ended}
+use Rattle.block.specs.Block.{blockLength, streamIn, commandAt, statusAt, flagsAt, flagsIn, valueIn, replyStampIn, bit}
 use Rattle.block.proofs.Bits.{raised-one}
 use Rattle.block.proofs.Places.{ended-status, ended-other, ended-stamp, ended-value, command-stamp, command-value, filled-stamp, filled-value}
 use Rattle.calls.specs.Reply.{Reply, reply}
 use Rattle.calls.proofs.Answers.{reply-refused, collect-is-value, collect-is-stamp}
-use Rattle.registers.specs.Write.{Written, callIn, answered, waiting, commanded, refused, stored, write, starts}
+use Rattle.registers.specs.Write.{Written, callIn, answered, waiting, commanded, refused, write, starts}
 use Rattle.registers.specs.Laws.{Refusal, Collected, Laws}
 use Rattle.registers.proofs.Outputs.{waiting-is}
 use Rattle.registers.proofs.Commands.{reply-small, call-2, answered-refused, answered-done}

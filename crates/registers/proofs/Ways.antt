@@ -1,12 +1,12 @@
 -- The four ways of a write to a block of 24 bytes.
-use Prim.Native.Nat.{ℕ, _<_, _≤_}
+use Prim.Native.Nat.{ℕ}
 use mathlib.Core.Path.{_≡_, refl, ap, ap₂, _∙_}
 use mathlib.Core.Bool.{Bool, true, false, _&&_}
 use mathlib.Core.List.{List}
 use native.Mathlib.Omega.{arith}
 use lib.Dec.{eqb, ltb}
 use lib.ListN.{length, set}
-use borrow.Author.Tests.{eqb-true, eqb-false, eq-eqb, ne-eqb, ltb-true, ltb-false}
+use borrow.Author.Tests.{eqb-true, eqb-false, eq-eqb, ltb-true, ltb-false}
 use Rattle.block.specs.Block.{blockLength, commandAt, flagsAt, maskAt, flagsIn, cleared}
 use Rattle.calls.specs.Reply.{reply}
 use Rattle.registers.specs.Write.{isCommand, callIn, commanded, refused, stored, write, starts}
