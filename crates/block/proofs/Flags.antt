@@ -1,5 +1,5 @@
 -- The flags' byte and the line, as the code works them out.
-use Prim.Native.Nat.{ℕ, _/_, _%_, _^_, _≤_}
+use Prim.Native.Nat.{ℕ, _+_, _*_, _/_, _%_, _^_, _≤_}
 use mathlib.Core.Path.{_≡_, refl, sym, ap, ap₂, _∙_}
 use mathlib.Core.Bool.{Bool, true, false, not, cond, _&&_, _||_}
 use mathlib.Core.List.{List}
@@ -16,6 +16,13 @@ use Rattle.block.specs.Block.{blockLength, flagsIn, maskIn, filled, bit,
 
 pub bit-zero : (f : ℕ) → eqb (f % 2) 1 ≡ bit 0 f
 bit-zero f = let e : f ≡ f / 2 ^ 0 = omega arith in ap (λ (y : ℕ). eqb (y % 2) 1) e
+
+pub bit-one : (f : ℕ) → eqb (f / 2 % 2) 1 ≡ bit 1 f
+bit-one f = refl
+
+pub flags-are : (f u v : ℕ) (zero one : Bool) → u ≡ cond one 2 0 → v ≡ cond zero 1 0 → f / 4 * 4 + (u + v) ≡ withFlags f zero one
+unfolding withFlags
+flags-are f u v zero one eu ev = ap₂ (λ (y z : ℕ). f / 4 * 4 + (y + z)) eu ev
 
 pub weight-most : (b : Bool) (k : ℕ) → cond b k 0 ≤ k
 weight-most true k = omega arith

@@ -96,7 +96,7 @@ shown-is s b at x h q = go (eqb x 2) refl (eqb (write s b at x .number) 0) refl
     z : Started b at x
     z = started b at x q
 
-    answer : write s b at x ≡ commanded b x (reply (callIn b x) s)
+    answer : write s b at x ≡ commanded s b x
     answer = write-command s b at x (z .whole) (z .place) (z .command)
 
     number : write s b at x .number ≡ reply (callIn b x) s .number

@@ -13,7 +13,7 @@ use Rattle.registers.specs.Write.{isCommand, callIn, commanded, refused,
 use Rattle.registers.proofs.Writes.{write-command, write-none, write-flags, write-low, write-mask, write-other}
 
 pub data Way (s b : List ℕ) (at x : ℕ) : Type 0 where
-  was-command : starts b at x ≡ true → (at ≡ flagsAt → ⊥) → write s b at x ≡ commanded b x (reply (callIn b x) s) → Way s b at x
+  was-command : starts b at x ≡ true → (at ≡ flagsAt → ⊥) → write s b at x ≡ commanded s b x → Way s b at x
   was-refused : starts b at x ≡ false → (at ≡ flagsAt → ⊥) → write s b at x ≡ refused s b → Way s b at x
   was-flags : starts b at x ≡ false → at ≡ flagsAt → write s b at x ≡ stored s (set b flagsAt (cleared (flagsIn b) x)) → Way s b at x
   was-stored : starts b at x ≡ false → (flagsAt ≡ at → ⊥) → write s b at x ≡ stored s (set b at x) → Way s b at x
