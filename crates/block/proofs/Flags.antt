@@ -1,5 +1,5 @@
 -- The flags' byte and the line, as the code works them out.
-use Prim.Native.Nat.{ℕ, _/_, _%_, _^_, _≤_}
+use Prim.Native.Nat.{ℕ, _+_, _*_, _/_, _%_, _^_, _≤_}
 use mathlib.Core.Path.{_≡_, refl, sym, ap, ap₂, _∙_}
 use mathlib.Core.Bool.{Bool, true, false, not, cond, _&&_, _||_}
 use mathlib.Core.List.{List}
@@ -12,10 +12,17 @@ use borrow.Author.Tests.{eq-eqb, ne-eqb}
 use mir.Syntax.{w64}
 use mir.Val.{ofZ}
 use Rattle.le.specs.Bytes.{enc}
-use Rattle.block.specs.Block.{blockLength, flagsIn, maskIn, filled, bit, withFlags, cleared, raised, lineUp, line}
+use Rattle.block.specs.Block.{blockLength, flagsIn, maskIn, filled, bit, withFlags, cleared, raised, lineUp, Line, line}
 
 pub bit-zero : (f : ℕ) → eqb (f % 2) 1 ≡ bit 0 f
 bit-zero f = let e : f ≡ f / 2 ^ 0 = omega arith in ap (λ (y : ℕ). eqb (y % 2) 1) e
+
+pub bit-one : (f : ℕ) → eqb (f / 2 % 2) 1 ≡ bit 1 f
+bit-one f = refl
+
+pub flags-are : (f u v : ℕ) (zero one : Bool) → u ≡ cond one 2 0 → v ≡ cond zero 1 0 → f / 4 * 4 + (u + v) ≡ withFlags f zero one
+unfolding withFlags
+flags-are f u v zero one eu ev = ap₂ (λ (y z : ℕ). f / 4 * 4 + (y + z)) eu ev
 
 pub weight-most : (b : Bool) (k : ℕ) → cond b k 0 ≤ k
 weight-most true k = omega arith
@@ -53,3 +60,12 @@ module _ (b : List ℕ) where
     pub line-down : u ≡ false → (0 ≡ line b .number) × (0 ≡ line b .up)
     unfolding line
     line-down h = rw (eq-eqb (length b) blockLength l, up-is, h) (refl, refl)
+
+-- a refused line is down
+pub line-refused : (b : List ℕ) → (line b .number ≡ 0 → ⊥) → line b .up ≡ 0
+unfolding line
+line-refused b = go (eqb (length b) blockLength)
+  where
+    go : (p : Bool) → (let l : Line = cond p (record { number = 0; up = cond (lineUp b) 1 0 }) (record { number = 17; up = 0 }) in (l .number ≡ 0 → ⊥) → l .up ≡ 0)
+    go true d = absurd (d refl)
+    go false d = refl

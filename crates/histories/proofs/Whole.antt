@@ -1,4 +1,4 @@
--- The whole theorem, over bytes: any history of loads, calls and copies put back on a lent buffer.
+-- The whole theorem, over bytes: any history of loads, calls, register writes and copies put back on a lent buffer.
 use Prim.Native.Nat.{ℕ, zero, suc, _≤_, _<_}
 use mathlib.Core.Path.{_≡_, refl, sym, ap, ap₂, _∙_, subst}
 use mathlib.Core.Bool.{Bool, true, false, cond}
@@ -17,6 +17,7 @@ use Rattle.runs.specs.Demand3.{readingsSeen, AtRest, Demand3}
 use Rattle.runs.specs.History.{seenOf, after, log}
 use Rattle.runs.specs.Claim.{Keeps, final, nextNumber, Claim, RestReached}
 use Rattle.runs.proofs.Whole.{whole-runs, rest-reached}
+use Rattle.le.specs.Bytes.{Bytes}
 use Rattle.operators.specs.Limits.{mostStreams, capacity}
 use Rattle.operators.proofs.Sizes.{capacity-few}
 use Rattle.encoding.specs.View.{bytesOf}
@@ -30,11 +31,15 @@ use Rattle.plan.proofs.Rendered.{arguments-at}
 use Rattle.load.proofs.Fresh.{loaded-sound}
 use Rattle.calls.specs.Reply.{Reply, replyOf, reply, leftBy}
 use Rattle.calls.proofs.Replies.{call-15}
+use Rattle.calls.proofs.Bytes.{state-bytes}
+use Rattle.registers.specs.Write.{callIn, write, starts}
+use Rattle.registers.proofs.Sequence.{one-write}
 use Rattle.engine.specs.Load.{loadReply}
-use Rattle.histories.specs.Demands.{Act, load, make, putBack, Course, Point, seenIn, courseOfCall, acted, pointFrom, pointAfter, TypedAct, AllTypedActs, RestAhead, Demands, DemandsAt}
+use Rattle.histories.specs.Demands.{Act, load, make, writeTo, putBack, Course, Point, seenIn, courseOfCall, shownIn, acted, pointFrom, pointAfter, TypedAct, AllTypedActs, RestAhead, Demands, DemandsAt}
 use Rattle.histories.specs.Inside.{callsOf, Inside, InsideAt}
 use Rattle.calls.proofs.Answers.{reply-machine}
 use Rattle.engine.proofs.Loads.{load-done, load-refused}
+use Rattle.histories.proofs.Shown.{shown-is, typed-call}
 
 -- ---- a plan that keeps the written rules is one that the theorem on runs speaks of
 
@@ -157,6 +162,21 @@ kept-act (make c) past p t h k = by (p .course) k
     by : (o : Option Course) → KeptIn o (p .bytes) → KeptIn (courseOfCall c (reply c (p .bytes)) o) (reply c (p .bytes) .buffer)
     by none k = tt
     by (some x) k = (k .0 ++ c ∷ [], further (x .plan) (k .0) (x .seen) (p .bytes) c t (k .1))
+kept-act (writeTo b at x) past p t h k = by (starts b at x) refl (p .course) k
+  where
+    by : (q : Bool) → starts b at x ≡ q → (o : Option Course) → KeptIn o (p .bytes)
+        → KeptIn (cond q (courseOfCall (callIn b x) (shownIn x (reply (callIn b x) (p .bytes)) (write (p .bytes) b at x)) o) o) (write (p .bytes) b at x .state)
+    by true q none k = tt
+    by true q (some y) k =
+        let bytes : Bytes (p .bytes) = subst Bytes (sym (k .1 .bytes)) (state-bytes (length (p .bytes)) (final (y .plan) (k .0))) in
+        let e = shown-is (p .bytes) b at x bytes q in
+        let f = one-write (p .bytes) b at x .started q .1 in (
+          k .0 ++ callIn b x ∷ [],
+          subst (λ (m : List ℕ). Kept (y .plan) (k .0 ++ callIn b x ∷ []) (y .seen ++ seenIn (callIn b x) (shownIn x (reply (callIn b x) (p .bytes)) (write (p .bytes) b at x)) ∷ []) m) (sym f)
+              (subst (λ (r : Reply). Kept (y .plan) (k .0 ++ callIn b x ∷ []) (y .seen ++ seenIn (callIn b x) r ∷ []) (reply (callIn b x) (p .bytes) .buffer)) (sym e)
+              (further (y .plan) (k .0) (y .seen) (p .bytes) (callIn b x) (typed-call b x t) (k .1))),
+        )
+    by false q o k = subst (KeptIn o) (sym (one-write (p .bytes) b at x .none q)) k
 kept-act (putBack n) past p t h k = kept-at past n p h k
 
 kept-all : (acts : List Act) (past : List Point) (p : Point) → AllTypedActs acts → AllKept past → KeptAt p → KeptAt (pointFrom acts past p)
@@ -232,7 +252,7 @@ kept-demands x b cs k =
 history-kept : (acts : List Act) → AllTypedActs acts → (s : List ℕ) → KeptAt (pointAfter acts s)
 history-kept acts t s = kept-all acts [] (record { bytes = s; course = none }) t tt tt
 
--- Whatever loads and calls are made on a lent buffer and whatever copies are put back, whatever it held before: demands 2 and
+-- Whatever loads, calls and register writes are made on a lent buffer and whatever copies are put back, whatever it held before: demands 2 and
 -- 3 hold of the list since the last load that was done, by what was returned alone.
 pub demands-hold : (acts : List Act) → AllTypedActs acts → (s : List ℕ) → DemandsAt (pointAfter acts s .course) (pointAfter acts s .bytes)
 demands-hold acts t s = go (pointAfter acts s .course) (history-kept acts t s)

@@ -1,10 +1,10 @@
 -- Believe: the page to read, demands 1 to 3 of any history of a lent buffer, told by what the exported calls return
--- (`loadReply` and `reply`, to which each is promised equal). It is read with the meaning of a plan (crates/meaning: Plan,
+-- (`loadReply`, `reply`, `write` and `line`, to which each is promised equal). It is read with the meaning of a plan (crates/meaning: Plan,
 -- Events, Table), with what a caller sees and demand 3 itself (crates/runs: Seen, Demand3), and without machine or layout.
 use Prim.Native.Nat.{ℕ, _<_}
 use mathlib.Core.Path.{_≡_}
 use mathlib.Core.Logic.{_↔_}
-use mathlib.Core.Bool.{cond}
+use mathlib.Core.Bool.{cond, _&&_}
 use mathlib.Core.Option.{Option, none, some}
 use mathlib.Core.List.{List, [], _∷_, _++_}
 use lib.Dec.{eqb}
@@ -23,6 +23,8 @@ use Rattle.render.specs.Render.{render}
 use Rattle.plan.specs.Rules.{declared}
 use Rattle.plan.specs.Taken.{KeepsRules}
 use Rattle.calls.specs.Reply.{Reply, reply, leftBy}
+use Rattle.block.specs.Block.{valueIn, replyStampIn, line}
+use Rattle.registers.specs.Write.{Written, callIn, write, starts}
 use Rattle.engine.specs.Load.{loadReply}
 
 -- ## Demand 1: "a bad one gets its number from document 01, and the lent buffers stay as they came"
@@ -37,6 +39,9 @@ pub record LeavesAll (r : Reply) (s : List ℕ) : Type 0 where
 pub record Refusals : Type 0 where
   pub ofLoad : (text s : List ℕ) → (loadReply text s .number ≡ 0 → ⊥) → LeavesAll (loadReply text s) s
   pub ofCall : (c : Call) (s : List ℕ) → Bytes s → (reply c s .number ≡ 0 → ⊥) → LeavesAll (reply c s) s
+  -- a register write may change its block; how is in crates/registers/specs/Laws.antt
+  pub ofWrite : (s b : List ℕ) (at x : ℕ) → Bytes s → (write s b at x .number ≡ 0 → ⊥) → write s b at x .state ≡ s
+  pub ofLine : (b : List ℕ) → (line b .number ≡ 0 → ⊥) → line b .up ≡ 0
 
 -- ## Demand 2: "A plan that keeps the written rules is taken, and every other is refused."
 
@@ -50,10 +55,12 @@ pub record Taking : Type 0 where
 
 -- ## A history
 
--- a load of a plan text, one of the other calls, or a copy put back: the bytes that the buffer had after so many acts
+-- a load of a plan text, one of the other calls, the write of a byte at a place of a block, which may hold anything, or a copy put
+-- back: the bytes that the buffer had after so many acts
 pub data Act : Type 0 where
   load : List ℕ → Act
   make : Call → Act
+  writeTo : (b : List ℕ) (at x : ℕ) → Act
   putBack : ℕ → Act
 
 -- the list of calls since the last done load: the streams that its text declares, and what was seen of each call
@@ -77,12 +84,25 @@ abbrev pub courseOfCall : Call → Reply → Option Course → Option Course
 courseOfCall c r none = none
 courseOfCall c r (some x) = some (record { plan = x .plan; seen = x .seen ++ seenIn c r ∷ [] })
 
+-- what a command's write shows of its call: the number, and of a done collect what then lies in the block, w being what the write
+-- gives and r the call's answer, of which the count of moves isn't shown
+abbrev pub shownIn : ℕ → Reply → Written → Reply
+shownIn x r w =
+    let done = eqb x 2 && eqb (w .number) 0 in
+    record { number = w .number; moves = r .moves; stamp = cond done (replyStampIn (w .block)) 0; value = cond done (valueIn (w .block)) (pos 0); buffer = w .state }
+
+-- "A call added by a later change counts as those of these calls that it amounts to": a write that starts a command as its call, any
+-- other as none
+abbrev pub courseOfWrite : List ℕ → ℕ → ℕ → Reply → Written → Option Course → Option Course
+courseOfWrite b at x r w o = cond (starts b at x) (courseOfCall (callIn b x) (shownIn x r w) o) o
+
 -- one act at the point p; `past` are the points before it, the first one first.
 -- "a state put back has had the calls made up to its copy, and what was accepted or handed out after the copy doesn't count
 -- for it"
 unfoldable pub acted : Act → List Point → Point → Point
 acted (load text) past p = let r = loadReply text (p .bytes) in record { bytes = r .buffer; course = courseOfLoad text r (p .course) }
 acted (make c) past p = let r = reply c (p .bytes) in record { bytes = r .buffer; course = courseOfCall c r (p .course) }
+acted (writeTo b at x) past p = let w = write (p .bytes) b at x in record { bytes = w .state; course = courseOfWrite b at x (reply (callIn b x) (p .bytes)) w (p .course) }
 acted (putBack k) past p = getD past k p
 
 unfoldable pub pointFrom : List Act → List Point → Point → Point
@@ -97,6 +117,7 @@ pointAfter acts s = pointFrom acts [] (record { bytes = s; course = none })
 abbrev pub TypedAct : Act → Type 0
 TypedAct (load text) = Unit {0}
 TypedAct (make c) = Typed c
+TypedAct (writeTo b at x) = Bytes b
 TypedAct (putBack k) = Unit {0}
 
 abbrev pub AllTypedActs : List Act → Type 0

@@ -35,7 +35,8 @@ use Rattle.replaying.specs.declared.Place.the-variants.{Rest}
 use Rattle.replaying.specs.Replay.{callOf, refusal, Prints, start}
 use Rattle.replaying.specs.Session.{Replays, ends, goes, lineIn, printedOf, otherIn, othersOf}
 use Rattle.replaying.specs.Whole.{Lines, end, Printed, refused, played}
-use Rattle.replaying.proofs.Bytes.{Fine, state-bytes, reply-fine}
+use Rattle.calls.proofs.Bytes.{state-bytes}
+use Rattle.replaying.proofs.Bytes.{Fine, reply-fine}
 use Rattle.replaying.proofs.Made.{buffer-append, printed-append, offers-append, typed-append, Made, made-one, Still, prints-made}
 use Rattle.replaying.proofs.Told.{still-rest}
 use Rattle.replaying.proofs.True.{lines-typed}

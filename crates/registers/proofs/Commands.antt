@@ -98,7 +98,7 @@ module _ (b : List ℕ) (x : ℕ) where
 module _ (s b : List ℕ) (x : ℕ) where
   -- what a command returns and leaves
   abbrev pub Answers : ℕ → List ℕ → List ℕ → Type 0
-  Answers k b′ s′ = let w = commanded b x (reply (callIn b x) s) in (k ≡ w .number) × ((b′ ≡ w .block) × (s′ ≡ w .state))
+  Answers k b′ s′ = let w = commanded s b x in (k ≡ w .number) × ((b′ ≡ w .block) × (s′ ≡ w .state))
 
   pub command-state : (n : ℕ) → IsState s n → (k : ℕ) (b₁ b₂ s′ : List ℕ) (w : Bool) → k ≡ replyIn (callIn b x) s .number → s′ ≡ replyIn (callIn b x) s .buffer
       → b₁ ≡ answered x (replyIn (callIn b x) s) b → w ≡ waiting s′ → b₂ ≡ ended k w (set b₁ commandAt x) → Answers k b₂ s′

@@ -1,13 +1,13 @@
 -- The flags after a write: what sets them, what clears them, and that the other bits stay.
 use Prim.Native.Nat.{ℕ, zero, suc, _<_, _≤_}
-use mathlib.Core.Path.{_≡_, refl, sym, ap, ap₂, _∙_, subst}
+use mathlib.Core.Path.{_≡_, refl, sym, ap, _∙_, subst}
 use mathlib.Core.Bool.{Bool, true, false, not, cond, _&&_, _||_, false≢true}
 use mathlib.Core.List.{List}
 use native.Mathlib.Omega.{arith}
 use lib.Dec.{eqb}
-use lib.ListN.{length, getD, set, length-set}
+use lib.ListN.{length, set, length-set}
 use lib.Seq.{getD-set-same, getD-set-other}
-use borrow.Author.Tests.{eqb-true, ne-eqb}
+use borrow.Author.Tests.{ne-eqb}
 use Rattle.block.specs.Block.{blockLength, commandAt, flagsAt, flagsIn, filled, bit, cleared, raised, ended}
 use Rattle.block.proofs.Bits.{raised-zero, raised-one, raised-others, cleared-zero, cleared-one, cleared-others}
 use Rattle.block.proofs.Places.{ended-flags, filled-length, filled-flags}
@@ -38,9 +38,10 @@ answered-flags x r b = go (eqb x 2 && eqb (r .number) 0)
 -- ---- the flags of each way
 
 module _ (b : List ℕ) (l : length b ≡ blockLength) where
-  pub command-flags : (x : ℕ) (r : Reply) → flagsIn (commanded b x r .block) ≡ raised (flagsIn b) (r .number) (waiting (r .buffer))
+  pub command-flags : (s : List ℕ) (x : ℕ) → (let r = reply (callIn b x) s in flagsIn (commanded s b x .block) ≡ raised (flagsIn b) (r .number) (waiting (r .buffer)))
   unfolding commanded
-  command-flags x r =
+  command-flags s x =
+      let r = reply (callIn b x) s in
       let a = answered x r b in
       ended-flags (r .number) (waiting (r .buffer)) (set a commandAt x) (length-set a commandAt x ∙ answered-length x r b ∙ l)
       ∙ ap (λ (f : ℕ). raised f (r .number) (waiting (r .buffer))) (getD-set-other a commandAt flagsAt x 0 (λ e. omega arith) ∙ answered-flags x r b)
@@ -174,7 +175,7 @@ flags-hold s b at x l = go (way s b at x l)
     go (was-command q d e) =
         let r = reply (callIn b x) s in
         subst (Flags b at x) (sym e)
-        (raises b at x (commanded b x r) (waiting (r .buffer)) (unfold commanded in command-flags b l x r) (λ h g. unfold commanded in waiting-is (r .buffer) .1 g) (λ h. (q, unfold commanded in waiting-is (r .buffer) .0 h)) d)
+        (raises b at x (commanded s b x) (waiting (r .buffer)) (unfold commanded in command-flags b l s x) (λ h g. unfold commanded in waiting-is (r .buffer) .1 g) (λ h. (q, unfold commanded in waiting-is (r .buffer) .0 h)) d)
     go (was-refused q d e) =
         subst (Flags b at x) (sym e)
         (raises b at x (refused s b) false (refused-flags b l) (λ h g. absurd (false≢true (sym q ∙ h))) (λ h. absurd (false≢true h)) d)

@@ -1,22 +1,19 @@
 -- What a refused write and a refused command leave, and what a done collect fills in.
-use Prim.Native.Nat.{ℕ, _<_, _≤_}
-use mathlib.Core.Path.{_≡_, refl, sym, ap, ap₂, _∙_, subst}
-use mathlib.Core.Bool.{Bool, true, false, not, cond, _||_}
+use Prim.Native.Nat.{ℕ, _≤_}
+use mathlib.Core.Path.{_≡_, refl, sym, ap, _∙_, subst}
+use mathlib.Core.Bool.{Bool, true, false, _||_}
 use mathlib.Core.List.{List}
 use native.Mathlib.Omega.{arith}
 use native.Mathlib.Decide.{ℕ-discrete}
-use lib.Dec.{eqb}
 use lib.ListN.{length, getD, set, length-set}
 use lib.Seq.{getD-set-other}
 use Rattle.le.specs.Bytes.{Bytes}
-use Rattle.meaning.specs.Events.{horizon}
-use Rattle.machine.specs.Calls.{collecting}
-use Rattle.block.specs.Block.{blockLength, streamIn, commandAt, statusAt, flagsAt, flagsIn, valueIn, replyStampIn, bit, ended}
+use Rattle.block.specs.Block.{blockLength, streamIn, commandAt, statusAt, flagsAt, flagsIn, valueIn, replyStampIn, bit}
 use Rattle.block.proofs.Bits.{raised-one}
 use Rattle.block.proofs.Places.{ended-status, ended-other, ended-stamp, ended-value, command-stamp, command-value, filled-stamp, filled-value}
 use Rattle.calls.specs.Reply.{Reply, reply}
 use Rattle.calls.proofs.Answers.{reply-refused, collect-is-value, collect-is-stamp}
-use Rattle.registers.specs.Write.{Written, callIn, answered, waiting, commanded, refused, stored, write, starts}
+use Rattle.registers.specs.Write.{Written, callIn, answered, waiting, commanded, refused, write, starts}
 use Rattle.registers.specs.Laws.{Refusal, Collected, Laws}
 use Rattle.registers.proofs.Outputs.{waiting-is}
 use Rattle.registers.proofs.Commands.{reply-small, call-2, answered-refused, answered-done}
@@ -58,23 +55,24 @@ refused-leaves s b l = record {
   othersSame = λ d i c. ended-other 17 false b i;
 }
 
-command-leaves : (b : List ℕ) (x : ℕ) (r : Reply) → length b ≡ blockLength → r .number ≤ 15 → Leaves b (commanded b x r)
+command-leaves : (s b : List ℕ) (x : ℕ) → length b ≡ blockLength → Leaves b (commanded s b x)
 unfolding commanded
-command-leaves b x r l h = record {
-  status = λ d. ended-status (r .number) (waiting (r .buffer)) (set (answered x r b) commandAt x) (length-set (answered x r b) commandAt x ∙ answered-length x r b ∙ l);
-  sameBit = λ q. absurd (omega arith);
-  sameBytes = λ q. absurd (omega arith);
-  othersSame = λ d i c e f.
-      ended-other (r .number) (waiting (r .buffer)) (set (answered x r b) commandAt x) i e f
-      ∙ getD-set-other (answered x r b) commandAt i x 0 c
-      ∙ ap (λ (y : List ℕ). getD y i 0) (answered-refused b x r d);
-}
+command-leaves s b x l =
+    let r = reply (callIn b x) s in
+    let h = reply-small (callIn b x) s in
+    let a = answered x r b in
+    record {
+      status = λ d. ended-status (r .number) (waiting (r .buffer)) (set a commandAt x) (length-set a commandAt x ∙ answered-length x r b ∙ l);
+      sameBit = λ q. absurd (omega arith);
+      sameBytes = λ q. absurd (omega arith);
+      othersSame = λ d i c e f. ended-other (r .number) (waiting (r .buffer)) (set a commandAt x) i e f ∙ getD-set-other a commandAt i x 0 c ∙ ap (λ (y : List ℕ). getD y i 0) (answered-refused b x r d);
+    }
 
 leaves : (s b : List ℕ) (at x : ℕ) → length b ≡ blockLength → Leaves b (write s b at x)
 leaves s b at x l = go (way s b at x l)
   where
     go : Way s b at x → Leaves b (write s b at x)
-    go (was-command q d e) = subst (Leaves b) (sym e) (command-leaves b x (reply (callIn b x) s) l (reply-small (callIn b x) s))
+    go (was-command q d e) = subst (Leaves b) (sym e) (command-leaves s b x l)
     go (was-refused q d e) = subst (Leaves b) (sym e) (refused-leaves s b l)
     go (was-flags q d e) = done-leaves b (write s b at x) (ap (λ (y : Written). y .number) e)
     go (was-stored q d e) = done-leaves b (write s b at x) (ap (λ (y : Written). y .number) e)
@@ -101,7 +99,7 @@ refusal s b at x h = go (ℕ-discrete (length b) blockLength)
 
 -- ---- a done collect
 
-in-block : (s b : List ℕ) → Bytes s → length b ≡ blockLength → reply (callIn b 2) s .number ≡ 0 → Collected s b (commanded b 2 (reply (callIn b 2) s))
+in-block : (s b : List ℕ) → Bytes s → length b ≡ blockLength → reply (callIn b 2) s .number ≡ 0 → Collected s b (commanded s b 2)
 unfolding commanded
 in-block s b h l k =
     let r = reply (callIn b 2) s in

@@ -28,7 +28,7 @@ one-write s b at x = by (eqb (length b) blockLength) (eqb at commandAt) (isComma
     by : (p q r u v : Bool)
         → OneWrite (callIn b x) s (p && (q && r))
         (cond p
-        (cond q (cond r (commanded b x (reply (callIn b x) s)) (refused s b))
+        (cond q (cond r (commanded s b x) (refused s b))
         (cond u (stored s (set b flagsAt (cleared (flagsIn b) x))) (cond v (stored s (set b at x)) (refused s b))))
         (record { number = 17; block = b; state = s }))
     by false q r u v = stays (callIn b x) s (record { number = 17; block = b; state = s }) refl

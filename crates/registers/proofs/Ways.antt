@@ -1,19 +1,19 @@
 -- The four ways of a write to a block of 24 bytes.
-use Prim.Native.Nat.{ℕ, _<_, _≤_}
+use Prim.Native.Nat.{ℕ}
 use mathlib.Core.Path.{_≡_, refl, ap, ap₂, _∙_}
 use mathlib.Core.Bool.{Bool, true, false, _&&_}
 use mathlib.Core.List.{List}
 use native.Mathlib.Omega.{arith}
 use lib.Dec.{eqb, ltb}
 use lib.ListN.{length, set}
-use borrow.Author.Tests.{eqb-true, eqb-false, eq-eqb, ne-eqb, ltb-true, ltb-false}
+use borrow.Author.Tests.{eqb-true, eqb-false, eq-eqb, ltb-true, ltb-false}
 use Rattle.block.specs.Block.{blockLength, commandAt, flagsAt, maskAt, flagsIn, cleared}
 use Rattle.calls.specs.Reply.{reply}
 use Rattle.registers.specs.Write.{isCommand, callIn, commanded, refused, stored, write, starts}
 use Rattle.registers.proofs.Writes.{write-command, write-none, write-flags, write-low, write-mask, write-other}
 
 pub data Way (s b : List ℕ) (at x : ℕ) : Type 0 where
-  was-command : starts b at x ≡ true → (at ≡ flagsAt → ⊥) → write s b at x ≡ commanded b x (reply (callIn b x) s) → Way s b at x
+  was-command : starts b at x ≡ true → (at ≡ flagsAt → ⊥) → write s b at x ≡ commanded s b x → Way s b at x
   was-refused : starts b at x ≡ false → (at ≡ flagsAt → ⊥) → write s b at x ≡ refused s b → Way s b at x
   was-flags : starts b at x ≡ false → at ≡ flagsAt → write s b at x ≡ stored s (set b flagsAt (cleared (flagsIn b) x)) → Way s b at x
   was-stored : starts b at x ≡ false → (flagsAt ≡ at → ⊥) → write s b at x ≡ stored s (set b at x) → Way s b at x

@@ -32,7 +32,7 @@ module _ (s b : List ℕ) (at x : ℕ) where
     unfolding write
     write-in = rw (eq-eqb (length b) blockLength l)
 
-    pub write-command : at ≡ commandAt → isCommand x ≡ true → write s b at x ≡ commanded b x (reply (callIn b x) s)
+    pub write-command : at ≡ commandAt → isCommand x ≡ true → write s b at x ≡ commanded s b x
     write-command e c = write-in ∙ rw (eq-eqb at commandAt e, c)
 
     pub write-none : at ≡ commandAt → isCommand x ≡ false → write s b at x ≡ refused s b
@@ -53,7 +53,7 @@ module _ (s b : List ℕ) (at x : ℕ) where
     -- ---- as the code answers
 
     pub by-command : (k : ℕ) (b′ s′ : List ℕ) → at ≡ commandAt → isCommand x ≡ true → commands.Answers s b x k b′ s′ → Answers (write s b at x) k b′ s′
-    by-command k b′ s′ e c h = by-known (write s b at x) (commanded b x (reply (callIn b x) s)) (write-command e c) k b′ s′ h
+    by-command k b′ s′ e c h = by-known (write s b at x) (commanded s b x) (write-command e c) k b′ s′ h
 
     pub by-refused : (k : ℕ) (b′ : List ℕ) → write s b at x ≡ refused s b → k ≡ 17 → b′ ≡ ended 17 false b → Answers (write s b at x) k b′ s
     by-refused k b′ e ek eb = by-known (write s b at x) (refused s b) e k b′ s (ek, (eb, refl))

@@ -37,8 +37,10 @@ unfoldable pub waiting : List ℕ → Bool
 waiting s = any-below mostStreams (λ i. eqb (reply (collecting i) s .number) 0)
 
 -- "status takes the call's number, which the write returns too"
-unfoldable pub commanded : List ℕ → ℕ → Reply → Written
-commanded b x r = record { number = r .number; block = ended (r .number) (waiting (r .buffer)) (set (answered x r b) commandAt x); state = r .buffer }
+unfoldable pub commanded : List ℕ → List ℕ → ℕ → Written
+commanded s b x =
+    let r = reply (callIn b x) s in
+    record { number = r .number; block = ended (r .number) (waiting (r .buffer)) (set (answered x r b) commandAt x); state = r .buffer }
 
 -- ---- a write
 
@@ -52,7 +54,7 @@ stored s b = record { number = 0; block = b; state = s }
 
 abbrev pub writeIn : List ℕ → List ℕ → ℕ → ℕ → Written
 writeIn s b at x =
-    cond (eqb at commandAt) (cond (isCommand x) (commanded b x (reply (callIn b x) s)) (refused s b))
+    cond (eqb at commandAt) (cond (isCommand x) (commanded s b x) (refused s b))
     (cond (eqb at flagsAt) (stored s (set b flagsAt (cleared (flagsIn b) x)))
     (cond (ltb at commandAt || eqb at maskAt) (stored s (set b at x))
     (refused s b)))

@@ -71,9 +71,9 @@ fn perform(state: &mut [u8], n: usize, block: &mut [u8], command: u8) -> u32
 // Starts a command and ends it. The state is tested once.
 fn command(state: &mut [u8], block: &mut [u8], command: u8) -> u32
     requires { ⌜ length (now block) ≡ 24 ⌝ }
-    ensures number { λ r. ⌜ r ≡ commanded (now (block .entry)) command (reply (callIn (now (block .entry)) command) (now (state .entry))) .number ⌝ }
-    ensures block { λ _. ⌜ now (block .exit) ≡ commanded (now (block .entry)) command (reply (callIn (now (block .entry)) command) (now (state .entry))) .block ⌝ }
-    ensures state { λ _. ⌜ now (state .exit) ≡ commanded (now (block .entry)) command (reply (callIn (now (block .entry)) command) (now (state .entry))) .state ⌝ }
+    ensures number { λ r. ⌜ r ≡ commanded (now (state .entry)) (now (block .entry)) command .number ⌝ }
+    ensures block { λ _. ⌜ now (block .exit) ≡ commanded (now (state .entry)) (now (block .entry)) command .block ⌝ }
+    ensures state { λ _. ⌜ now (state .exit) ≡ commanded (now (state .entry)) (now (block .entry)) command .state ⌝ }
 {
     match valid::streams(state) {
         Tested::State(n) => {

@@ -33,7 +33,7 @@ use Rattle.histories.proofs.Whole.{rules-keep, seenBy, load-then}
 use Rattle.trace.specs.declared.Record.{Record}
 use Rattle.replaying.specs.Replay.{callOf, allMoves}
 use Rattle.replaying.specs.Session.{Replays, printedOf, Told}
-use Rattle.replaying.proofs.Bytes.{state-bytes}
+use Rattle.calls.proofs.Bytes.{state-bytes}
 use Rattle.replaying.proofs.Made.{Still, replays-made}
 
 module _ (text s : List ℕ) (done : loadReply text s .number ≡ 0) where

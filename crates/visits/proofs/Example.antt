@@ -46,7 +46,8 @@ use Rattle.replaying.specs.Replay.{Prints, start}
 use Rattle.replaying.specs.Session.{Replays, ends, goes, lineIn, printedOf, othersOf}
 use Rattle.replaying.specs.Whole.{Lines, none, more, end, Printed, refused, played}
 use Rattle.visits.specs.Example.{visits, trace, printed}
-use Rattle.replaying.proofs.Bytes.{Fine, state-bytes, reply-fine}
+use Rattle.calls.proofs.Bytes.{state-bytes}
+use Rattle.replaying.proofs.Bytes.{Fine, reply-fine}
 use Rattle.replaying.proofs.Outputs.{collect-output}
 use Rattle.replaying.proofs.Made.{buffer-append, printed-append, typed-append, Still, prints-made}
 use Rattle.replaying.proofs.Told.{plan, still-rest}

@@ -1,6 +1,5 @@
 -- `block::with_flags` meets its contract.
-use Rattle.block.proofs.Flags.{weight-most}
-use Rattle.block.specs.Block.{withFlags}
+use Rattle.block.proofs.Flags.{flags-are, weight-most}
 use borrow.Author.Needs.{needs}
 use native.Mathlib.Omega.{arith}
 use Rattle.block.proofs.with_flags.Statement.{statement}
@@ -22,8 +21,7 @@ add-result-2 : tie.Need-add-result-2
 add-result-2 c = omega (arith, weight-most (c .before .before .args .one) 2, weight-most (c .before .before .args .zero) 1)
 
 returns : tie.Need-returns
-unfolding withFlags
-returns c = search needs
+returns c = let a = c .before .before .args in flags-are (a .f) (c .before .weight .result) (c .weight2 .result) (a .zero) (a .one) (c .before .weight .ensures) (c .weight2 .ensures)
 
 pub with-flags-spec : {M : Type 1} → statement M
 with-flags-spec =
