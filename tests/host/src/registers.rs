@@ -1,7 +1,8 @@
 //! The reader board's block of 24 bytes, from document 02's Q-4: what a write to it does, over anything that answers the calls, and
 //! when its line is up. A second implementation: the block is read as numbers, and written from them.
 
-use crate::engine::{Answer, Call, Engine, BLOCK_LENGTH};
+use crate::buffer::Lent;
+use crate::engine::{engines, Answer, Call, Engine, BLOCK_LENGTH};
 use crate::found::Found;
 use crate::layout;
 use crate::model::Model;
@@ -191,7 +192,7 @@ impl Calls for Option<Found> {
     }
 }
 
-/// An engine's direct calls on a state of its own. An output waits if one could be collected.
+/// An engine's direct calls on a state of its own. An output waits if one that holds anything could be collected.
 #[derive(Clone)]
 pub struct Direct {
     pub engine: Engine,
@@ -213,7 +214,28 @@ impl Calls for Direct {
         answer
     }
     fn waits(&self) -> bool {
-        let outputs = (0..self.state.len() / layout::RECORD).filter(|&s| layout::is_output(&self.state, s));
+        let holds = |s: &usize| layout::is_output(&self.state, *s) && !layout::held(&self.state, *s).is_empty();
+        let outputs = (0..self.state.len() / layout::RECORD).filter(holds);
         outputs.map(|s| Call::Collect(s as u32)).any(|collect| self.engine.call(&mut self.state.clone(), collect).number == 0)
+    }
+}
+
+/// A reader board: one engine with a state and a block of its own, each lent at exactly its length.
+pub struct Reader {
+    pub engine: Engine,
+    pub state: Lent,
+    pub block: Lent,
+}
+
+/// A board for each engine, with the same bytes.
+pub fn readers(state: &[u8], block: &[u8]) -> Vec<Reader> {
+    engines().map(|engine| Reader { engine, state: Lent::of(state), block: Lent::of(block) }).into()
+}
+
+impl Reader {
+    pub fn write(&mut self, at: u32, byte: u8) -> u32 {
+        let number = self.engine.write(&mut self.state, &mut self.block, at, byte);
+        assert!(self.state.untouched() && self.block.untouched(), "{}: written outside", self.engine.name);
+        number
     }
 }
