@@ -23,13 +23,12 @@ use Rattle.runs.proofs.Claimed.{shape, known-is}
 use Rattle.operators.specs.Limits.{capacity}
 use Rattle.operators.proofs.Sizes.{capacity-few}
 use Rattle.plan.specs.Rules.{declared}
-use Rattle.calls.specs.Reply.{Reply}
-use Rattle.engine.specs.Reply.{reply}
+use Rattle.calls.specs.Reply.{Reply, reply, leftBy}
 use Rattle.engine.specs.Load.{loadReply}
-use Rattle.engine.specs.Demands.{seenIn, leftBy}
-use Rattle.engine.specs.Inside.{Inside}
+use Rattle.histories.specs.Demands.{seenIn}
+use Rattle.histories.specs.Inside.{Inside}
 use Rattle.engine.proofs.Loads.{load-length}
-use Rattle.engine.proofs.Whole.{rules-keep, seenBy, load-then}
+use Rattle.histories.proofs.Whole.{rules-keep, seenBy, load-then}
 use Rattle.trace.specs.declared.Record.{Record}
 use Rattle.trace.specs.declared.Record.the-variants.{Reading, Progress}
 use Rattle.replaying.specs.declared.Place.the-variants.{Rest}

@@ -22,9 +22,8 @@ use Rattle.valid.specs.Valid.{valid}
 use Rattle.roundtrip.specs.In.{stateIn}
 use Rattle.roundtrip.proofs.Whole.{valid-sound}
 use Rattle.preserve.proofs.Calls.{call-sound}
-use Rattle.calls.specs.Reply.{Reply}
-use Rattle.engine.specs.Reply.{reply}
-use Rattle.engine.proofs.Replies.{reply-outcome, reply-none, reply-machine, reply-refused}
+use Rattle.calls.specs.Reply.{Reply, reply}
+use Rattle.calls.proofs.Answers.{reply-outcome, reply-none, reply-machine, reply-refused}
 
 -- ## The bytes of a state
 

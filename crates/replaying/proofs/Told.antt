@@ -26,10 +26,9 @@ use Rattle.operators.specs.Limits.{capacity}
 use Rattle.operators.proofs.Sizes.{capacity-few}
 use Rattle.plan.specs.Rules.{declared}
 use Rattle.engine.specs.Load.{loadReply}
-use Rattle.engine.specs.Demands.{leftBy}
-use Rattle.engine.specs.Inside.{Inside}
+use Rattle.histories.specs.Inside.{Inside}
 use Rattle.engine.proofs.Loads.{load-length}
-use Rattle.engine.proofs.Whole.{rules-keep, seenBy, load-then}
+use Rattle.histories.proofs.Whole.{rules-keep, seenBy, load-then}
 use Rattle.trace.specs.declared.Record.{Record}
 use Rattle.replaying.specs.Replay.{callOf, allMoves}
 use Rattle.replaying.specs.Session.{Replays, printedOf, Told}

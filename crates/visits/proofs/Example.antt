@@ -31,13 +31,12 @@ use Rattle.runs.specs.Claim.{seen, nextNumber, readings}
 use Rattle.runs.proofs.Numbers.{reading-number}
 use Rattle.runs.proofs.World.{Shape}
 use Rattle.runs.proofs.Claimed.{shape, known-is}
-use Rattle.calls.specs.Reply.{Reply}
-use Rattle.engine.specs.Reply.{reply}
+use Rattle.calls.specs.Reply.{Reply, reply, leftBy}
 use Rattle.engine.specs.Load.{loadReply}
-use Rattle.engine.specs.Demands.{seenIn, leftBy}
-use Rattle.engine.specs.Inside.{Inside}
+use Rattle.histories.specs.Demands.{seenIn}
+use Rattle.histories.specs.Inside.{Inside}
 use Rattle.engine.proofs.Loads.{load-length}
-use Rattle.engine.proofs.Whole.{rules-keep, seenBy, load-then}
+use Rattle.histories.proofs.Whole.{rules-keep, seenBy, load-then}
 use Rattle.decimal.specs.Decimal.{digits}
 use Rattle.trace.specs.declared.Record.the-variants.{Reading}
 use Rattle.trace.specs.Trace.{valueAfter, stampAfter, boundAfter, inputAfter, line}

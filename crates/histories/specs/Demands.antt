@@ -22,9 +22,8 @@ use Rattle.operators.specs.Limits.{capacity}
 use Rattle.render.specs.Render.{render}
 use Rattle.plan.specs.Rules.{declared}
 use Rattle.plan.specs.Taken.{KeepsRules}
-use Rattle.calls.specs.Reply.{Reply}
-use Rattle.engine.specs.Reply.{reply}
+use Rattle.calls.specs.Reply.{Reply, reply, leftBy}
 use Rattle.engine.specs.Load.{loadReply}
 
 -- ## Demand 1: "a bad one gets its number from document 01, and the lent buffers stay as they came"
 
@@ -105,11 +104,6 @@ AllTypedActs [] = Unit {0}
 AllTypedActs (a ∷ acts) = TypedAct a × AllTypedActs acts
 
 -- ## Demands 2 and 3 of the list x and the bytes b that it left
-
--- the bytes after some calls more
-unfoldable pub leftBy : List ℕ → List Call → List ℕ
-leftBy s [] = s
-leftBy s (c ∷ cs) = leftBy (reply c s .buffer) cs
 
 -- some runs and collections more end at rest, so that what holds at rest is not empty
 pub record RestAhead (ds : List Declared) (b : List ℕ) : Type 0 where

@@ -18,9 +18,8 @@ use Rattle.valid.specs.Valid.{count, valid}
 use Rattle.roundtrip.specs.In.{stateIn}
 use Rattle.roundtrip.proofs.Whole.{valid-sound, bytes-valid, bytes-length}
 use Rattle.roundtrip.proofs.In.{bytes-in}
-use Rattle.calls.specs.Reply.{Reply, plain, replyOf, replyIn}
+use Rattle.calls.specs.Reply.{Reply, plain, replyOf, replyIn, notState, reply}
 use Rattle.calls.proofs.Replies.{reply-of, refused-reply, collect-done}
-use Rattle.engine.specs.Reply.{notState, reply}
 
 -- on a state the answer is that of the state
 pub reply-state : (c : Call) (s : List ℕ) → valid s ≡ true → reply c s ≡ replyIn c s

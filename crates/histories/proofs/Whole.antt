@@ -28,14 +28,13 @@ use Rattle.plan.specs.Taken.{KeepsRules}
 use Rattle.plan.proofs.Taken.{taken-rendered}
 use Rattle.plan.proofs.Rendered.{arguments-at}
 use Rattle.load.proofs.Fresh.{loaded-sound}
-use Rattle.calls.specs.Reply.{Reply, replyOf}
+use Rattle.calls.specs.Reply.{Reply, replyOf, reply, leftBy}
 use Rattle.calls.proofs.Replies.{call-15}
-use Rattle.engine.specs.Reply.{reply}
 use Rattle.engine.specs.Load.{loadReply}
-use Rattle.engine.specs.Demands.{Act, load, make, putBack, Course, Point, seenIn, courseOfCall, acted, pointFrom, pointAfter, TypedAct, AllTypedActs, leftBy, RestAhead, Demands, DemandsAt}
-use Rattle.engine.specs.Inside.{callsOf, Inside, InsideAt}
-use Rattle.engine.proofs.Replies.{reply-machine}
+use Rattle.histories.specs.Demands.{Act, load, make, putBack, Course, Point, seenIn, courseOfCall, acted, pointFrom, pointAfter, TypedAct, AllTypedActs, RestAhead, Demands, DemandsAt}
+use Rattle.histories.specs.Inside.{callsOf, Inside, InsideAt}
+use Rattle.calls.proofs.Answers.{reply-machine}
 use Rattle.engine.proofs.Loads.{load-done, load-refused}
 
 -- ---- a plan that keeps the written rules is one that the theorem on runs speaks of
 

@@ -12,9 +12,8 @@ use Rattle.runs.specs.Claim.{final, Claim}
 use Rattle.operators.specs.Limits.{capacity}
 use Rattle.encoding.specs.View.{bytesOf}
 use Rattle.plan.specs.Taken.{KeepsRules}
-use Rattle.calls.specs.Reply.{replyOf}
-use Rattle.engine.specs.Reply.{reply}
-use Rattle.engine.specs.Demands.{Course}
+use Rattle.calls.specs.Reply.{replyOf, reply}
+use Rattle.histories.specs.Demands.{Course}
 
 -- the calls of a list
 abbrev pub callsOf : List Seen → List Call

@@ -4,9 +4,8 @@ use mathlib.Core.Path.{_≡_}
 use mathlib.Core.List.{List, []}
 use lib.ListN.{length, getD, replicate}
 use Rattle.machine.specs.Calls.{Call, reading, progress, moving, running, collecting}
-use Rattle.calls.specs.Reply.{plain}
-use Rattle.engine.specs.Reply.{notState, reply}
+use Rattle.calls.specs.Reply.{plain, notState, reply}
 use Rattle.engine.specs.Load.{loadReply}
 
 -- so many bytes, each 0
 abbrev pub zeros : ℕ → List ℕ

@@ -19,12 +19,11 @@ use Rattle.roundtrip.proofs.Empty.{none-sound, none-bytes, zeros-alone}
 use Rattle.roundtrip.proofs.Whole.{bytes-count}
 use Rattle.load.proofs.Taken.{many}
 use Rattle.load.proofs.Fresh.{loaded-sound}
-use Rattle.calls.specs.Reply.{Reply, plain, replyOf}
-use Rattle.engine.specs.Reply.{notState, reply}
+use Rattle.calls.specs.Reply.{Reply, plain, replyOf, notState, reply}
 use Rattle.engine.specs.Load.{loadReply}
-use Rattle.engine.specs.NoPlan.{zeros, answer, NoPlan}
-use Rattle.engine.proofs.Replies.{reply-machine, reply-none}
+use Rattle.histories.specs.NoPlan.{zeros, answer, NoPlan}
+use Rattle.calls.proofs.Answers.{reply-machine, reply-none}
 use Rattle.engine.proofs.Loads.{load-done}
 
 stopped : (b : Bool) (n : ℕ) (o : Outcome) → b ≡ true → unless b n [] o ≡ refused n []
 stopped true n o e = refl

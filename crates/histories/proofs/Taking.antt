@@ -8,8 +8,8 @@ use Rattle.operators.specs.Limits.{capacity}
 use Rattle.operators.proofs.Sizes.{capacity-few}
 use Rattle.plan.specs.Rules.{number}
 use Rattle.plan.proofs.Taken.{taken-exactly}
 use Rattle.engine.specs.Load.{loadReply}
-use Rattle.engine.specs.Demands.{Taking}
+use Rattle.histories.specs.Demands.{Taking}
 
 -- the number of a load is that of its text, if the buffer has room for streams
 number-of : (text s : List ℕ) → 0 < capacity (length s) → loadReply text s .number ≡ number (capacity (length s)) text

@@ -1,0 +1,4 @@
+pub mod Refused
+pub mod Taking
+pub mod Whole
+pub mod NoPlan
