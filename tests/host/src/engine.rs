@@ -137,15 +137,16 @@ impl Engine {
 
     /// One byte written to the block, and the number that comes back.
     pub fn write(&self, state: &mut [u8], block: &mut [u8], at: u32, byte: u8) -> u32 {
-        let length = block.len() as u64;
-        self.write_claiming(state, block, length, at, byte)
+        let lengths = (state.len() as u64, block.len() as u64);
+        self.write_claiming(state, block, lengths, at, byte)
     }
 
-    /// The same with another length said of the block, where nothing behind the pointer may be touched.
-    pub fn write_claiming(&self, state: &mut [u8], block: &mut [u8], length: u64, at: u32, byte: u8) -> u32 {
-        assert!(length == block.len() as u64 || length != BLOCK_LENGTH as u64);
-        // SAFETY: both slices are borrowed for writing and do not overlap; a length that is not the block's own is refused.
-        unsafe { (self.register_write)(state.as_mut_ptr(), state.len() as u64, block.as_mut_ptr(), length, at, byte) }
+    /// The same with other lengths said of state and block: nothing behind such a pointer may be touched.
+    pub fn write_claiming(&self, state: &mut [u8], block: &mut [u8], lengths: (u64, u64), at: u32, byte: u8) -> u32 {
+        let own = |said: u64, slice: &[u8], right: usize| said == slice.len() as u64 || said != right as u64;
+        assert!(own(lengths.0, state, STATE_LENGTH) && own(lengths.1, block, BLOCK_LENGTH));
+        // SAFETY: both slices are borrowed for writing and do not overlap; a length that is not a slice's own is refused.
+        unsafe { (self.register_write)(state.as_mut_ptr(), lengths.0, block.as_mut_ptr(), lengths.1, at, byte) }
     }
 
     /// The number, and whether the line is up.

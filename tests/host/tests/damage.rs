@@ -259,7 +259,7 @@ fn ahead(random: &mut Random, state: &mut [u8], streams: usize) {
 /// A block of any contents, and a write to it: mostly the command of a call whose numbers it holds, now and then damaged after
 /// they were written, or of another length.
 fn damaged_block(random: &mut Random, call: Call) -> (Vec<u8>, u32, u8) {
-    let mut block: Vec<u8> = (0..BLOCK_LENGTH).map(|_| random.next() as u8).collect();
+    let mut block = random.bytes(BLOCK_LENGTH);
     let mut acts = writes(&block, call).unwrap_or(vec![any_write(random)]);
     if random.chance(10) {
         acts.push(any_write(random));
