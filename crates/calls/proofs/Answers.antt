@@ -1,5 +1,5 @@
 -- The answer of a call on bytes: what is tested first, the machine's outcome, and what a refused call leaves.
-use Prim.Native.Nat.{ℕ}
+use Prim.Native.Nat.{ℕ, _<_}
 use mathlib.Core.Path.{_≡_, refl, sym, ap, ap₂, _∙_}
 use mathlib.Core.Bool.{Bool, true, false}
 use mathlib.Core.Option.{some}
@@ -7,6 +7,7 @@ use mathlib.Core.List.{List}
 use native.Mathlib.Decide.{ℕ-discrete}
 use lib.Dec.{lit<}
 use lib.ListN.{length}
+use Rattle.meaning.specs.Events.{horizon}
 use Rattle.machine.specs.State.{State}
 use Rattle.machine.specs.Calls.{Call, running, collecting, handOut, collect, call}
 use Rattle.machine.proofs.Outcomes.{run-number}
@@ -60,17 +61,23 @@ refused-plain c s b = go (valid s) refl
 pub reply-refused : (c : Call) (s : List ℕ) → Bytes s → (reply c s .number ≡ 0 → ⊥) → reply c s .buffer ≡ s
 reply-refused c s b z = ap (λ (y : Reply). y .buffer) (refused-plain c s b z)
 
--- what is handed out is a value
-pub collect-is-value : (s : List ℕ) → Bytes s → (i : ℕ) → IsValue (reply (collecting i) s .value)
-collect-is-value s b i = go (valid s) refl
+-- what is handed out is an event's stamp and value
+handed-event : (s : List ℕ) → Bytes s → (i : ℕ) → (reply (collecting i) s .stamp < horizon) × IsValue (reply (collecting i) s .value)
+handed-event s b i = go (valid s) refl
   where
-    handed : valid s ≡ true → Dec (collect i (stateIn s) .number ≡ 0) → IsValue (reply (collecting i) s .value)
+    handed : valid s ≡ true → Dec (collect i (stateIn s) .number ≡ 0) → (reply (collecting i) s .stamp < horizon) × IsValue (reply (collecting i) s .value)
     handed v (yes e) =
         let d = collect-done i (stateIn s) (valid-sound s b v) e in
         let o : call (collecting i) (stateIn s) ≡ handOut (some (d .event)) i (stateIn s) = unfold call in d .outcome in
-        rw (reply-state (collecting i) s v, reply-of (collecting i) s (handOut (some (d .event)) i (stateIn s)) o) (d .value)
-    handed v (no z) = rw (refused-plain (collecting i) s b (rw (reply-state (collecting i) s v) (unfold replyIn call in z))) (lit< tt)
+        rw (reply-state (collecting i) s v, reply-of (collecting i) s (handOut (some (d .event)) i (stateIn s)) o) (d .stamp, d .value)
+    handed v (no z) = rw (refused-plain (collecting i) s b (rw (reply-state (collecting i) s v) (unfold replyIn call in z))) (lit< tt, lit< tt)
 
-    go : (p : Bool) → valid s ≡ p → IsValue (reply (collecting i) s .value)
+    go : (p : Bool) → valid s ≡ p → (reply (collecting i) s .stamp < horizon) × IsValue (reply (collecting i) s .value)
     go true v = handed v (ℕ-discrete (collect i (stateIn s) .number) 0)
-    go false v = rw (reply-none (collecting i) s v) (lit< tt)
+    go false v = rw (reply-none (collecting i) s v) (lit< tt, lit< tt)
+
+pub collect-is-stamp : (s : List ℕ) → Bytes s → (i : ℕ) → reply (collecting i) s .stamp < horizon
+collect-is-stamp s b i = handed-event s b i .0
+
+pub collect-is-value : (s : List ℕ) → Bytes s → (i : ℕ) → IsValue (reply (collecting i) s .value)
+collect-is-value s b i = handed-event s b i .1

@@ -17,10 +17,10 @@ use Rattle.block.specs.Block.{streamIn, stampIn, valueIn, commandAt, filled, en
 use Rattle.encoding.specs.Sound.{IsValue}
 use Rattle.valid.specs.Valid.{valid}
 use Rattle.roundtrip.specs.In.{stateIn, IsState}
-use Rattle.calls.specs.Reply.{Reply, plain, replyIn, notState, reply}
+use Rattle.calls.specs.Reply.{Reply, replyIn, reply}
 use Rattle.calls.proofs.Replies.{Ended, was-refused, was-done, call-ended}
 use Rattle.calls.proofs.Answers.{reply-state, reply-none, collect-is-value}
-use Rattle.registers.specs.Write.{Written, isCommand, callIn, answered, waiting, commanded}
+use Rattle.registers.specs.Write.{isCommand, callIn, answered, waiting, commanded}
 use Rattle.registers.proofs.Outputs.{waiting-none}
 
 -- ---- every number fits a byte

@@ -5,13 +5,13 @@ use mathlib.Core.Logic.{_↔_}
 use mathlib.Core.Bool.{Bool, true, false}
 use mathlib.Core.List.{List}
 use native.Mathlib.Omega.{arith}
-use lib.Dec.{T, eqb}
+use lib.Dec.{eqb}
 use lib.ListN.{length}
 use borrow.Author.Tests.{eqb-true, eqb-false, eq-eqb}
 use Rattle.meaning.proofs.Firing.{any-hit, any-put}
 use Rattle.meaning.proofs.Tests.{is-true, true-is}
 use Rattle.machine.specs.Calls.{collecting, collect, call}
-use Rattle.operators.specs.Limits.{mostStreams, capacity}
+use Rattle.operators.specs.Limits.{mostStreams}
 use Rattle.operators.proofs.Sizes.{capacity-few}
 use Rattle.le.specs.Bytes.{Bytes}
 use Rattle.layout.specs.Record.{decode}

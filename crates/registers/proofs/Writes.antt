@@ -1,14 +1,13 @@
 -- The answers of a write, case by case.
 use Prim.Native.Nat.{ℕ, _<_, _≤_}
 use mathlib.Core.Path.{_≡_, refl, sym, ap, _∙_}
-use mathlib.Core.Bool.{Bool, true, false, cond, _||_}
+use mathlib.Core.Bool.{true, false}
 use mathlib.Core.List.{List}
 use native.Mathlib.Omega.{arith}
-use lib.Dec.{eqb, ltb}
 use lib.ListN.{length, set}
 use borrow.Author.Tests.{eq-eqb, ne-eqb, lt-ltb, le-ltb}
 use Rattle.block.specs.Block.{blockLength, commandAt, flagsAt, maskAt, flagsIn, cleared, ended}
-use Rattle.calls.specs.Reply.{Reply, reply}
+use Rattle.calls.specs.Reply.{reply}
 use Rattle.registers.specs.Write.{Written, isCommand, callIn, commanded, refused, stored, writeIn, write}
 use Rattle.registers.proofs.Commands as commands
 

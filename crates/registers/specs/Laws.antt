@@ -2,13 +2,13 @@
 use Prim.Native.Nat.{ℕ, _≤_, _<_}
 use mathlib.Core.Path.{_≡_}
 use mathlib.Core.Logic.{_↔_}
-use mathlib.Core.Bool.{Bool, true, false}
+use mathlib.Core.Bool.{true, false}
 use mathlib.Core.List.{List}
 use lib.ListN.{length, getD}
 use Rattle.le.specs.Bytes.{Bytes}
 use Rattle.machine.specs.Calls.{collecting}
 use Rattle.block.specs.Block.{blockLength, commandAt, statusAt, flagsAt, flagsIn, valueIn, replyStampIn, bit}
-use Rattle.calls.specs.Reply.{Reply, reply}
+use Rattle.calls.specs.Reply.{reply}
 use Rattle.registers.specs.Write.{Written, callIn, waiting, write, starts}
 
 -- some stream has an event to be collected

@@ -1,7 +1,6 @@
 -- Believe: what the write of one byte to the reader board's block does: the number that it returns, the block and the state that
 -- it leaves.
 use Prim.Native.Nat.{ℕ}
-use mathlib.Core.Path.{_≡_}
 use mathlib.Core.Bool.{Bool, false, cond, _&&_, _||_}
 use mathlib.Core.List.{List}
 use lib.Dec.{eqb, ltb, leb}

@@ -28,6 +28,7 @@ use Rattle.plan.specs.Rules.{declared}
 use Rattle.engine.specs.Load.{loadReply}
 use Rattle.histories.specs.Inside.{Inside}
 use Rattle.engine.proofs.Loads.{load-length}
+use Rattle.calls.specs.Reply.{leftBy}
 use Rattle.histories.proofs.Whole.{rules-keep, seenBy, load-then}
 use Rattle.trace.specs.declared.Record.{Record}
 use Rattle.replaying.specs.Replay.{callOf, allMoves}
