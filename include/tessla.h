@@ -25,7 +25,7 @@
  * plan. A plan may be loaded at any time, over whatever is there; so may no plan, and that ends the one that runs, with all it
  * holds. So do not load the nothing that a card gives which could not be read.
  *
- * What a logger does with the calls; examples/logger.c does all of it:
+ * What a logger does with the calls; examples/logger.c does all of it, but for the registers:
  *
  * Progress. An output is known only as far as the inputs that it is worked out from, and an input holds 16 readings that
  * somebody waits for. So every sensor needs offers of progress, on a schedule, and a silent or dead one above all: without
@@ -242,13 +242,14 @@ uint32_t tessla_register_write(uint8_t *state, uint64_t state_length, uint8_t *b
  * The line of a block. Number: 17, the block is not 24 bytes long. Done: *up is 1 if bit 0 is set in both byte 18 and byte 19, or
  * bit 1 is; else 0. The other bits of both do not count. The block stays as it is.
  *
- * Interrupt use. The line is a level: it is up as long as a flag and its mask bit are set, however often the flag was set. Only a
- * write changes it, so look after each write, and let the pin follow. When it is up: read byte 18; write what was read to byte
- * 18, which clears these flags and no other; then do what they ask, for bit 0 look at the status, for bit 1 collect; then look at
- * the line again, as long as it is up. Clear first and collect then: a collect sets bit 1 again if more waits, and a later
- * clearing would lose that. Between reading and clearing no flag can be set, since only a write sets one, and no write may
- * interrupt a write on the same block or the same state: let interrupts put what they have into a queue, and the main loop write
- * it. Who waits for an edge has to look at the level before he sleeps: a flag that is set again while the line is up makes none.
+ * Interrupt use. The line is a level: it is up as long as a flag and its mask bit are both set, however often the flag was set.
+ * Only a write changes it, so look after each write, and let the pin follow. When it is up: read byte 18; write what was read to
+ * byte 18, which clears these flags and no other; then do what they ask, for bit 0 look at the status, for bit 1 collect; and
+ * again, as long as the line is up. Clear first and collect then: a collect sets bit 1 again if more waits, and a later clearing
+ * would lose that. A clearing is a write like any other, and no write may interrupt a write on the same block or the same state.
+ * So let interrupts put what they have into a queue, and the main loop make all writes: since only a write sets a flag, none is
+ * set between the reading and the clearing. Who waits for an edge has to look at the level before he sleeps: a flag that is set
+ * again while the line is up makes no edge.
  */
 uint32_t tessla_register_line(const uint8_t *block, uint64_t block_length, uint32_t *up);
 
@@ -282,8 +283,11 @@ static inline uint32_t tessla_used_length(const uint8_t *state) {
  */
 static inline uint64_t tessla_bounds(const uint8_t *state) {
     uint64_t sum = 0;
-    for (uint32_t stream = 0; stream < TESSLA_STREAM_LIMIT; stream++)
-        for (uint32_t i = 0; i < 8; i++) sum += (uint64_t)state[stream * TESSLA_RECORD + 16 + i] << 8 * i;
+    for (uint32_t stream = 0; stream < TESSLA_STREAM_LIMIT; stream++) {
+        uint64_t bound = 0;
+        for (uint32_t end = 24; end > 16; end--) bound = bound << 8 | state[stream * TESSLA_RECORD + end - 1];
+        sum += bound;
+    }
     return sum;
 }
 

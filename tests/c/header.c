@@ -108,10 +108,11 @@ static void look_at_places(void) {
     expect(write(TESSLA_AT_FLAGS, TESSLA_FLAG_REFUSED) == TESSLA_DONE, "a write to the flags", 0);
     expect(block[TESSLA_AT_FLAGS] == TESSLA_FLAG_WAITS, "the one flag cleared", 0);
     write_number(TESSLA_AT_STREAM, 4, 1);
+    write_number(TESSLA_AT_STAMP, 4, 7); /* which a collect neither looks at nor changes */
     command_is(TESSLA_COMMAND_COLLECT, TESSLA_DONE, TESSLA_FLAG_WAITS);
     /* refused, it leaves them; the second flag is not set, now that nothing waits */
     for (int turn = 0; turn < 2; turn++) {
-        expect(number_at(TESSLA_AT_STREAM, 4) == 1 && number_at(TESSLA_AT_STAMP, 4) == stamp, "stream and stamp", 0);
+        expect(number_at(TESSLA_AT_STREAM, 4) == 1 && number_at(TESSLA_AT_STAMP, 4) == 7, "stream and stamp", 0);
         expect(number_at(TESSLA_AT_REPLY, 4) == stamp, "the reply stamp", 0);
         expect((int64_t)number_at(TESSLA_AT_VALUE, 8) == -value, "the value", 0);
         expect(write(TESSLA_AT_FLAGS, both) == TESSLA_DONE && block[TESSLA_AT_FLAGS] == 0, "both flags cleared", 0);
