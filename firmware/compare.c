@@ -521,7 +521,9 @@ static void worked_blocks(void) {
     line();
     show();
 
-    begin_block("no state", 0);
+    begin_block("no state, though an output would wait", 0);
+    reading(0, 3, 1);
+    run(99);
     state[LENGTH - 1] = 1;
     write(5, 7);
     write(19, 3);
@@ -541,6 +543,19 @@ static void worked_blocks(void) {
     write(0, 0);
     command(3);
     write(18, 1);
+    show();
+
+    begin_block("collected, and held for another", 0);
+    rows[0] = rows[2] = (struct row){ .op = IN };
+    rows[1] = (struct row){ .op = NEG, .out = 1 };
+    rows[3] = (struct row){ .op = ADD, .a = 1, .b = 2 };
+    load_rows(4);
+    reading(0, 3, 7);
+    run(9);
+    write(0, 1);
+    command(2);
+    show();
+    command(3);
     show();
 
     begin_block("other lengths", 0);
