@@ -97,11 +97,11 @@ pub fn write(state: &mut [u8], block: &mut [u8], at: u32, byte: u8) -> u32
     if block.len() != block::LENGTH {
         return block::REFUSED;
     }
-    if at < 16 {
-        block::store(block, at, byte);
-        return 0;
-    }
     match at {
+        0..=15 => {
+            block::store(block, at, byte);
+            0
+        }
         16 => match byte {
             1..=3 => command(state, block, byte),
             _ => block::refuse(block),
