@@ -252,8 +252,8 @@ kept-demands x b cs k =
 history-kept : (acts : List Act) → AllTypedActs acts → (s : List ℕ) → KeptAt (pointAfter acts s)
 history-kept acts t s = kept-all acts [] (record { bytes = s; course = none }) t tt tt
 
--- Whatever loads, calls and register writes are made on a lent buffer and whatever copies are put back, whatever it held before: demands 2 and
--- 3 hold of the list since the last load that was done, by what was returned alone.
+-- Whatever loads, calls and register writes are made on a lent buffer and whatever copies are put back, whatever it held before:
+-- demands 2 and 3 hold of the list since the last load that was done, by what was returned alone.
 pub demands-hold : (acts : List Act) → AllTypedActs acts → (s : List ℕ) → DemandsAt (pointAfter acts s .course) (pointAfter acts s .bytes)
 demands-hold acts t s = go (pointAfter acts s .course) (history-kept acts t s)
   where

@@ -1,6 +1,7 @@
 -- Believe: the page to read, demands 1 to 3 of any history of a lent buffer, told by what the exported calls return
--- (`loadReply`, `reply`, `write` and `line`, to which each is promised equal). It is read with the meaning of a plan (crates/meaning: Plan,
--- Events, Table), with what a caller sees and demand 3 itself (crates/runs: Seen, Demand3), and without machine or layout.
+-- (`loadReply`, `reply`, `write` and `line`, to which each is promised equal). It is read with the meaning of a plan
+-- (crates/meaning: Plan, Events, Table), with what a caller sees and demand 3 itself (crates/runs: Seen, Demand3), with the
+-- registers where they are written to (crates/block, crates/registers), and without machine or layout.
 use Prim.Native.Nat.{ℕ, _<_}
 use mathlib.Core.Path.{_≡_}
 use mathlib.Core.Logic.{_↔_}

@@ -5,3 +5,4 @@ pub mod Sequence
 pub mod Ways
 pub mod Flags
 pub mod Refusals
+pub mod CasesHold

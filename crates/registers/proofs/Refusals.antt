@@ -1,5 +1,5 @@
 -- What a refused write and a refused command leave, and what a done collect fills in.
-use Prim.Native.Nat.{ℕ, _≤_}
+use Prim.Native.Nat.{ℕ}
 use mathlib.Core.Path.{_≡_, refl, sym, ap, _∙_, subst}
 use mathlib.Core.Bool.{Bool, true, false, _||_}
 use mathlib.Core.List.{List}
@@ -11,7 +11,7 @@ use Rattle.le.specs.Bytes.{Bytes}
 use Rattle.block.specs.Block.{blockLength, streamIn, commandAt, statusAt, flagsAt, flagsIn, valueIn, replyStampIn, bit}
 use Rattle.block.proofs.Bits.{raised-one}
 use Rattle.block.proofs.Places.{ended-status, ended-other, ended-stamp, ended-value, command-stamp, command-value, filled-stamp, filled-value}
-use Rattle.calls.specs.Reply.{Reply, reply}
+use Rattle.calls.specs.Reply.{reply}
 use Rattle.calls.proofs.Answers.{reply-refused, collect-is-value, collect-is-stamp}
 use Rattle.registers.specs.Write.{Written, callIn, answered, waiting, commanded, refused, write, starts}
 use Rattle.registers.specs.Laws.{Refusal, Collected, Laws}

@@ -8,8 +8,7 @@ use lib.Dec.{eqb, ltb}
 use lib.ListN.{length, set}
 use borrow.Author.Tests.{eqb-true, eqb-false, eq-eqb, ltb-true, ltb-false}
 use Rattle.block.specs.Block.{blockLength, commandAt, flagsAt, maskAt, flagsIn, cleared}
-use Rattle.calls.specs.Reply.{reply}
-use Rattle.registers.specs.Write.{isCommand, callIn, commanded, refused, stored, write, starts}
+use Rattle.registers.specs.Write.{isCommand, commanded, refused, stored, write, starts}
 use Rattle.registers.proofs.Writes.{write-command, write-none, write-flags, write-low, write-mask, write-other}
 
 pub data Way (s b : List ℕ) (at x : ℕ) : Type 0 where

@@ -7,8 +7,7 @@ use native.Mathlib.Omega.{arith}
 use lib.ListN.{length, set}
 use borrow.Author.Tests.{eq-eqb, ne-eqb, lt-ltb, le-ltb}
 use Rattle.block.specs.Block.{blockLength, commandAt, flagsAt, maskAt, flagsIn, cleared, ended}
-use Rattle.calls.specs.Reply.{reply}
-use Rattle.registers.specs.Write.{Written, isCommand, callIn, commanded, refused, stored, writeIn, write}
+use Rattle.registers.specs.Write.{Written, isCommand, commanded, refused, stored, writeIn, write}
 use Rattle.registers.proofs.Commands as commands
 
 -- the three answers of a write

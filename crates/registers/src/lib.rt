@@ -4,7 +4,7 @@ ghost use lib.ListN.{length};
 ghost use Rattle.machine.specs.Calls.{collecting};
 ghost use Rattle.block.specs.Block.{streamIn};
 ghost use Rattle.roundtrip.specs.In.{IsState};
-ghost use Rattle.calls.specs.Reply.{replyIn, reply};
+ghost use Rattle.calls.specs.Reply.{replyIn};
 ghost use Rattle.registers.specs.Write.{callIn, answered, waiting, commanded};
 ghost use Rattle.registers.specs.Write as written;
 use valid::Tested;
