@@ -16,6 +16,7 @@ enum { COPIES = 256, MOVES = 4096 };
 
 static uint8_t (*copies)[TESSLA_STATE_LENGTH];
 static uint8_t start[TESSLA_STATE_LENGTH];
+static uint8_t block[TESSLA_BLOCK_LENGTH];
 static unsigned used; /* of the copies: all, or few under callgrind */
 
 static void fail(const char *what) {
@@ -142,6 +143,10 @@ static void prepare(const struct plan *p, unsigned batch) {
     }
 }
 
+static void registered(uint8_t *s, uint32_t at, uint8_t byte) {
+    if (tessla_register_write(s, TESSLA_STATE_LENGTH, block, sizeof block, at, byte) != 0) fail("register write");
+}
+
 static void operations(const struct plan *p) {
     uint32_t moves, stamp;
     int64_t value;
@@ -159,9 +164,33 @@ static void operations(const struct plan *p) {
     end(p->name, "check alone", used, p->streams);
 
     begin();
+    for (unsigned i = 0; i < used; i++) tessla_run(copies[i], TESSLA_STATE_LENGTH, 64, &moves);
+    end(p->name, "run at rest", used, p->streams);
+
+    begin();
+    for (unsigned i = 0; i < used; i++) registered(copies[i], TESSLA_AT_COMMAND, TESSLA_COMMAND_RUN);
+    end(p->name, "command 3 at rest", used, p->streams);
+
+    begin();
+    for (unsigned i = 0; i < used; i++)
+        for (uint32_t at = TESSLA_AT_STREAM; at < TESSLA_AT_COMMAND; at++) registered(copies[i], at, (uint8_t)i);
+    end(p->name, "plain write", (unsigned long)used * TESSLA_AT_COMMAND, p->streams);
+
+    begin();
     for (unsigned i = 0; i < used; i++)
         if (tessla_offer_reading(copies[i], TESSLA_STATE_LENGTH, p->input[0], 1000, 7) != 0) fail("offer");
     end(p->name, "offer", used, p->streams);
+
+    /* 1000 in two bytes */
+    spread();
+    memset(block, 0, sizeof block);
+    block[TESSLA_AT_STREAM] = (uint8_t)p->input[0];
+    block[TESSLA_AT_STAMP] = 0xE8;
+    block[TESSLA_AT_STAMP + 1] = 0x03;
+    block[TESSLA_AT_VALUE] = 7;
+    begin();
+    for (unsigned i = 0; i < used; i++) registered(copies[i], TESSLA_AT_COMMAND, TESSLA_COMMAND_OFFER);
+    end(p->name, "command 1", used, p->streams);
 
     /* which equations move, one after the other, after a batch of readings */
     prepare(p, 8);

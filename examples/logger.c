@@ -11,14 +11,9 @@
  *
  * On a computer it prints to the standard output; firmware/main.c is this file on the board.
  */
-#ifndef BOARD_H
-#include <stdio.h>
-static void put(const char *text) { fputs(text, stdout); }
-#endif
 #include <string.h>
 
-#define TESSLA_TEXTS
-#include "tessla.h"
+#include "text.h"
 #include "logger_plan.h"
 #include "saving.h"
 
@@ -37,20 +32,6 @@ const uint8_t *flash_at(uint32_t place) { return flash[place]; }
 void flash_erase(uint32_t place) { memset(flash[place], 0xFF, PLACE_LENGTH); }
 void flash_write(uint32_t place, uint32_t at, const uint8_t word[WORD]) { memcpy(flash[place] + at, word, WORD); }
 
-/* ---- text */
-static void put_number(const char *before, int64_t x, const char *after) {
-    char b[24];
-    int i = 23;
-    uint64_t u = x < 0 ? 0 - (uint64_t)x : (uint64_t)x;
-    b[i] = 0;
-    do b[--i] = (char)('0' + u % 10);
-    while (u /= 10);
-    if (x < 0) b[--i] = '-';
-    put(before);
-    put(b + i);
-    put(after);
-}
-
 /* ---- the card */
 
 /*
@@ -61,9 +42,8 @@ static void put_number(const char *before, int64_t x, const char *after) {
 static int load(const char *text, uint32_t length) {
     uint32_t number = tessla_load(state, sizeof state, (const uint8_t *)text, length);
     if (number != TESSLA_DONE) {
-        put_number("plan refused=", number, ": ");
-        put(tessla_text(number));
-        put("\n");
+        put("plan ");
+        put_refused(number);
         return 0;
     }
     put(tessla_streams(state) == 0 ? "no plan on the card\n" : "plan loaded\n");
@@ -120,10 +100,8 @@ static struct line {
 
 static void say_refused(uint32_t sensor, uint32_t stamp, uint32_t number) {
     put_number("sensor ", sensor, "");
-    put_number(" t=", stamp, "");
-    put_number(" refused=", number, ": ");
-    put(tessla_text(number));
-    put("\n");
+    put_number(" t=", stamp, " ");
+    put_refused(number);
 }
 
 /* offers the readings of a line until one is refused 9: that one is kept, and those behind it. Answers how many went. */

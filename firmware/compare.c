@@ -1,6 +1,6 @@
 /*
  * The same calls on x86-64, on the plain C engine and on the board: one line a call with its number, its further results and a
- * hash of the whole buffer. The lines must be the same. The last lines say which numbers each call returned.
+ * hash of the whole state and block. The lines must be the same. The last lines say which numbers each call returned.
  */
 #include <string.h>
 
@@ -18,8 +18,9 @@ enum { LENGTH = TESSLA_STATE_LENGTH, MOST = TESSLA_TEXT_LIMIT, WRONG_LENGTHS = 8
 static uint8_t room[LENGTH + 8] __attribute__((aligned(8)));
 static uint8_t words[MOST + 16] __attribute__((aligned(8)));
 static uint8_t copy[LENGTH];
-static uint8_t *state = room, *text = words;
-static uint64_t length = LENGTH; /* what the calls are told */
+static uint8_t places[TESSLA_BLOCK_LENGTH + 8] __attribute__((aligned(8)));
+static uint8_t *state = room, *text = words, *block = places;
+static uint64_t length = LENGTH, block_length = TESSLA_BLOCK_LENGTH; /* what the calls are told */
 
 /* ---- what is printed */
 
@@ -33,12 +34,13 @@ static void put_hex(uint64_t x, const char *end) {
     put(end);
 }
 
-/* two sums of the whole room, the bytes around the state included; every byte goes into both */
+/* two sums of the whole room and of the block's, the bytes around them included; every byte goes into both */
 static uint64_t hash(void) {
     uint32_t h = 2166136261u, g = 1;
-    for (uint32_t i = 0; i < sizeof room; i += 4) {
+    for (uint32_t i = 0; i < sizeof room + sizeof places; i += 4) {
+        const uint8_t *p = i < sizeof room ? room + i : places + (i - sizeof room);
         uint32_t w;
-        memcpy(&w, __builtin_assume_aligned(room + i, 4), 4);
+        memcpy(&w, __builtin_assume_aligned(p, 4), 4);
         h = (h ^ w) * 16777619u;
         h ^= h >> 15;
         g = (g << 5 | g >> 27) + w;
@@ -46,13 +48,13 @@ static uint64_t hash(void) {
     return (uint64_t)h << 32 | g;
 }
 
-enum { LOAD, READING, PROGRESS, MOVE, RUN, COLLECT, CALLS };
-static const char *const CALL[CALLS] = { "load ", "reading ", "progress ", "move ", "run ", "collect " };
+enum { LOAD, READING, PROGRESS, MOVE, RUN, COLLECT, WRITE, LINE, CALLS };
+static const char *const CALL[CALLS] = { "load ", "reading ", "progress ", "move ", "run ", "collect ", "write ", "line " };
 static uint32_t returned[CALLS]; /* a bit for each number, bit 31 for any other */
 static uint32_t made[CALLS];
 
 static uint32_t note(int call, uint32_t number, uint64_t x, uint64_t y) {
-    returned[call] |= number < 16 ? 1u << number : 1u << 31;
+    returned[call] |= number < 31 ? 1u << number : 1u << 31;
     made[call]++;
     put(CALL[call]);
     put_hex(number, " ");
@@ -82,10 +84,48 @@ static uint32_t collect(uint32_t s) {
     return note(COLLECT, number, t, (uint64_t)v);
 }
 
+/*
+ * A byte is passed in a whole word, whose upper bits are nobody's: a second name of the call, by which they are filled with
+ * rubbish, another at each write.
+ */
+#define WORD_OF(name) #name
+#define SYMBOL(name) WORD_OF(name)
+uint32_t write_word(uint8_t *, uint64_t, uint8_t *, uint64_t, uint32_t at, uint32_t word) __asm__(SYMBOL(tessla_register_write));
+static uint32_t written(uint32_t at, uint8_t byte) {
+    static uint32_t rubbish = 0xA5A5A5A5;
+    rubbish = rubbish * 1664525 + 1013904223;
+    return write_word(state, length, block, block_length, at, (rubbish & 0xFFFFFF00) | byte);
+}
+static uint32_t write(uint32_t at, uint8_t byte) { return note(WRITE, written(at, byte), at, byte); }
+static uint32_t command(uint8_t which) { return write(16, which); }
+/* a number of so many bytes, written as the header has it: as many writes, one line */
+static void set(uint32_t at, uint32_t bytes, uint64_t x) {
+    uint32_t any = 0;
+    for (uint32_t i = 0; i < bytes; i++) any |= tessla_register_write(state, length, block, block_length, at + i, (uint8_t)(x >> 8 * i));
+    note(WRITE, any, at, x);
+}
+static uint32_t line(void) {
+    uint32_t up = 0xA5A5A5A5;
+    uint32_t number = tessla_register_line(block, block_length, &up);
+    return note(LINE, number, up, 0);
+}
+
 static void head(const char *what) {
     put("-- ");
     put(what);
     put("\n");
+}
+
+/* the block, its bytes in hexadecimal */
+static void show(void) {
+    char b[3 * TESSLA_BLOCK_LENGTH];
+    for (uint32_t i = 0; i < TESSLA_BLOCK_LENGTH; i++) {
+        b[3 * i] = "0123456789abcdef"[block[i] >> 4];
+        b[3 * i + 1] = "0123456789abcdef"[block[i] & 15];
+        b[3 * i + 2] = ' ';
+    }
+    b[sizeof b - 1] = 0;
+    head(b);
 }
 
 /* ---- plans */
@@ -294,6 +334,7 @@ static void without_a_plan(void) {
     progress(0, 0);
     progress(0, TESSLA_HORIZON + 1);
     collect(0);
+    for (uint8_t which = 1; which < 4; which++) command(which);
     uint32_t i = 0;
     while (i < LENGTH && state[i] == 0) i++;
     head(i == LENGTH ? "all bytes 0" : "a byte not 0");
@@ -435,6 +476,238 @@ static void texts(void) {
     }
 }
 
+/* ---- the block of registers */
+
+static void begin_block(const char *plan_of, uint8_t byte) {
+    head(plan_of);
+    visits();
+    load_rows(6);
+    memset(block, byte, TESSLA_BLOCK_LENGTH);
+}
+
+/* cases worked out by hand: firmware/test knows the numbers and the blocks */
+static void worked_blocks(void) {
+    head("worked blocks");
+    begin_block("offered, run and collected", 0);
+    set(4, 4, 3);
+    set(8, 8, 7);
+    command(1);
+    command(3);
+    set(0, 1, 5);
+    command(2);
+    show();
+    command(2);
+    show();
+
+    begin_block("refused commands and writes", 9);
+    set(0, 4, 5);
+    memset(block + 16, 0, 4);
+    command(2);
+    show();
+    command(0);
+    command(4);
+    command(255);
+    show();
+    for (uint32_t at = 17; at < 25; at += at == 17 ? 3 : 1) write(at, 1);
+    write(0xFFFFFFFF, 1);
+    show();
+
+    begin_block("flags and mask", 0);
+    block[18] = 255;
+    line();
+    write(19, 255);
+    line();
+    write(18, 255);
+    line();
+    show();
+
+    begin_block("no state, though an output would wait", 0);
+    reading(0, 3, 1);
+    run(99);
+    state[LENGTH - 1] = 1;
+    write(5, 7);
+    write(19, 3);
+    command(1);
+    line();
+    command(9);
+    show();
+    command(3);
+    show();
+
+    begin_block("both flags", 0);
+    reading(0, 3, 1);
+    run(99);
+    write(0, 9);
+    command(1);
+    show();
+    write(0, 0);
+    command(3);
+    write(18, 1);
+    show();
+
+    begin_block("collected, and held for another", 0);
+    rows[0] = rows[2] = (struct row){ .op = IN };
+    rows[1] = (struct row){ .op = NEG, .out = 1 };
+    rows[3] = (struct row){ .op = ADD, .a = 1, .b = 2 };
+    load_rows(4);
+    reading(0, 3, 7);
+    run(9);
+    write(0, 1);
+    command(2);
+    show();
+    command(3);
+    show();
+
+    begin_block("other lengths", 0);
+    for (block_length = 23; block_length < 26; block_length += 2) {
+        write(0, 1);
+        command(1);
+        write(99, 1);
+        line();
+    }
+    block_length = TESSLA_BLOCK_LENGTH;
+    show();
+
+    begin_block("the value -1", 0);
+    rows[0] = (struct row){ .op = IN };
+    rows[1] = (struct row){ .op = NEG, .out = 1 };
+    load_rows(2);
+    set(8, 8, UINT64_MAX);
+    command(1);
+    command(3);
+    write(0, 1);
+    command(2);
+    show();
+}
+
+/* the offer of a reading and the collection of an output, by commands */
+static void offer_by_block(uint32_t s, uint32_t t, int64_t v) {
+    set(0, 4, s);
+    set(4, 4, t);
+    set(8, 8, (uint64_t)v);
+    command(1);
+}
+
+static void collect_by_block(uint32_t s) {
+    set(0, 4, s);
+    command(2);
+}
+
+static const uint64_t BLOCK_LENGTHS[] = { 0, 1, 23, 25, 32, 24 + (UINT64_C(1) << 32), UINT64_C(1) << 32, UINT64_MAX, (UINT64_C(1) << 63) + 24 };
+
+/* every place and beyond, every length, flags with masks, extremes */
+static void registers(void) {
+    static const uint8_t BYTES[] = { 0, 1, 2, 3, 4, 17, 255 };
+    begin_block("places", 0);
+    reading(0, 3, 1);
+    run(99);
+    memcpy(copy, state, LENGTH);
+    for (uint32_t at = 0; at < 28; at++)
+        for (uint32_t i = 0; i < COUNT(BYTES); i++) {
+            write(at, BYTES[i]);
+            memcpy(state, copy, LENGTH);
+        }
+    for (uint32_t i = 5; i < 32; i++) write((1u << i) + 16, 3);
+    write(0x80000000, 1);
+    write(0xFFFFFFFF, 3);
+
+    head("block lengths");
+    for (uint32_t i = 0; i < COUNT(BLOCK_LENGTHS); i++) {
+        block_length = BLOCK_LENGTHS[i];
+        for (uint8_t which = 0; which < 5; which++) command(which);
+        write(0, 1);
+        write(18, 255);
+        write(19, 1);
+        write(20, 1);
+        line();
+    }
+    block_length = TESSLA_BLOCK_LENGTH;
+    for (uint32_t i = 0; i < WRONG_LENGTHS; i++) {
+        length = WRONG[i];
+        for (uint8_t which = 0; which < 5; which++) command(which);
+        write(3, 0);
+        write(18, 1);
+        write(20, 1);
+    }
+    length = LENGTH;
+
+    /* byte 18 with every byte written to it, and with every mask: the sums of what is left, of the line and of the numbers */
+    head("flags and masks");
+    for (uint32_t flags = 0; flags < 256; flags++) {
+        uint32_t left = 0, lines = 0, up;
+        for (uint32_t byte = 0; byte < 256; byte++) {
+            block[18] = (uint8_t)flags;
+            block[19] = (uint8_t)byte;
+            lines = 3 * lines + tessla_register_line(block, block_length, &up) + up;
+            lines ^= lines >> 13;
+            left = 257 * left + written(18, (uint8_t)byte) + block[18];
+            left ^= left >> 11;
+        }
+        if (flags % 16 == 15) {
+            note(WRITE, 0, left, flags);
+            note(LINE, 0, lines, flags);
+        }
+    }
+
+    /* each end of a command with each of the flags */
+    for (uint32_t flags = 0; flags < 256; flags += 51) {
+        memcpy(state, copy, LENGTH);
+        memset(block, (int)flags, TESSLA_BLOCK_LENGTH);
+        offer_by_block(0, 9, -1);
+        offer_by_block(0, 9, -1);
+        offer_by_block(5, 9, -1);
+        block[18] = (uint8_t)flags;
+        command(3);
+        for (uint32_t i = 0; i < 4; i++) collect_by_block(5);
+        collect_by_block(4);
+        block[18] = (uint8_t)flags;
+        command(3);
+        line();
+    }
+
+    for (uint32_t o = 0; o < 8; o++) { /* every alignment of the block and of the state */
+        head("alignment");
+        memset(room, 0xEE, sizeof room);
+        memset(places, 0xEE, sizeof places);
+        state = room + (7 - o);
+        block = places + o;
+        visits();
+        load_rows(6);
+        for (uint32_t i = 0; i < COUNT(STREAMS); i++) {
+            offer_by_block(STREAMS[i], 20 + i, -1);
+            collect_by_block(STREAMS[i]);
+        }
+        for (uint32_t i = 0; i < COUNT(STAMPS); i++) {
+            offer_by_block(0, STAMPS[i], VALUES[i]);
+            command(3);
+            collect_by_block(5);
+            line();
+        }
+    }
+    state = room;
+    block = places;
+
+    head("values by registers");
+    rows[0] = (struct row){ .op = IN };
+    rows[1] = (struct row){ .op = PLUS, .out = 1 };
+    load_rows(2);
+    for (uint32_t i = 0; i < COUNT(VALUES); i++) {
+        offer_by_block(0, i, VALUES[i]);
+        command(3);
+        collect_by_block(1);
+    }
+    for (uint32_t i = 0; i < 18; i++) offer_by_block(0, 100 + i, 1); /* the 17th is refused 9 */
+    command(3);
+
+    /* 93 moves to make: 64, then the rest */
+    head("64 moves");
+    for (uint32_t i = 0; i < 32; i++) rows[i] = (struct row){ .op = i ? NEG : IN, .a = (uint8_t)(i ? i - 1 : 0), .out = i == 31 };
+    load_rows(32);
+    for (uint32_t t = 1; t < 4; t++) offer_by_block(0, t, 5);
+    command(3);
+    run(1000);
+}
+
 /* ---- random: plans, calls, damage */
 
 static uint64_t seed = 0x9E3779B97F4A7C15u;
@@ -470,10 +743,22 @@ static uint32_t some_plan(void) {
     return n;
 }
 
+/* a reading offered by the block, or any byte to any place */
+static void some_write(uint32_t s, uint32_t *now) {
+    if (next(2)) {
+        *now += next(3);
+        offer_by_block(s, *now, some_value());
+        return;
+    }
+    uint32_t at = next(26);
+    write(at, (uint8_t)next(at == 16 ? 5 : 256));
+    line();
+}
+
 /* one draw in each expression: the order of two would be the compiler's choice; without streams a call asks for the first */
 static void some_call(uint32_t n, uint32_t *now) {
     uint32_t t, most = n ? n : 1, s = next(20) ? next(most) : next(40);
-    switch (next(9)) {
+    switch (next(11)) {
     case 0:
     case 1:
     case 2:
@@ -490,7 +775,13 @@ static void some_call(uint32_t n, uint32_t *now) {
     case 4: move(s); break;
     case 5: run(next(4)); break;
     case 6: run(next(60)); break;
-    default: collect(s); break;
+    case 7:
+    case 8: collect(s); break;
+    case 9: some_write(s, now); break;
+    default:
+        write(0, (uint8_t)s);
+        command((uint8_t)(2 + next(2)));
+        break;
     }
 }
 
@@ -500,6 +791,8 @@ static void random_calls(uint32_t plans, uint32_t calls) {
         uint32_t n = some_plan(), now = next(3) ? 0 : 0xFFFFFFC0;
         state = room + p % 8;
         memset(room, 0xEE, sizeof room);
+        memset(places, 0xEE, sizeof places);
+        block = places + p / 8 % 8;
         text = words + next(8);
         if (load_rows(n) != 0) continue;
         for (uint32_t i = 0; i < calls; i++) some_call(n, &now);
@@ -521,6 +814,7 @@ static void random_calls(uint32_t plans, uint32_t calls) {
     }
     state = room;
     text = words;
+    block = places;
 }
 
 int main(void) {
@@ -559,6 +853,8 @@ int main(void) {
     zeros();
     full();
     texts();
+    worked_blocks();
+    registers();
     random_calls(RANDOM_PLANS, RANDOM_CALLS);
     for (int i = 0; i < CALLS; i++) {
         put("numbers ");

@@ -11,6 +11,7 @@
 static uint8_t state[TESSLA_STATE_LENGTH] __attribute__((aligned(8)));
 static uint8_t copy[TESSLA_STATE_LENGTH];
 static uint8_t text[TESSLA_TEXT_LIMIT];
+static uint8_t block[TESSLA_BLOCK_LENGTH];
 static uint32_t own; /* instructions of the gauge itself */
 
 static void put_number(uint64_t x) {
@@ -65,6 +66,7 @@ static uint32_t deep;
     } while (0)
 
 #define S state, TESSLA_STATE_LENGTH
+#define B block, TESSLA_BLOCK_LENGTH
 
 /* one reading to rest: the offer, and a run until nothing moves */
 static uint32_t to_rest(uint32_t input, uint32_t t, int64_t v) {
@@ -101,8 +103,18 @@ static void others_known(const struct row *rows, uint32_t n, uint64_t bound) {
     while (collect_all() != 0 || moves != 0);
 }
 
+/* a block with these numbers, for a command beside the call that it makes, on the same state */
+static void fill_block(uint32_t stream, uint32_t at, int64_t value) {
+    memset(block, 0, sizeof block);
+    for (uint32_t i = 0; i < 4; i++) {
+        block[TESSLA_AT_STREAM + i] = (uint8_t)(stream >> 8 * i);
+        block[TESSLA_AT_STAMP + i] = (uint8_t)(at >> 8 * i);
+    }
+    for (uint32_t i = 0; i < 8; i++) block[TESSLA_AT_VALUE + i] = (uint8_t)((uint64_t)value >> 8 * i);
+}
+
 static void measure(const char *name, const struct row *rows, uint32_t n) {
-    uint32_t moves, stamp, mover = 0, output = 0, length = write_plan(text, rows, n);
+    uint32_t moves, stamp, up, mover = 0, output = 0, length = write_plan(text, rows, n);
     int64_t value;
     plan = name;
     MEASURE_CALL("load", tessla_load(S, text, length));
@@ -114,8 +126,14 @@ static void measure(const char *name, const struct row *rows, uint32_t n) {
     others_known(rows, n, 200);
     MEASURE_CALL("validation", tessla_move(S, 99));
     MEASURE_CALL("run at rest", tessla_run(S, 100000, &moves));
+    fill_block(0, 70, 7);
+    MEASURE_CALL("plain write", tessla_register_write(S, B, TESSLA_AT_STAMP, 70));
+    MEASURE_CALL("line", tessla_register_line(B, &up));
+    MEASURE_CALL("command 3 at rest", tessla_register_write(S, B, TESSLA_AT_COMMAND, TESSLA_COMMAND_RUN));
     memcpy(copy, state, sizeof state);
     MEASURE_CALL("progress", tessla_offer_progress(S, 0, 60));
+    memcpy(state, copy, sizeof state);
+    MEASURE_CALL("command 1", tessla_register_write(S, B, TESSLA_AT_COMMAND, TESSLA_COMMAND_OFFER));
     memcpy(state, copy, sizeof state);
     MEASURE_CALL("offer", tessla_offer_reading(S, 0, 70, 7));
     while (mover < n && tessla_move(S, mover) != 0) mover++;
@@ -126,11 +144,17 @@ static void measure(const char *name, const struct row *rows, uint32_t n) {
     tessla_offer_reading(S, 0, 70, 7);
     MEASURE_CALL("run to rest", tessla_run(S, 100000, &moves));
     memcpy(state, copy, sizeof state);
+    tessla_offer_reading(S, 0, 70, 7);
+    MEASURE_CALL("command 3 to rest", tessla_register_write(S, B, TESSLA_AT_COMMAND, TESSLA_COMMAND_RUN));
+    memcpy(state, copy, sizeof state);
     MEASURE("a reading to rest", to_rest(0, 70, 7));
     memcpy(copy, state, sizeof state);
     while (output < n && tessla_collect(S, output, &stamp, &value) != 0) output++;
     memcpy(state, copy, sizeof state);
     MEASURE_CALL("collect", tessla_collect(S, output, &stamp, &value));
+    memcpy(state, copy, sizeof state);
+    fill_block(output, 0, 0);
+    MEASURE_CALL("command 2", tessla_register_write(S, B, TESSLA_AT_COMMAND, TESSLA_COMMAND_COLLECT));
     memcpy(state, copy, sizeof state);
     MEASURE("collecting the outputs", collect_all());
     memcpy(state, copy, sizeof state);

@@ -71,6 +71,18 @@ for plan in plans:
     print('| %s | %d | %s | %.1f | %s | %s |' % (plan, moves, ms(cycles), moves * MHZ * 1000 / cycles,
           ms(zone('collecting the outputs')[2]), ms(zone('collecting every stream')[2])))
 print()
+COMMANDS = [('command 1', 'offer'), ('command 2', 'collect'), ('command 3 at rest', 'run at rest'), ('command 3 to rest', 'run to rest')]
+for n in names:
+    print('%s, instructions of a plain write to the block and of its line, and of each command with what it takes beside its call:' % CORES[n])
+    print()
+    print('| plan | plain write | line | %s |' % ' | '.join('%s | beside %s' % pair for pair in COMMANDS))
+    print('|---|%s' % ('---:|' * (2 + 2 * len(COMMANDS))))
+    for plan in plans:
+        instructions = lambda call: int(zones[n][plan, call][1])
+        cells = [count(instructions(call)) for call in ['plain write', 'line']]
+        cells += ['%s | +%s' % (count(instructions(command)), count(instructions(command) - instructions(call))) for command, call in COMMANDS]
+        print('| %s | %s |' % (plan, ' | '.join(cells)))
+    print()
 print('A signal form against the five streams that it stands for, a reading to rest:')
 print()
 print('| plan | moves | %s | ms, %s |' % (' | '.join('%s, instructions | beside the inputs alone' % CORES[n] for n in names), CORES[c]))

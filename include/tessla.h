@@ -9,8 +9,9 @@
  * at stamps below y are known. A value is any int64_t.
  *
  * Every call returns a number, 0 for done. On any other number
- *   - each further result (*moves, *stamp, *value) is 0, and
- *   - the state is byte for byte as it was.
+ *   - each further result (*moves, *stamp, *value, *up) is 0, and
+ *   - the state is byte for byte as it was. One lent buffer alone is changed by a refusal, the block of tessla_register_write,
+ *     and only as is said there.
  * No call relies on its caller having tested anything. Two things are the caller's all the same, because no callee can
  * test them: a length says how many bytes really lie behind its pointer, and the buffers of one call do not overlap.
  *
@@ -24,7 +25,7 @@
  * plan. A plan may be loaded at any time, over whatever is there; so may no plan, and that ends the one that runs, with all it
  * holds. So do not load the nothing that a card gives which could not be read.
  *
- * What a logger does with the calls; examples/logger.c does all of it:
+ * What a logger does with the calls; examples/logger.c does all of it, but for the registers:
  *
  * Progress. An output is known only as far as the inputs that it is worked out from, and an input holds 16 readings that
  * somebody waits for. So every sensor needs offers of progress, on a schedule, and a silent or dead one above all: without
@@ -38,22 +39,26 @@
  * Work is to be done until nothing moves or waits: run and collect, again and again, until a run made no move and nothing was
  * collected after it. A run that made no move is not enough: a collection makes room, and then there is more to do.
  *
- * Interrupts. No call may interrupt a call on the same state; calls on different states do not know of each other. Let the
- * interrupt put a reading into a line, and the main loop offer it. A call itself may be interrupted at any time, for as long
- * as you like; a state is to be copied between calls only.
+ * Interrupts. No call may interrupt a call on the same state or the same block; calls on different ones do not know of each
+ * other. Let the interrupt put a reading into a queue, and the main loop offer it. A call itself may be interrupted at any time,
+ * for as long as you like; a state is to be copied between calls only.
  *
- * The budget of a run. On a Cortex-M0+ at 48 MHz every call but load first looks at the whole state, 1.0 to 1.3 ms by the
- * manual's cycles; a move in a run then takes 0.1 to 0.2 ms. In the plans that were measured a run of n moves takes at most
- * 1.3 ms and a millisecond for each four moves, if the outputs are collected; where 31 outputs are full a move takes 1.1 ms.
- * Leave the watchdog twice that. Few calls with much work in each cost least (docs/PERFORMANCE.md, "On the controller").
+ * The budget of a run. On a Cortex-M0+ at 48 MHz every call on a state, but for load and plain register writes, first looks at
+ * the whole of it, 1.0 to 1.3 ms by the manual's cycles; a move in a run then takes 0.1 to 0.2 ms. In the plans that were measured
+ * a run of n moves takes at most 1.3 ms and a millisecond for each four moves, if the outputs are collected; where 31 outputs
+ * are full a move takes 1.1 ms. By that the 64 moves of a command 3 take 18 ms. Leave the watchdog twice that. Few calls with
+ * much work in each cost least (docs/PERFORMANCE.md, "On the controller").
+ *
+ * Registers. A board that talks in single bytes makes the calls through a block of 24 bytes, tessla_register_write below;
+ * examples/reader.c is a driver for one. A firmware that makes the calls itself needs no block.
  *
  * A copy of the state. The buffer may be copied anywhere, to flash say, and put back later, at any address. Only the records
- * of the plan's streams are used, tessla_used_length bytes; all behind them is 0 and need not be saved. A state put back has
- * had the calls made up to its copy: what was accepted or handed out after the copy does not count for it. Readings offered
- * after the copy are to be offered again, and events collected after the copy are handed out again. A copy damaged in storage
- * is refused 15 where its contents are no state; where they happen to be one, no call can know that it is not the one that was
- * saved: a storage that gives back zeros gives a state without a plan. So save to two places in turn, each with a checksum:
- * examples/saving.c does, and loses no copy to a power cut.
+ * of the plan's streams are used, tessla_used_length bytes; all behind them is 0 and need not be saved. A block of registers is
+ * no part of the state: begin with a fresh one. A state put back has had the calls made up to its copy: what was accepted or
+ * handed out after the copy does not count for it. Readings offered after the copy are to be offered again, and events collected
+ * after the copy are handed out again. A copy damaged in storage is refused 15 where its contents are no state; where they
+ * happen to be one, no call can know that it is not the one that was saved: a storage that gives back zeros gives a state without
+ * a plan. So save to two places in turn, each with a checksum: examples/saving.c does, and loses no copy to a power cut.
  */
 #ifndef TESSLA_H
 #define TESSLA_H
@@ -75,10 +80,12 @@ extern "C" {
  *         refused 15 no more. A firmware that took this 15 for a sign that nothing was loaded asks tessla_streams instead, or
  *         keeps the number that load returned. Over a plan that runs a text of no bytes was refused, and the plan went on; now
  *         it ends it.
+ *   1.5   the block of registers: tessla_register_write, tessla_register_line, number 17, and tessla_bounds. The other calls, the
+ *         plan texts and the states are those of 1.4.
  */
 #define TESSLA_VERSION_MAJOR 1
-#define TESSLA_VERSION_MINOR 4
-#define TESSLA_VERSION "1.4"
+#define TESSLA_VERSION_MINOR 5
+#define TESSLA_VERSION "1.5"
 
 /* The length of the state in bytes. Any other length is refused 15. */
 #define TESSLA_STATE_LENGTH 12288
@@ -89,6 +96,9 @@ extern "C" {
 /* A plan has at most 32 streams, and none if its text has no bytes; a stream holds at most 16 events. */
 #define TESSLA_STREAM_LIMIT 32
 #define TESSLA_ROOM 16
+
+/* The length of the block of registers in bytes. Any other length is refused 17. */
+#define TESSLA_BLOCK_LENGTH 24
 
 /* One past the last stamp: the bound of a stream that is known to the end. */
 #define TESSLA_HORIZON UINT64_C(4294967296)
@@ -114,12 +124,14 @@ enum tessla_number {
     TESSLA_CANNOT_MOVE = 12,   /* move               the equation cannot move now */
     TESSLA_NO_OUTPUT = 13,     /* collect            no such stream, or out=0 */
     TESSLA_NOTHING = 14,       /* collect            nothing waits to be collected */
-    TESSLA_BAD_STATE = 15      /* all                wrong state length; but for load also contents that are no state */
+    TESSLA_BAD_STATE = 15,     /* all on a state     wrong state length; but for load also contents that are no state */
+    TESSLA_BAD_WRITE = 17      /* register calls     the block is not 24 bytes long; a write to bytes 17, 20 to 23 or beyond, or of
+                                                     a command other than 1 to 3. (16 is the replay program's.) */
 };
 
 /*
  * Where more than one number applies, the one named first below is returned.
- * Number 15 comes before all others; load tests only the length of the state, never what it holds. A state that
+ * Number 15 comes before all others but 17; load tests only the length of the state, never what it holds. A state that
  * is all zeros is refused 15 by no call; one whose byte 0 is 0 and some other byte is not, by each but load.
  */
 
@@ -162,9 +174,89 @@ uint32_t tessla_run(uint8_t *state, uint64_t state_length, uint32_t n, uint32_t 
 uint32_t tessla_collect(uint8_t *state, uint64_t state_length, uint32_t stream, uint32_t *stamp, int64_t *value);
 
 /*
+ * The block of registers: TESSLA_BLOCK_LENGTH bytes that the firmware owns and lends beside a state. A number lies with its least
+ * byte first, a value in two's complement. The firmware reads the bytes as they lie, between two writes. What the block holds at
+ * first is the firmware's: zeros are best, and no contents are refused.
+ *
+ *    place                       bytes      a write        holds
+ */
+enum tessla_place {
+    TESSLA_AT_STREAM = 0,      /* 0 to 3     is stored      the stream of command 1 and 2 */
+    TESSLA_AT_STAMP = 4,       /* 4 to 7     is stored      the stamp of the reading that command 1 offers */
+    TESSLA_AT_VALUE = 8,       /* 8 to 15    is stored      its value; after a command 2 that is done, the event's */
+    TESSLA_AT_COMMAND = 16,    /* 16         starts it      the last command that was started */
+    TESSLA_AT_STATUS = 17,     /* 17         is refused     the number of the last command or refused write */
+    TESSLA_AT_FLAGS = 18,      /* 18         clears flags   the flags, below; bits 2 to 7 are none, and stay as they are */
+    TESSLA_AT_MASK = 19,       /* 19         is stored      which flags take the line up; bits 2 to 7 may be anything */
+    TESSLA_AT_REPLY = 20       /* 20 to 23   is refused     the reply stamp: of the event that the last command 2 handed out */
+};
+
+enum tessla_command {
+    TESSLA_COMMAND_OFFER = 1,   /* tessla_offer_reading with the block's stream, stamp and value */
+    TESSLA_COMMAND_COLLECT = 2, /* tessla_collect of the block's stream */
+    TESSLA_COMMAND_RUN = 3      /* tessla_run with 64 moves at most */
+};
+
+enum tessla_flag {
+    TESSLA_FLAG_REFUSED = 1, /* bit 0: a command or a write was refused since this flag was cleared */
+    TESSLA_FLAG_WAITS = 2    /* bit 1: an output had an event waiting after some command since this flag was cleared */
+};
+
+/*
+ * Write one byte of the block. What is done, which bytes of the block change, and the number that is returned:
+ *   - A block of another length: 17, and no byte changes.
+ *   - at 0 to 15 or 19: the byte is stored there. 0.
+ *   - at 18: each of the bits 0 and 1 that is 1 in the byte is cleared in byte 18; every other bit stays. 0.
+ *   - at 16, the byte 1, 2 or 3: the command's call is made. The byte is stored in byte 16 and the call's number in byte 17,
+ *     done or refused. A command 2 that is done fills bytes 8 to 15 with the value and 20 to 23 with the stamp of the event; one
+ *     that is refused leaves them. Bit 0 of byte 18 is set if the number is not 0. Bit 1 is set if the number is not 15 and in
+ *     the state after the call an output has an event waiting, whichever command it was, done or refused. The call's number.
+ *   - at 16 with another byte, at 17, at 20 and above: 17. Byte 17 becomes 17 and bit 0 of byte 18 is set; the byte is not stored.
+ * Numbers: 17, by the block's length, then by at, then by the command; then the call's own, 15 first. A write that starts no
+ * command does not look at the state: it is never refused 15.
+ *
+ * The state is as the call leaves it, and as it was where no command is started. A command counts as the call that it makes, and
+ * any other write as none. So writes and calls may be mixed on one state, and a state may have more than one block. A call made
+ * straight sets no status and no flag. Load and offers of progress have no command: make these calls.
+ *
+ * Nothing but a written 1 clears a flag; a success does not. Bit 0 says that something was refused; what, is in the status, but
+ * only until the next command: look at it, or at the returned number, after each. Who collects until 14 has bit 0 set by that.
+ * To learn whether something waits now, clear bit 1 and give a command: if it is not refused 15, bit 1 is set exactly if an
+ * output has an event waiting after it.
+ *
+ * Keep a reading until it is taken: after a 9 the collects put another stream and another value into the block, so write all of
+ * the reading again before command 1 is given again.
+ *
+ * When the work is done. Command 3 gives no count of its moves, and where nothing waits after it there may be more to do: 64 moves
+ * may not have been enough. Every move raises the bound of its stream, and none lowers a bound. So a command 3 that is done leaves
+ * all bounds as they were, by tessla_bounds one number, exactly if no equation could move, and then none can after it; and bit
+ * 1, cleared before it, is clear after it exactly if nothing waits. Collect and give command 3, again and again, until one command
+ * 3 shows both. No number of commands is enough for every plan: a timer may ring any number of times before an output has an
+ * event. A board that sees the block alone cannot tell; let it give command 3 again whenever it has time: at rest that changes
+ * nothing.
+ */
+uint32_t tessla_register_write(uint8_t *state, uint64_t state_length, uint8_t *block, uint64_t block_length, uint32_t at,
+                               uint8_t byte);
+
+/*
+ * The line of a block. Number: 17, the block is not 24 bytes long. Done: *up is 1 if bit 0 is set in both byte 18 and byte 19, or
+ * bit 1 is; else 0. The other bits of both do not count. The block stays as it is.
+ *
+ * Interrupt use. The line is a level: it is up as long as a flag and its mask bit are both set, however often the flag was set.
+ * Only a write changes it, so look after each write, and let the pin follow. When it is up: read byte 18; write what was read to
+ * byte 18, which clears these flags and no other; then do what they ask, for bit 0 look at the status, for bit 1 collect; and
+ * again, as long as the line is up. Clear first and collect then: a collect sets bit 1 again if more waits, and a later clearing
+ * would lose that. A clearing is a write like any other, and no write may interrupt a write on the same block or the same state.
+ * So let interrupts put what they have into a queue, and the main loop make all writes: since only a write sets a flag, none is
+ * set between the reading and the clearing. Who waits for an edge has to look at the level before he sleeps: a flag that is set
+ * again while the line is up makes no edge.
+ */
+uint32_t tessla_register_line(const uint8_t *block, uint64_t block_length, uint32_t *up);
+
+/*
  * What the state's bytes say without a call, by the layout in docs/LAYOUT.md, of a state that load and the calls left: stream
  * i has the record of TESSLA_RECORD bytes at i * TESSLA_RECORD; its first byte is 0 if there is no such stream, its byte 3 is 1
- * if it is an output.
+ * if it is an output, its bytes 16 to 23 are its bound.
  */
 #define TESSLA_RECORD 256
 
@@ -185,6 +277,20 @@ static inline uint32_t tessla_used_length(const uint8_t *state) {
     return tessla_streams(state) * TESSLA_RECORD;
 }
 
+/*
+ * The sum of the bounds of all streams. A move, and an offer that makes an input known further, make it greater, and no call but
+ * load makes it less: if it is the same after a run as before, the run made no move.
+ */
+static inline uint64_t tessla_bounds(const uint8_t *state) {
+    uint64_t sum = 0;
+    for (uint32_t stream = 0; stream < TESSLA_STREAM_LIMIT; stream++) {
+        uint64_t bound = 0;
+        for (uint32_t end = 24; end > 16; end--) bound = bound << 8 | state[stream * TESSLA_RECORD + end - 1];
+        sum += bound;
+    }
+    return sum;
+}
+
 #ifdef TESSLA_TEXTS
 /* The numbers in words, for a log or a screen: define TESSLA_TEXTS before the header is included. */
 #define TESSLA_EACH_TEXT(X) \
@@ -203,7 +309,8 @@ static inline uint32_t tessla_used_length(const uint8_t *state) {
     X(12, "move: the equation cannot move now") \
     X(13, "collect: no such stream, or it is no output") \
     X(14, "collect: nothing waits") \
-    X(15, "the buffer is no state of this engine")
+    X(15, "the buffer is no state of this engine") \
+    X(17, "registers: the block is not 24 bytes long, this byte of it cannot be written, or the command is not 1, 2 or 3")
 
 static inline const char *tessla_text(uint32_t number) {
     switch (number) {

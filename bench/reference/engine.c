@@ -1,5 +1,5 @@
 /*
- * A plain C engine of the same six calls, written apart from the proved library: the second oracle of the tests and the
+ * A plain C engine of the same calls, written apart from the proved library: the second oracle of the tests and the
  * measure of the benchmark. It works in place on the lent bytes, makes the same checks and leaves the same bytes.
  */
 #include "engine.h"
@@ -557,17 +557,51 @@ static bool moved(uint8_t *state, unsigned n, unsigned s) {
     return true;
 }
 
-/* ---- the other calls */
+/* ---- the calls on a state of n streams */
 
-uint32_t ref_offer_reading(uint8_t *state, uint64_t state_length, uint32_t stream, uint32_t stamp, int64_t value) {
-    unsigned n;
-    if (!is_state(state, state_length, &n)) return 15;
+static uint32_t offered(uint8_t *state, unsigned n, uint32_t stream, uint32_t stamp, int64_t value) {
     if (stream >= n || state[RECORD * stream] != IN) return 7;
     const uint8_t *o = state + RECORD * stream;
     if (stamp < bound_of(o)) return 8;
     if (held(o) >= ROOM) return 9;
     raise(state, n, stream, (uint64_t)stamp + 1, true, stamp, value);
     return 0;
+}
+
+static uint32_t run_of(uint8_t *state, unsigned n, uint32_t most_moves) {
+    uint32_t moves = 0;
+    for (unsigned s = 0; s < n && moves < most_moves;) {
+        if (moved(state, n, s)) {
+            moves++;
+            s = 0;
+        } else {
+            s++;
+        }
+    }
+    return moves;
+}
+
+/* the place of the oldest event that waits to be collected, or one past the last held */
+static unsigned oldest(const uint8_t *o) { return place(o, mark_of(o)); }
+
+/* stamp and value are written only where it is done */
+static uint32_t collected(uint8_t *state, unsigned n, uint32_t stream, uint32_t *stamp, int64_t *value) {
+    if (stream >= n || !is_out(state + RECORD * stream)) return 13;
+    uint8_t *o = state + RECORD * stream;
+    unsigned j = oldest(o);
+    if (j == held(o)) return 14;
+    *stamp = stamp_at(o, j);
+    *value = value_at(o, j);
+    put8(o + 24, (uint64_t)*stamp + 1);
+    release(state, n, stream);
+    return 0;
+}
+
+/* ---- the other calls */
+
+uint32_t ref_offer_reading(uint8_t *state, uint64_t state_length, uint32_t stream, uint32_t stamp, int64_t value) {
+    unsigned n;
+    return is_state(state, state_length, &n) ? offered(state, n, stream, stamp, value) : 15;
 }
 
 uint32_t ref_offer_progress(uint8_t *state, uint64_t state_length, uint32_t stream, uint64_t bound) {
@@ -592,14 +626,7 @@ uint32_t ref_run(uint8_t *state, uint64_t state_length, uint32_t n, uint32_t *mo
     *moves = 0;
     unsigned count;
     if (!is_state(state, state_length, &count)) return 15;
-    for (unsigned s = 0; s < count && *moves < n;) {
-        if (moved(state, count, s)) {
-            ++*moves;
-            s = 0;
-        } else {
-            s++;
-        }
-    }
+    *moves = run_of(state, count, n);
     return 0;
 }
 
@@ -607,14 +634,74 @@ uint32_t ref_collect(uint8_t *state, uint64_t state_length, uint32_t stream, uin
     *stamp = 0;
     *value = 0;
     unsigned n;
-    if (!is_state(state, state_length, &n)) return 15;
-    if (stream >= n || !is_out(state + RECORD * stream)) return 13;
-    uint8_t *o = state + RECORD * stream;
-    unsigned j = place(o, mark_of(o));
-    if (j == held(o)) return 14;
-    *stamp = stamp_at(o, j);
-    *value = value_at(o, j);
-    put8(o + 24, (uint64_t)*stamp + 1);
-    release(state, n, stream);
+    return is_state(state, state_length, &n) ? collected(state, n, stream, stamp, value) : 15;
+}
+
+/* ---- the reader board's block */
+
+enum { AT_STREAM = 0, AT_STAMP = 4, AT_VALUE = 8, AT_COMMAND = 16, AT_STATUS, AT_FLAGS, AT_MASK, AT_REPLY, BLOCK = 24 };
+enum { OFFER = 1, COLLECT, RUN, BUDGET = 64 };
+enum { REFUSED = 1, WAITING = 2, FLAGS = REFUSED | WAITING };
+
+/* "When a command or a refused write ends, flag bit 0 is set if status isn't 0." */
+static uint32_t ended(uint8_t *block, uint32_t number) {
+    block[AT_STATUS] = (uint8_t)number;
+    if (number != 0) block[AT_FLAGS] |= REFUSED;
+    return number;
+}
+
+static bool output_waits(const uint8_t *state, unsigned n) {
+    for (unsigned s = 0; s < n; s++) {
+        const uint8_t *o = state + RECORD * s;
+        if (is_out(o) && oldest(o) < held(o)) return true;
+    }
+    return false;
+}
+
+/* a command on a state of n streams; "value and reply stamp are filled, or stay if refused" */
+static uint32_t started(uint8_t *state, unsigned n, uint8_t *block) {
+    uint32_t stream = get4(block + AT_STREAM), stamp;
+    int64_t value;
+    switch (block[AT_COMMAND]) {
+    case OFFER: return offered(state, n, stream, get4(block + AT_STAMP), value_of(get8(block + AT_VALUE)));
+    case COLLECT: {
+        uint32_t number = collected(state, n, stream, &stamp, &value);
+        if (number != 0) return number;
+        put8(block + AT_VALUE, (uint64_t)value);
+        put4(block + AT_REPLY, stamp);
+        return 0;
+    }
+    default: run_of(state, n, BUDGET); return 0;
+    }
+}
+
+/* apart, so that a plain write pays nothing for it */
+static __attribute__((noinline)) uint32_t commanded(uint8_t *state, uint64_t state_length, uint8_t *block) {
+    unsigned n;
+    if (!is_state(state, state_length, &n)) return ended(block, 15);
+    uint32_t number = started(state, n, block);
+    if (output_waits(state, n)) block[AT_FLAGS] |= WAITING;
+    return ended(block, number);
+}
+
+uint32_t ref_register_write(uint8_t *state, uint64_t state_length, uint8_t *block, uint64_t block_length, uint32_t at, uint8_t byte) {
+    if (block_length != BLOCK) return 17;
+    if (at == AT_FLAGS) {
+        block[AT_FLAGS] &= (uint8_t)~(byte & FLAGS);
+        return 0;
+    }
+    if (at < AT_COMMAND || at == AT_MASK) {
+        block[at] = byte;
+        return 0;
+    }
+    if (at != AT_COMMAND || byte < OFFER || byte > RUN) return ended(block, 17);
+    block[AT_COMMAND] = byte;
+    return commanded(state, state_length, block);
+}
+
+uint32_t ref_register_line(const uint8_t *block, uint64_t block_length, uint32_t *up) {
+    *up = 0;
+    if (block_length != BLOCK) return 17;
+    *up = (block[AT_FLAGS] & block[AT_MASK] & FLAGS) != 0;
     return 0;
 }

@@ -1,4 +1,4 @@
-/* The reference engine: the six calls of include/tessla.h under names of their own, over the same state bytes. */
+/* The reference engine: the calls of include/tessla.h under names of their own, over the same state bytes. */
 #ifndef REFERENCE_ENGINE_H
 #define REFERENCE_ENGINE_H
 
@@ -8,6 +8,8 @@
 #define tessla_move ref_move
 #define tessla_run ref_run
 #define tessla_collect ref_collect
+#define tessla_register_write ref_register_write
+#define tessla_register_line ref_register_line
 #include "../../include/tessla.h"
 
 #endif

@@ -1,4 +1,7 @@
-/* What include/tessla.h says of a state's bytes without a call, against the calls; and its texts of the numbers. */
+/*
+ * What include/tessla.h says of a state's bytes without a call, against the calls; its places, commands and flags, against writes
+ * to a block; and its texts of the numbers.
+ */
 #include <stdio.h>
 #include <string.h>
 
@@ -7,6 +10,7 @@
 #include "../../examples/logger_plan.h"
 
 static uint8_t state[TESSLA_STATE_LENGTH];
+static uint8_t block[TESSLA_BLOCK_LENGTH];
 static int faults;
 
 static void expect(int holds, const char *what, uint32_t at) {
@@ -35,6 +39,135 @@ static void look(uint32_t n) {
     }
 }
 
+/* the sum of the bounds grows exactly with the moves that are made, and with an offer that makes an input known further */
+static void look_at_bounds(void) {
+    uint32_t moves, stamp;
+    int64_t value;
+    uint64_t before;
+    expect(tessla_load(state, sizeof state, (const uint8_t *)PLAN, sizeof PLAN - 1) == TESSLA_DONE, "load", 0);
+    expect(tessla_bounds(state) == 0, "the bounds of a fresh state", 0);
+    expect(tessla_offer_progress(state, sizeof state, THERMOMETER, TESSLA_HORIZON) == TESSLA_DONE, "progress", 0);
+    expect(tessla_bounds(state) == TESSLA_HORIZON, "one bound at the horizon", 0);
+    for (uint32_t t = 1; t <= 40; t++) {
+        before = tessla_bounds(state);
+        expect(tessla_offer_reading(state, sizeof state, BALANCE, 5 * t, 300) == TESSLA_DONE, "a reading", t);
+        expect(tessla_bounds(state) == before + (t == 1 ? 6 : 5), "the bounds after a reading", t);
+        for (uint32_t i = 0; i < t; i++) {
+            before = tessla_bounds(state);
+            expect(tessla_run(state, sizeof state, i, &moves) == TESSLA_DONE, "run", i);
+            uint64_t more = tessla_bounds(state) - before;
+            expect(moves == 0 ? more == 0 : more >= moves, "the bounds after a run", i);
+        }
+        before = tessla_bounds(state);
+        tessla_collect(state, sizeof state, WEIGHT, &stamp, &value);
+        expect(tessla_bounds(state) == before, "the bounds after a collect", t);
+    }
+}
+
+static uint32_t write(uint32_t at, uint8_t byte) {
+    return tessla_register_write(state, sizeof state, block, sizeof block, at, byte);
+}
+
+/* a number into the block, and out of it, the least byte first */
+static void write_number(uint32_t at, uint32_t bytes, uint64_t x) {
+    for (uint32_t i = 0; i < bytes; i++) expect(write(at + i, (uint8_t)(x >> 8 * i)) == TESSLA_DONE, "a plain write", at + i);
+}
+
+static uint64_t number_at(uint32_t at, uint32_t bytes) {
+    uint64_t x = 0;
+    while (bytes--) x = x << 8 | block[at + bytes];
+    return x;
+}
+
+/* a command returns this number, and leaves it as the status and these flags */
+static void command_is(enum tessla_command command, uint32_t number, uint8_t flags) {
+    expect(write(TESSLA_AT_COMMAND, (uint8_t)command) == number, "the number of a command", command);
+    expect(block[TESSLA_AT_COMMAND] == command, "the command", command);
+    expect(block[TESSLA_AT_STATUS] == number, "the status after a command", command);
+    expect(block[TESSLA_AT_FLAGS] == flags, "the flags after a command", command);
+}
+
+/* what is written at a place by its name goes where the header says, and so does what a command leaves */
+static void look_at_places(void) {
+    uint32_t up, stamp = 0x01020304;
+    int64_t value = -0x0102030405060708;
+    const uint8_t both = TESSLA_FLAG_REFUSED | TESSLA_FLAG_WAITS;
+    const char NEG[] = "plan=1\nstreams=2\nop=in\na=0\nb=0\nk=0\nout=0\nop=neg\na=0\nb=0\nk=0\nout=1\n";
+    expect(tessla_load(state, sizeof state, (const uint8_t *)NEG, sizeof NEG - 1) == TESSLA_DONE, "load", 0);
+    memset(block, 0, sizeof block);
+
+    /* a reading offered by the three numbers is the one that comes out, with value and reply stamp at their places */
+    expect(write(TESSLA_AT_MASK, both) == TESSLA_DONE && block[TESSLA_AT_MASK] == both, "the mask", 0);
+    write_number(TESSLA_AT_STREAM, 4, 0);
+    write_number(TESSLA_AT_STAMP, 4, stamp);
+    write_number(TESSLA_AT_VALUE, 8, (uint64_t)value);
+    command_is(TESSLA_COMMAND_OFFER, TESSLA_DONE, 0);
+    command_is(TESSLA_COMMAND_OFFER, TESSLA_TOO_EARLY, TESSLA_FLAG_REFUSED);
+    command_is(TESSLA_COMMAND_RUN, TESSLA_DONE, both);
+    command_is(TESSLA_COMMAND_OFFER, TESSLA_TOO_EARLY, both);
+    expect(write(TESSLA_AT_FLAGS, TESSLA_FLAG_REFUSED) == TESSLA_DONE, "a write to the flags", 0);
+    expect(block[TESSLA_AT_FLAGS] == TESSLA_FLAG_WAITS, "the one flag cleared", 0);
+    write_number(TESSLA_AT_STREAM, 4, 1);
+    write_number(TESSLA_AT_STAMP, 4, 7); /* which a collect neither looks at nor changes */
+    command_is(TESSLA_COMMAND_COLLECT, TESSLA_DONE, TESSLA_FLAG_WAITS);
+    /* refused, it leaves them; the second flag is not set, now that nothing waits */
+    for (int turn = 0; turn < 2; turn++) {
+        expect(number_at(TESSLA_AT_STREAM, 4) == 1 && number_at(TESSLA_AT_STAMP, 4) == 7, "stream and stamp", 0);
+        expect(number_at(TESSLA_AT_REPLY, 4) == stamp, "the reply stamp", 0);
+        expect((int64_t)number_at(TESSLA_AT_VALUE, 8) == -value, "the value", 0);
+        expect(write(TESSLA_AT_FLAGS, both) == TESSLA_DONE && block[TESSLA_AT_FLAGS] == 0, "both flags cleared", 0);
+        command_is(TESSLA_COMMAND_COLLECT, TESSLA_NOTHING, TESSLA_FLAG_REFUSED);
+    }
+
+    /* every byte of the block, and some behind, with the flags set and not: what a write there does */
+    for (uint32_t i = 0; i < 80; i++) {
+        uint32_t at = i / 2;
+        uint8_t was[TESSLA_BLOCK_LENGTH], fill = i % 2 ? 0x58 : 0x5B;
+        int stored = at < TESSLA_AT_COMMAND || at == TESSLA_AT_MASK;
+        memset(block, fill, sizeof block);
+        memcpy(was, block, sizeof was);
+        uint32_t number = write(at, 0xFF);
+        if (stored) was[at] = 0xFF;
+        else if (at == TESSLA_AT_FLAGS) was[at] = 0x58;
+        else was[TESSLA_AT_STATUS] = TESSLA_BAD_WRITE, was[TESSLA_AT_FLAGS] |= TESSLA_FLAG_REFUSED;
+        expect(number == (stored || at == TESSLA_AT_FLAGS ? TESSLA_DONE : TESSLA_BAD_WRITE), "the number of a write", at);
+        expect(memcmp(block, was, sizeof was) == 0, "the block after a write", at);
+    }
+
+    /* all flags and masks: a flag that is in the mask takes the line up, and the other bits do not */
+    for (uint32_t i = 0; i < 65536; i++) {
+        uint8_t flags = (uint8_t)i, mask = (uint8_t)(i >> 8);
+        uint32_t refused = flags & TESSLA_FLAG_REFUSED && mask & TESSLA_FLAG_REFUSED;
+        uint32_t waits = flags & TESSLA_FLAG_WAITS && mask & TESSLA_FLAG_WAITS;
+        block[TESSLA_AT_FLAGS] = flags;
+        block[TESSLA_AT_MASK] = mask;
+        expect(tessla_register_line(block, sizeof block, &up) == TESSLA_DONE && up == (refused || waits), "the line", i);
+    }
+    for (uint32_t n = 0; n < 40; n++) {
+        uint8_t longer[40] = { 0 };
+        uint32_t wanted = n == TESSLA_BLOCK_LENGTH ? TESSLA_DONE : TESSLA_BAD_WRITE;
+        expect(tessla_register_write(state, sizeof state, longer, n, TESSLA_AT_MASK, both) == wanted, "the block's length", n);
+        expect(longer[TESSLA_AT_MASK] == (wanted ? 0 : both), "a block of another length", n);
+        expect(tessla_register_line(longer, n, &up) == wanted && up == 0, "the block's length at the line", n);
+    }
+}
+
+/* command 3 is a run of 64: it leaves the state that the call leaves, where there are more moves to make */
+static void look_at_a_run(void) {
+    static uint8_t copy[TESSLA_STATE_LENGTH];
+    uint32_t moves = 0;
+    expect(tessla_load(state, sizeof state, (const uint8_t *)PLAN, sizeof PLAN - 1) == TESSLA_DONE, "load", 0);
+    expect(tessla_offer_reading(state, sizeof state, THERMOMETER, 0, 200) == TESSLA_DONE, "a reading", 0);
+    expect(tessla_offer_progress(state, sizeof state, THERMOMETER, TESSLA_HORIZON) == TESSLA_DONE, "progress", 0);
+    for (uint32_t t = 1; t <= 16; t++)
+        expect(tessla_offer_reading(state, sizeof state, BALANCE, t, 300) == TESSLA_DONE, "a reading", t);
+    memcpy(copy, state, sizeof copy);
+    expect(tessla_run(copy, sizeof copy, 64, &moves) == TESSLA_DONE && moves == 64, "64 moves to make", 0);
+    expect(write(TESSLA_AT_COMMAND, TESSLA_COMMAND_RUN) == TESSLA_DONE, "the run", 0);
+    expect(memcmp(state, copy, sizeof copy) == 0, "64 moves by a command", 0);
+    expect(tessla_run(copy, sizeof copy, 1, &moves) == TESSLA_DONE && moves == 1, "a move more to make", 0);
+}
+
 int main(void) {
     char text[TESSLA_TEXT_LIMIT + 1], version[16];
     uint32_t moves;
@@ -57,7 +190,11 @@ int main(void) {
     look(0);
     expect(!tessla_is_output(state, UINT32_MAX) && !tessla_is_output(state, 1u << 24), "a stream far out", 0);
 
-    for (uint32_t n = 0; n <= TESSLA_BAD_STATE; n++)
+    look_at_bounds();
+    look_at_places();
+    look_at_a_run();
+
+    for (uint32_t n = 0; n <= TESSLA_BAD_WRITE; n++)
         for (uint32_t m = 0; m < n; m++) expect(strcmp(tessla_text(n), tessla_text(m)) != 0, "one text for two numbers", n);
     expect(strcmp(tessla_text(16), "no number of this engine") == 0, "the text of no number", 16);
     sprintf(version, "%d.%d", TESSLA_VERSION_MAJOR, TESSLA_VERSION_MINOR);

@@ -25,7 +25,7 @@ use Rattle.layout.specs.Record.{Slot, Raws, noSlot, encode, decode, rowAt, slot
 use Rattle.encoding.specs.View.{slotOf, padTo, ofCell, rawsOf, bytesOf}
 use Rattle.encoding.specs.Sound.{IsValue, Rising, SoundCell, Sound}
 use Rattle.encoding.proofs.Widths.{value-back}
-use Rattle.preserve.proofs.Calls.{Offered, call-sound}
+use Rattle.preserve.proofs.Calls.{Offered, stamp-below, call-sound}
 use Rattle.roundtrip.specs.In.{stateIn, IsState}
 use Rattle.roundtrip.proofs.In.{bytes-are, sound, streams, raws, stays}
 use Rattle.readers.specs.Step.{offered}
@@ -153,6 +153,7 @@ pub record CollectDone (i : ℕ) (M : State) : Type 0 where
   pub event : Event
   pub slot : slotAt (waitingSlot (ofCell (cellAt M i))) (ofCell (cellAt M i)) ≡ slotOf event
   pub inside : waitingSlot (ofCell (cellAt M i)) < room
+  pub stamp : event .stamp < horizon
   pub value : IsValue (event .value)
   pub outcome : collect i M ≡ handOut (some event) i M
 
@@ -178,12 +179,19 @@ slots-in : (c : Cell) → ofCell c .slots ≡ padTo room noSlot (map slotOf (c .
 unfolding ofCell
 slots-in c = refl
 
+-- a collect that is done is of a stream that is there
+pub collect-stream : (i : ℕ) (M : State) → collect i M .number ≡ 0 → i < length M
+unfolding collect
+collect-stream i M e =
+    let c = cellAt M i in
+    out-there M i (not-false (c .out) (unless-zero (not (c .out)) 13 M (handOut (oldest (c .next) (c .held)) i M) (λ q. omega arith) e .0))
+
 pub collect-done : {cap : ℕ} (i : ℕ) (M : State) → Sound cap M → collect i M .number ≡ 0 → CollectDone i M
 unfolding collect
 collect-done i M snd e =
     let c = cellAt M i in
     let h = unless-zero (not (c .out)) 13 M (handOut (oldest (c .next) (c .held)) i M) (λ q. omega arith) e in
-    let l = out-there M i (not-false (c .out) (h .0)) in
+    let l = collect-stream i M e in
     let f = snd .each i l in
     go (waiting-is (c .next) room (c .held) (f .few)) l f (h .1) (ap (λ (o : Outcome). o .number) (sym (h .1)) ∙ e)
   where
@@ -198,11 +206,13 @@ collect-done i M snd e =
     go (waits x o g q) l f u d =
         let j = slot-in c (f .few) in
         let k = f .few in
+        let y = f .bound in
         record {
           there = l;
           event = x;
           slot = ap₂ (λ (m : ℕ) (sl : List Slot). getD sl m noSlot) j (slots-in c) ∙ q;
           inside = rw j (omega arith);
+          stamp = omega (arith, stamp-below (c .next) 0 (c .bound) (c .held) x (f .held) o);
           value = oldest-value (c .next) 0 (c .bound) (c .held) x (f .held) o;
           outcome = u ∙ ap (λ (y : Option Event). handOut y i M) o;
         }
@@ -296,7 +306,7 @@ module _ (s : List ℕ) (b : Bytes s) (n : ℕ) (ok : IsState s n) where
   -- ---- collect
 
   module _ (i : ℕ) (k : ℕ) (q : k ≡ collectRaw n (decode n s) i) where
-    collect-k : k ≡ collect i (stateIn s) .number
+    pub collect-k : k ≡ collect i (stateIn s) .number
     collect-k = raw-number (λ m r. collectRaw m r i) (λ M. collect i M .number) (collect-number (length s) (stateIn s) i few-at) k q
 
     pub collect-refused : (k ≡ 0 → ⊥) → plain k s ≡ replyIn (collecting i) s

@@ -1,6 +1,1 @@
-pub mod Replies
 pub mod Loads
-pub mod Refused
-pub mod Taking
-pub mod Whole
-pub mod NoPlan

@@ -5,6 +5,7 @@ use mathlib.Core.Bool.{Bool, true, false, cond}
 use mathlib.Core.List.{List}
 use lib.Dec.{ltb}
 use lib.ListN.{length}
+use lib.IntN.{pos}
 use borrow.Author.Tests.{eq-eqb, ne-eqb, ltb-true, lt-ltb, le-ltb}
 use native.Mathlib.Omega.{arith}
 use native.Mathlib.Decide.{ℕ-discrete}
@@ -17,7 +18,7 @@ use Rattle.plan.proofs.Taken.{taken-rendered}
 use Rattle.load.specs.Filled.{filled}
 use Rattle.load.proofs.Taken.{taken-filled}
 use Rattle.load.proofs.Fresh.{loaded-sound}
-use Rattle.engine.specs.Reply.{notState}
+use Rattle.calls.specs.Reply.{notState}
 use Rattle.engine.specs.Load.{loadOf, loadReply}
 
 -- most is the capacity of the buffer
@@ -73,6 +74,17 @@ load-refused text s = by (ltb 0 (capacity (length s)))
     by : (x : Bool) → (cond x (loadOf (number most text) text s) (notState s) .number ≡ 0 → ⊥) → cond x (loadOf (number most text) text s) (notState s) .buffer ≡ s
     by true e = full (number most text) e
     by false e = refl
+
+-- a load has no results
+pub load-results : (text s : List ℕ) → (loadReply text s .moves ≡ 0) × (loadReply text s .stamp ≡ 0) × (loadReply text s .value ≡ pos 0)
+unfolding loadReply
+load-results text s = go (ltb 0 (capacity (length s)))
+  where
+    go : (x : Bool) → (cond x (loadOf (number (capacity (length s)) text) text s) (notState s) .moves ≡ 0)
+        × (cond x (loadOf (number (capacity (length s)) text) text s) (notState s) .stamp ≡ 0)
+        × (cond x (loadOf (number (capacity (length s)) text) text s) (notState s) .value ≡ pos 0)
+    go true = (refl, refl, refl)
+    go false = (refl, refl, refl)
 
 -- a load leaves the buffer as long as it was
 pub load-length : (text s : List ℕ) → length (loadReply text s .buffer) ≡ length s

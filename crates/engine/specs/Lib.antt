@@ -1,5 +1,1 @@
-pub mod Reply
 pub mod Load
-pub mod Demands
-pub mod Inside
-pub mod NoPlan

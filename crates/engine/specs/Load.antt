@@ -8,8 +8,7 @@ use Rattle.machine.specs.State.{loaded}
 use Rattle.encoding.specs.View.{bytesOf}
 use Rattle.operators.specs.Limits.{capacity}
 use Rattle.plan.specs.Rules.{number, declared}
-use Rattle.calls.specs.Reply.{Reply, plain}
-use Rattle.engine.specs.Reply.{notState}
+use Rattle.calls.specs.Reply.{Reply, plain, notState}
 
 -- the fresh state of the streams that the text declares; on any other number the buffer stays
 abbrev pub loadOf : ℕ → List ℕ → List ℕ → Reply

@@ -1,9 +1,11 @@
-// The calls that the firmware links. Each works on a lent state, asks nothing of its caller, and is promised equal to the
-// definition `reply`: its number, its results and the buffer it leaves.
+// The calls that the firmware links. Each works on lent buffers, asks nothing of its caller, and is promised equal to a
+// definition (`loadReply`, `reply`, `write`, `line`): its number, its results and the buffers it leaves.
 ghost use mathlib.Core.Path.{_≡_};
+ghost use Rattle.block.specs.Block as board;
+ghost use Rattle.registers.specs.Write.{write};
 ghost use Rattle.machine.specs.Calls.{reading, progress, moving, running, collecting};
 ghost use Rattle.engine.specs.Load.{loadReply};
-ghost use Rattle.engine.specs.Reply.{reply};
+ghost use Rattle.calls.specs.Reply.{reply};
 use operators::Plan;
 use valid::Tested;
 
@@ -101,4 +103,28 @@ pub extern "C" fn tessla_run(state: &mut [u8], n: u32, moves: &mut u32) -> u32
             15
         }
     }
+}
+
+// Writes a byte of the reader board's block; writing the command starts it.
+#[no_mangle]
+pub extern "C" fn tessla_register_write(
+    state: &mut [u8],
+    block: &mut [u8],
+    at: u32,
+    byte: u8,
+) -> u32
+    ensures number { λ r. ⌜ r ≡ write (now (state .entry)) (now (block .entry)) at byte .number ⌝ }
+    ensures block { λ _. ⌜ now (block .exit) ≡ write (now (state .entry)) (now (block .entry)) at byte .block ⌝ }
+    ensures buffer { λ _. ⌜ now (state .exit) ≡ write (now (state .entry)) (now (block .entry)) at byte .state ⌝ }
+{
+    registers::write(state, block, at, byte)
+}
+
+// Whether the board's line is up.
+#[no_mangle]
+pub extern "C" fn tessla_register_line(block: &[u8], up: &mut u32) -> u32
+    ensures number { λ r. ⌜ r ≡ board.line (now (block .entry)) .number ⌝ }
+    ensures up { λ _. ⌜ now (up .exit) ≡ board.line (now (block .entry)) .up ⌝ }
+{
+    block::line(block, up)
 }

@@ -8,8 +8,8 @@ use lib.Dec.{eqb}
 use Rattle.meaning.specs.Events.{Event}
 use Rattle.machine.specs.Calls.{Call, reading, progress, moving, running, collecting}
 use Rattle.runs.specs.Seen.{Seen, readingOf, boundOf, accepted, knownFrom}
-use Rattle.engine.specs.Reply.{reply}
-use Rattle.engine.proofs.Whole.{seenBy}
+use Rattle.calls.specs.Reply.{reply}
+use Rattle.histories.proofs.Whole.{seenBy}
 use Rattle.printer.specs.Print.{eventText}
 use Rattle.replaying.specs.Session.{lineIn, printedOf, otherIn, othersOf}
 use Rattle.ordered.specs.Ordered.{readingsOf, boundFrom, DoneIn, OffersDone, EventLines, none, event}

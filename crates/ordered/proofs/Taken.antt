@@ -23,20 +23,20 @@ use Rattle.runs.proofs.Claimed.{shape, known-is}
 use Rattle.operators.specs.Limits.{capacity}
 use Rattle.operators.proofs.Sizes.{capacity-few}
 use Rattle.plan.specs.Rules.{declared}
-use Rattle.calls.specs.Reply.{Reply}
-use Rattle.engine.specs.Reply.{reply}
+use Rattle.calls.specs.Reply.{Reply, reply, leftBy}
 use Rattle.engine.specs.Load.{loadReply}
-use Rattle.engine.specs.Demands.{seenIn, leftBy}
-use Rattle.engine.specs.Inside.{Inside}
+use Rattle.histories.specs.Demands.{seenIn}
+use Rattle.histories.specs.Inside.{Inside}
 use Rattle.engine.proofs.Loads.{load-length}
-use Rattle.engine.proofs.Whole.{rules-keep, seenBy, load-then}
+use Rattle.histories.proofs.Whole.{rules-keep, seenBy, load-then}
 use Rattle.trace.specs.declared.Record.{Record}
 use Rattle.trace.specs.declared.Record.the-variants.{Reading, Progress}
 use Rattle.replaying.specs.declared.Place.the-variants.{Rest}
 use Rattle.replaying.specs.Replay.{callOf, refusal, Prints, start}
 use Rattle.replaying.specs.Session.{Replays, ends, goes, lineIn, printedOf, otherIn, othersOf}
 use Rattle.replaying.specs.Whole.{Lines, end, Printed, refused, played}
-use Rattle.replaying.proofs.Bytes.{Fine, state-bytes, reply-fine}
+use Rattle.calls.proofs.Bytes.{state-bytes}
+use Rattle.replaying.proofs.Bytes.{Fine, reply-fine}
 use Rattle.replaying.proofs.Made.{buffer-append, printed-append, offers-append, typed-append, Made, made-one, Still, prints-made}
 use Rattle.replaying.proofs.Told.{still-rest}
 use Rattle.replaying.proofs.True.{lines-typed}

@@ -157,7 +157,7 @@ run-sound {cap} (suc n) M ok = go (ltb (lowest M) (length M)) refl (λ h. run-so
     go true e rec = rw (run-more n M e) (let l = ltb-true (lowest M) (length M) e in rec (move-sound M ok (lowest M) l (lowest-can M l)))
     go false e rec = rw (run-ends n M e) ok
 
-stamp-below : (w lo top : ℕ) (es : List Event) (x : Event) → Rising lo top es → oldest w es ≡ some x → suc (x .stamp) ≤ top
+pub stamp-below : (w lo top : ℕ) (es : List Event) (x : Event) → Rising lo top es → oldest w es ≡ some x → suc (x .stamp) ≤ top
 stamp-below w lo top [] x r q = let z : _≡_ {A = ℕ} 0 1 = cc in absurd (omega arith)
 stamp-below w lo top (y ∷ es) x r q = go (leb w (y .stamp)) q (λ h. stamp-below w (suc (y .stamp)) top es x (r .2) h)
   where

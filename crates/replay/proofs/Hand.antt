@@ -9,7 +9,7 @@ use native.Mathlib.Omega.{arith}
 use lib.ListN.{length, take, drop, length-append, length-drop, take-append-drop}
 use lib.Seq.{drop-cons, drop-append-le, drop-drop, drop-length, take-take, length-take-le}
 use Rattle.le.proofs.RoundTrip.{drop-take}
-use Rattle.engine.specs.Reply.{reply}
+use Rattle.calls.specs.Reply.{reply}
 use Rattle.trace.specs.declared.Record.{Record}
 use Rattle.trace.specs.declared.Line.the-variants as found
 use Rattle.trace.specs.Trace.{line}

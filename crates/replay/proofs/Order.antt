@@ -3,7 +3,7 @@ use Prim.Native.Nat.{ℕ}
 use mathlib.Core.Path.{_≡_, sym, subst}
 use mathlib.Core.Bool.{true, false≢true}
 use mathlib.Core.List.{List, [], _∷_, _++_, append-assoc}
-use Rattle.engine.specs.Reply.{reply}
+use Rattle.calls.specs.Reply.{reply}
 use Rattle.trace.specs.declared.Record.{Record}
 use Rattle.replaying.specs.declared.Place.{Place}
 use Rattle.replaying.specs.declared.Place.the-variants.{Run, Collect, Rest}

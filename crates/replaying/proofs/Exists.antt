@@ -6,7 +6,7 @@ use mathlib.Core.List.{List, [], _∷_, _++_}
 use native.Mathlib.Omega.{arith}
 use lib.ListN.{length, drop, length-drop}
 use Rattle.operators.specs.Limits.{capacity}
-use Rattle.engine.specs.Reply.{reply}
+use Rattle.calls.specs.Reply.{reply}
 use Rattle.engine.specs.Load.{loadReply}
 use Rattle.trace.specs.declared.Record.{Record}
 use Rattle.trace.specs.declared.Line.{Line}

@@ -7,8 +7,7 @@ use native.Mathlib.Omega.{arith}
 use lib.Dec.{eqb}
 use lib.ListN.{length, take}
 use Rattle.machine.specs.Calls.{running, collecting}
-use Rattle.calls.specs.Reply.{Reply}
-use Rattle.engine.specs.Reply.{reply}
+use Rattle.calls.specs.Reply.{Reply, reply}
 use Rattle.printer.specs.Print.{eventText, eventRoom}
 use Rattle.decimal.proofs.Puts.{put-take, put-length}
 use Rattle.printer.proofs.Lines.{event-most}

@@ -8,10 +8,9 @@ use native.Mathlib.Decide.{decLt, ℕ-discrete}
 use lib.Dec.{eqb}
 use Rattle.machine.specs.Calls.{Call, running, collecting}
 use Rattle.runs.specs.Seen.{Typed, AllTyped}
-use Rattle.calls.specs.Reply.{Reply}
-use Rattle.engine.specs.Reply.{reply}
-use Rattle.engine.specs.Demands.{seenIn, leftBy}
-use Rattle.engine.proofs.Whole.{seenBy}
+use Rattle.calls.specs.Reply.{Reply, reply, leftBy}
+use Rattle.histories.specs.Demands.{seenIn}
+use Rattle.histories.proofs.Whole.{seenBy}
 use Rattle.trace.specs.declared.Record.{Record}
 use Rattle.trace.specs.declared.Record.the-variants.{Reading, Progress}
 use Rattle.printer.specs.Print.{eventText}

@@ -9,8 +9,8 @@ use native.Mathlib.Nat.{mul-le-mul-right}
 use native.Mathlib.Decide.{decLt, ℕ-discrete}
 use Rattle.le.specs.Bytes.{Bytes}
 use Rattle.machine.specs.Calls.{running, collecting}
-use Rattle.engine.specs.Reply.{reply}
-use Rattle.engine.proofs.Replies.{reply-none}
+use Rattle.calls.specs.Reply.{reply}
+use Rattle.calls.proofs.Answers.{reply-none}
 use Rattle.resting.specs.Left.{left}
 use Rattle.resting.proofs.Bytes.{run-left, collect-left}
 use Rattle.replaying.specs.declared.Place.{Place}

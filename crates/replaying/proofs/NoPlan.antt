@@ -12,10 +12,9 @@ use Rattle.operators.specs.Limits.{capacity}
 use Rattle.operators.proofs.Sizes.{capacity-fits}
 use Rattle.layout.specs.Record.{outF}
 use Rattle.valid.proofs.Link.{byte-in}
-use Rattle.calls.specs.Reply.{Reply, plain}
-use Rattle.engine.specs.Reply.{reply}
-use Rattle.engine.specs.NoPlan.{zeros}
-use Rattle.engine.proofs.NoPlan.{no-plan}
+use Rattle.calls.specs.Reply.{Reply, plain, reply}
+use Rattle.histories.specs.NoPlan.{zeros}
+use Rattle.histories.proofs.NoPlan.{no-plan}
 use Rattle.trace.specs.declared.Record.{Record}
 use Rattle.trace.specs.declared.Record.the-variants.{Reading, Progress}
 use Rattle.replaying.specs.declared.Place.{Place}

@@ -6,7 +6,7 @@ use native.Mathlib.Omega.{arith}
 use lib.ListN.{length, drop}
 use Rattle.operators.specs.Limits.{capacity}
 use Rattle.lines.specs.Form.{skip}
-use Rattle.engine.specs.Reply.{reply}
+use Rattle.calls.specs.Reply.{reply}
 use Rattle.engine.specs.Load.{loadReply}
 use Rattle.trace.specs.declared.Record.{Record}
 use Rattle.trace.specs.declared.Line.the-variants.{Read}

@@ -19,8 +19,8 @@ use Rattle.valid.specs.Valid.{count, valid}
 use Rattle.roundtrip.specs.In.{stateIn}
 use Rattle.roundtrip.proofs.Whole.{state-length, decoded}
 use Rattle.refine.proofs.Whole.{row-of}
-use Rattle.engine.specs.Reply.{reply}
-use Rattle.engine.proofs.Replies.{reply-outcome, reply-none}
+use Rattle.calls.specs.Reply.{reply}
+use Rattle.calls.proofs.Answers.{reply-outcome, reply-none}
 use Rattle.replaying.specs.Replay.{isOutput, nextOutput}
 use Rattle.replaying.proofs.Bytes.{Fine}
 

@@ -26,14 +26,14 @@ use Rattle.operators.specs.Limits.{capacity}
 use Rattle.operators.proofs.Sizes.{capacity-few}
 use Rattle.plan.specs.Rules.{declared}
 use Rattle.engine.specs.Load.{loadReply}
-use Rattle.engine.specs.Demands.{leftBy}
-use Rattle.engine.specs.Inside.{Inside}
+use Rattle.histories.specs.Inside.{Inside}
 use Rattle.engine.proofs.Loads.{load-length}
-use Rattle.engine.proofs.Whole.{rules-keep, seenBy, load-then}
+use Rattle.calls.specs.Reply.{leftBy}
+use Rattle.histories.proofs.Whole.{rules-keep, seenBy, load-then}
 use Rattle.trace.specs.declared.Record.{Record}
 use Rattle.replaying.specs.Replay.{callOf, allMoves}
 use Rattle.replaying.specs.Session.{Replays, printedOf, Told}
-use Rattle.replaying.proofs.Bytes.{state-bytes}
+use Rattle.calls.proofs.Bytes.{state-bytes}
 use Rattle.replaying.proofs.Made.{Still, replays-made}
 
 module _ (text s : List ℕ) (done : loadReply text s .number ≡ 0) where

@@ -8,8 +8,7 @@ use Rattle.le.specs.Bytes.{part}
 use Rattle.layout.specs.Record.{num, outF, decRaw}
 use Rattle.machine.specs.Reach.{least}
 use Rattle.machine.specs.Calls.{Call, reading, progress, running, collecting}
-use Rattle.calls.specs.Reply.{Reply}
-use Rattle.engine.specs.Reply.{reply}
+use Rattle.calls.specs.Reply.{Reply, reply}
 use Rattle.trace.specs.declared.Record.{Record}
 use Rattle.trace.specs.declared.Record.the-variants.{Reading, Progress}
 use Rattle.decimal.specs.Put.{Put}

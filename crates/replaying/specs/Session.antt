@@ -10,7 +10,7 @@ use Rattle.runs.specs.Seen.{Seen, AllTyped}
 use Rattle.runs.specs.Demand3.{AtRest}
 use Rattle.runs.specs.History.{log}
 use Rattle.runs.specs.Claim.{nextNumber, Claim}
-use Rattle.engine.specs.Reply.{reply}
+use Rattle.calls.specs.Reply.{reply}
 use Rattle.trace.specs.declared.Record.{Record}
 use Rattle.printer.specs.Print.{eventText}
 use Rattle.replaying.specs.declared.Place.the-variants.{Rest}

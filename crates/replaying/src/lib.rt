@@ -8,7 +8,7 @@ ghost use Rattle.printer.specs.Print.{eventRoom, refusedRoom};
 ghost use Rattle.replaying.specs.Replay.{Turned, Prints, callOf, refusal, allMoves, isOutput, nextOutput, toOutput, ran, collected, step};
 ghost use Rattle.replaying.specs.Rank.{isRest, rank};
 ghost use Rattle.replaying.specs.Whole.{lineText, lineState};
-ghost use Rattle.engine.specs.Reply.{reply};
+ghost use Rattle.calls.specs.Reply.{reply};
 ghost use Rattle.engine.specs.Load.{loadReply};
 ghost use Rattle.trace.specs.Trace.{line as Trace·line};
 ghost use Rattle.machine.specs.Calls.{running, collecting};

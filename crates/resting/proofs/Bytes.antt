@@ -15,8 +15,8 @@ use Rattle.valid.specs.Valid.{valid}
 use Rattle.roundtrip.specs.In.{stateIn}
 use Rattle.roundtrip.proofs.Whole.{valid-sound, bytes-state, bytes-count, bytes-valid}
 use Rattle.preserve.proofs.Calls.{call-sound}
-use Rattle.engine.specs.Reply.{reply}
-use Rattle.engine.proofs.Replies.{reply-outcome, reply-none}
+use Rattle.calls.specs.Reply.{reply}
+use Rattle.calls.proofs.Answers.{reply-outcome, reply-none}
 use Rattle.resting.specs.Left.{lack, left}
 use Rattle.resting.proofs.Lack.{run-lack, collect-lack}
 

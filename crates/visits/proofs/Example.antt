@@ -31,13 +31,12 @@ use Rattle.runs.specs.Claim.{seen, nextNumber, readings}
 use Rattle.runs.proofs.Numbers.{reading-number}
 use Rattle.runs.proofs.World.{Shape}
 use Rattle.runs.proofs.Claimed.{shape, known-is}
-use Rattle.calls.specs.Reply.{Reply}
-use Rattle.engine.specs.Reply.{reply}
+use Rattle.calls.specs.Reply.{Reply, reply, leftBy}
 use Rattle.engine.specs.Load.{loadReply}
-use Rattle.engine.specs.Demands.{seenIn, leftBy}
-use Rattle.engine.specs.Inside.{Inside}
+use Rattle.histories.specs.Demands.{seenIn}
+use Rattle.histories.specs.Inside.{Inside}
 use Rattle.engine.proofs.Loads.{load-length}
-use Rattle.engine.proofs.Whole.{rules-keep, seenBy, load-then}
+use Rattle.histories.proofs.Whole.{rules-keep, seenBy, load-then}
 use Rattle.decimal.specs.Decimal.{digits}
 use Rattle.trace.specs.declared.Record.the-variants.{Reading}
 use Rattle.trace.specs.Trace.{valueAfter, stampAfter, boundAfter, inputAfter, line}
@@ -47,7 +46,8 @@ use Rattle.replaying.specs.Replay.{Prints, start}
 use Rattle.replaying.specs.Session.{Replays, ends, goes, lineIn, printedOf, othersOf}
 use Rattle.replaying.specs.Whole.{Lines, none, more, end, Printed, refused, played}
 use Rattle.visits.specs.Example.{visits, trace, printed}
-use Rattle.replaying.proofs.Bytes.{Fine, state-bytes, reply-fine}
+use Rattle.calls.proofs.Bytes.{state-bytes}
+use Rattle.replaying.proofs.Bytes.{Fine, reply-fine}
 use Rattle.replaying.proofs.Outputs.{collect-output}
 use Rattle.replaying.proofs.Made.{buffer-append, printed-append, typed-append, Still, prints-made}
 use Rattle.replaying.proofs.Told.{plan, still-rest}

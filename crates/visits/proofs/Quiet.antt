@@ -9,9 +9,9 @@ use borrow.Author.Tests.{eqb-true, eq-eqb}
 use Rattle.meaning.specs.Events.{Event, ev}
 use Rattle.machine.specs.Calls.{Call, reading, progress, moving, running, collecting}
 use Rattle.runs.specs.Seen.{Seen, readingOf, boundOf, isCollect, accepted, knownFrom, handed}
-use Rattle.engine.specs.Reply.{reply}
-use Rattle.engine.specs.Demands.{seenIn, leftBy}
-use Rattle.engine.proofs.Whole.{seenBy}
+use Rattle.calls.specs.Reply.{reply, leftBy}
+use Rattle.histories.specs.Demands.{seenIn}
+use Rattle.histories.proofs.Whole.{seenBy}
 use Rattle.printer.specs.Print.{eventText}
 use Rattle.replaying.specs.Session.{lineIn, printedOf, othersOf}
 

@@ -10,6 +10,7 @@ extern "C" {
 
 const PAGE: usize = 4096;
 const MARK: u8 = 0xA5;
+static MARKS: [u8; PAGE] = [MARK; PAGE];
 
 /// A buffer between two pages that trap on every access. It ends right before the second one; what is left between it and
 /// the first one is filled with marks, which `untouched` looks at.
@@ -50,7 +51,7 @@ impl Guarded {
     pub fn untouched(&self) -> bool {
         // SAFETY: inside the open pages.
         let before = unsafe { std::slice::from_raw_parts(self.base.add(PAGE), self.start() - PAGE) };
-        before.iter().all(|&x| x == MARK)
+        *before == MARKS[..before.len()]
     }
 }
 

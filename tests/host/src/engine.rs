@@ -1,6 +1,7 @@
-//! A safe wrapper around the C interface, the same for both engines: a table of six functions over a lent state.
+//! A safe wrapper around the C interface, the same for both engines: a table of functions over a lent state and a lent block.
 
 pub const STATE_LENGTH: usize = 12_288;
+pub const BLOCK_LENGTH: usize = 24;
 
 type Load = unsafe extern "C" fn(*mut u8, u64, *const u8, u64) -> u32;
 type OfferReading = unsafe extern "C" fn(*mut u8, u64, u32, u32, i64) -> u32;
@@ -8,6 +9,8 @@ type OfferProgress = unsafe extern "C" fn(*mut u8, u64, u32, u64) -> u32;
 type Move = unsafe extern "C" fn(*mut u8, u64, u32) -> u32;
 type Run = unsafe extern "C" fn(*mut u8, u64, u32, *mut u32) -> u32;
 type Collect = unsafe extern "C" fn(*mut u8, u64, u32, *mut u32, *mut i64) -> u32;
+type RegisterWrite = unsafe extern "C" fn(*mut u8, u64, *mut u8, u64, u32, u8) -> u32;
+type RegisterLine = unsafe extern "C" fn(*const u8, u64, *mut u32) -> u32;
 
 extern "C" {
     fn ref_load(state: *mut u8, state_length: u64, text: *const u8, text_length: u64) -> u32;
@@ -16,6 +19,8 @@ extern "C" {
     fn ref_move(state: *mut u8, state_length: u64, stream: u32) -> u32;
     fn ref_run(state: *mut u8, state_length: u64, n: u32, moves: *mut u32) -> u32;
     fn ref_collect(state: *mut u8, state_length: u64, stream: u32, stamp: *mut u32, value: *mut i64) -> u32;
+    fn ref_register_write(state: *mut u8, state_length: u64, block: *mut u8, block_length: u64, at: u32, byte: u8) -> u32;
+    fn ref_register_line(block: *const u8, block_length: u64, up: *mut u32) -> u32;
 
     fn tessla_load(state: *mut u8, state_length: u64, text: *const u8, text_length: u64) -> u32;
     fn tessla_offer_reading(state: *mut u8, state_length: u64, stream: u32, stamp: u32, value: i64) -> u32;
@@ -23,6 +28,8 @@ extern "C" {
     fn tessla_move(state: *mut u8, state_length: u64, stream: u32) -> u32;
     fn tessla_run(state: *mut u8, state_length: u64, n: u32, moves: *mut u32) -> u32;
     fn tessla_collect(state: *mut u8, state_length: u64, stream: u32, stamp: *mut u32, value: *mut i64) -> u32;
+    fn tessla_register_write(state: *mut u8, state_length: u64, block: *mut u8, block_length: u64, at: u32, byte: u8) -> u32;
+    fn tessla_register_line(block: *const u8, block_length: u64, up: *mut u32) -> u32;
 }
 
 #[derive(Clone, Copy)]
@@ -34,6 +41,8 @@ pub struct Engine {
     move_one: Move,
     run: Run,
     collect: Collect,
+    register_write: RegisterWrite,
+    register_line: RegisterLine,
 }
 
 /// The plain C engine.
@@ -45,6 +54,8 @@ pub const REFERENCE: Engine = Engine {
     move_one: ref_move,
     run: ref_run,
     collect: ref_collect,
+    register_write: ref_register_write,
+    register_line: ref_register_line,
 };
 
 /// The proved library.
@@ -56,6 +67,8 @@ pub const LIBRARY: Engine = Engine {
     move_one: tessla_move,
     run: tessla_run,
     collect: tessla_collect,
+    register_write: tessla_register_write,
+    register_line: tessla_register_line,
 };
 
 /// Both engines, the library first.
@@ -120,5 +133,32 @@ impl Engine {
                 }
             }
         }
+    }
+
+    /// One byte written to the block, and the number that comes back.
+    pub fn write(&self, state: &mut [u8], block: &mut [u8], at: u32, byte: u8) -> u32 {
+        let lengths = (state.len() as u64, block.len() as u64);
+        self.write_claiming(state, block, lengths, at, byte)
+    }
+
+    /// The same with other lengths said of state and block: nothing behind such a pointer may be touched.
+    pub fn write_claiming(&self, state: &mut [u8], block: &mut [u8], lengths: (u64, u64), at: u32, byte: u8) -> u32 {
+        let own = |said: u64, slice: &[u8], right: usize| said == slice.len() as u64 || said != right as u64;
+        assert!(own(lengths.0, state, STATE_LENGTH) && own(lengths.1, block, BLOCK_LENGTH));
+        // SAFETY: both slices are borrowed for writing and do not overlap; a length that is not a slice's own is refused.
+        unsafe { (self.register_write)(state.as_mut_ptr(), lengths.0, block.as_mut_ptr(), lengths.1, at, byte) }
+    }
+
+    /// The number, and whether the line is up.
+    pub fn line(&self, block: &[u8]) -> (u32, u32) {
+        self.line_claiming(block, block.len() as u64)
+    }
+
+    pub fn line_claiming(&self, block: &[u8], length: u64) -> (u32, u32) {
+        assert!(length == block.len() as u64 || length != BLOCK_LENGTH as u64);
+        let mut up = STALE.moves;
+        // SAFETY: as above; the result is a local.
+        let number = unsafe { (self.register_line)(block.as_ptr(), length, &mut up) };
+        (number, up)
     }
 }

@@ -314,6 +314,12 @@ impl Found {
         self.records[s].held.retain(|t, _| *t as u64 >= waiting);
     }
 
+    /// Of an output: the oldest held event that is not collected.
+    pub fn waiting(&self, s: usize) -> Option<(u32, i64)> {
+        let record = &self.records[s];
+        record.held.iter().find(|(t, _)| **t as u64 >= record.mark).map(|(t, v)| (*t, *v))
+    }
+
     pub fn call(&mut self, call: Call) -> Answer {
         let refused = |number| Answer { number, ..Answer::default() };
         let n = self.plan.len();
@@ -347,11 +353,8 @@ impl Found {
                 if s as usize >= n || !self.plan[s as usize].out {
                     return refused(13);
                 }
-                let record = &mut self.records[s as usize];
-                let Some((t, v)) = record.held.iter().find(|(t, _)| **t as u64 >= record.mark).map(|(t, v)| (*t, *v)) else {
-                    return refused(14);
-                };
-                record.mark = t as u64 + 1;
+                let Some((t, v)) = self.waiting(s as usize) else { return refused(14) };
+                self.records[s as usize].mark = t as u64 + 1;
                 self.let_go(s as usize);
                 return Answer { stamp: t, value: v, ..Answer::default() };
             }

@@ -1,12 +1,13 @@
-//! A list of calls made on every engine at once, and what document 01's "Whole runs" says of it, worked out from the
-//! numbers and results that the calls returned.
+//! A list of calls made on every engine at once, directly or by writes to a block of registers, and what document 01's "Whole runs"
+//! says of it, worked out from the numbers and results that the calls returned.
 
 use crate::buffer::Lent;
-use crate::engine::{engines, Answer, Call, STATE_LENGTH};
+use crate::engine::{engines, Answer, Call, BLOCK_LENGTH, STATE_LENGTH};
 use crate::evaluator::{evaluate, Events, HORIZON};
 use crate::found::Found;
 use crate::plan::{text_of, Op, Plan};
 use crate::random::{seed, Random};
+use crate::registers::{line, writes, Act, Board, Direct};
 use crate::saved::Saved;
 
 /// Stamps that the evaluator may look at before a check is given up.
@@ -16,17 +17,19 @@ const MOST: usize = 20_000;
 pub struct Session {
     pub plan: Plan,
     pub states: Vec<Lent>,
+    pub blocks: Vec<Lent>,
     pub accepted: Vec<Events>,
     pub known: Vec<u64>,
     pub handed: Vec<Vec<(u32, i64)>>,
-    pub list: Vec<Call>,
+    pub list: Vec<Act>,
 }
 
 impl Session {
-    /// The list of no calls, over these states.
+    /// The list of no calls, over these states and blocks of zeros.
     pub fn begin(plan: &Plan, states: Vec<Lent>) -> Session {
         let n = plan.len();
-        Session { plan: plan.clone(), states, accepted: vec![Events::new(); n], known: vec![0; n], handed: vec![vec![]; n], list: vec![] }
+        let blocks = states.iter().map(|_| Lent::of(&[0; BLOCK_LENGTH])).collect();
+        Session { plan: plan.clone(), states, blocks, accepted: vec![Events::new(); n], known: vec![0; n], handed: vec![vec![]; n], list: vec![] }
     }
 
     pub fn load(plan: &Plan) -> Session {
@@ -60,7 +63,7 @@ impl Session {
     pub fn put_back(saved: &Saved) -> Session {
         let mut session = Session::begin(&saved.plan, engines().iter().map(|_| Lent::of(&saved.bytes)).collect());
         for (call, answer) in &saved.calls {
-            session.list.push(*call);
+            session.list.push(Act::Call(*call));
             session.note(*call, *answer);
         }
         session
@@ -69,6 +72,16 @@ impl Session {
     /// The state, the same in every engine.
     pub fn state(&self) -> &[u8] {
         &self.states[0]
+    }
+
+    /// The block, the same in every engine.
+    pub fn block(&self) -> &[u8] {
+        &self.blocks[0]
+    }
+
+    /// Other contents of every block, as the firmware may begin with.
+    pub fn set_block(&mut self, block: &[u8]) {
+        self.blocks = self.states.iter().map(|_| Lent::of(block)).collect();
     }
 
     pub fn story(&self) -> String {
@@ -86,7 +99,7 @@ impl Session {
 
     /// Makes the call on every engine: the same answer, the same state; a refusal has no results and leaves the state.
     pub fn call(&mut self, call: Call) -> Answer {
-        self.list.push(call);
+        self.list.push(Act::Call(call));
         let before = self.states[0].to_vec();
         let answers: Vec<Answer> =
             engines().iter().zip(&mut self.states).map(|(engine, state)| engine.call(state, call)).collect();
@@ -102,6 +115,44 @@ impl Session {
         assert!(self.states.iter().all(Lent::untouched), "written outside the state\n{}", self.story());
         self.note(call, answer);
         answer
+    }
+
+    /// Writes a byte to every engine's block: number, block and state are those that document 02 gives over direct calls on a copy
+    /// of the state. A command counts as its direct call.
+    pub fn write(&mut self, at: u32, byte: u8) -> u32 {
+        self.list.push(Act::Write(at, byte));
+        let mut ends = vec![];
+        for ((engine, state), block) in engines().into_iter().zip(&mut self.states).zip(&mut self.blocks) {
+            let mut board = Board { calls: Direct::on(engine, state), block: block.to_vec() };
+            let (wanted, number) = (board.write(at, byte), engine.write(state, block, at, byte));
+            let story = || format!("{}: {byte} written at {at}", engine.name);
+            assert_eq!((number, &block[..]), (wanted, &board.block[..]), "{}", story());
+            assert!(state[..] == board.calls.state[..], "{}: another state than the direct call's", story());
+            assert_eq!(engine.line(block), line(block), "{}", story());
+            assert!(state.untouched() && block.untouched(), "{}: written outside", story());
+            ends.push((number, board.calls.made));
+        }
+        self.same();
+        assert_eq!(ends[0], ends[1], "the engines differ\n{}", self.story());
+        assert!(self.blocks.iter().all(|block| block[..] == self.blocks[0][..]), "the engines' blocks differ\n{}", self.story());
+        let (number, made) = ends.swap_remove(0);
+        for (call, answer) in made {
+            self.note(call, answer);
+        }
+        number
+    }
+
+    pub fn act(&mut self, act: Act) -> Answer {
+        match act {
+            Act::Call(call) => self.call(call),
+            Act::Write(at, byte) => Answer { number: self.write(at, byte), ..Answer::default() },
+        }
+    }
+
+    /// A call by way of the block: its numbers are written where they differ, then the command. The number of the last write.
+    pub fn command(&mut self, call: Call) -> u32 {
+        let acts = writes(self.block(), call).unwrap_or_else(|| panic!("no command for {call:?}"));
+        acts.into_iter().map(|act| self.act(act).number).last().unwrap()
     }
 
     fn note(&mut self, call: Call, answer: Answer) {
@@ -223,4 +274,29 @@ pub fn any_call(random: &mut Random, session: &Session) -> Call {
         65..=79 => Call::Run(random.below(12) as u32),
         _ => Call::Collect(stream),
     }
+}
+
+/// One byte to any place of the block or outside it.
+pub fn any_write(random: &mut Random) -> Act {
+    const OUTSIDE: [u32; 10] = [24, 25, 31, 32, 255, 256 + 16, 65_536 + 16, (1 << 24) + 3, (1 << 31) + 16, u32::MAX];
+    let at = match random.below(20) {
+        0..=6 => random.below(16) as u32,
+        7..=11 => 16,
+        12..=13 => 18,
+        14..=15 => 19,
+        16..=18 => random.below(24) as u32,
+        _ => random.pick(&OUTSIDE),
+    };
+    let byte = if at == 16 && random.chance(85) { random.below(5) as u8 } else { random.next() as u8 >> random.below(8) };
+    Act::Write(at, byte)
+}
+
+/// A call of any kind, directly or by the writes of a board; or a write of any kind.
+pub fn any_acts(random: &mut Random, session: &Session) -> Vec<Act> {
+    if random.chance(6) {
+        return vec![any_write(random)];
+    }
+    let call = any_call(random, session);
+    let by_registers = if random.chance(20) { writes(session.block(), call) } else { None };
+    by_registers.unwrap_or(vec![Act::Call(call)])
 }

@@ -6,6 +6,10 @@ fn word(bytes: &[u8], at: usize) -> u64 {
     u64::from_le_bytes(bytes[at..at + 8].try_into().unwrap())
 }
 
+pub fn is_output(state: &[u8], stream: usize) -> bool {
+    state[RECORD * stream + 3] == 1
+}
+
 pub fn bound(state: &[u8], stream: usize) -> u64 {
     word(state, RECORD * stream + 16)
 }

@@ -1,5 +1,5 @@
 //! What the host tests share: the definition's evaluator, the two engines, a model on whole histories and one on any state,
-//! random plans.
+//! the block of registers over them, random plans.
 
 pub mod buffer;
 pub mod engine;
@@ -10,6 +10,7 @@ pub mod layout;
 pub mod model;
 pub mod plan;
 pub mod random;
+pub mod registers;
 pub mod replay;
 pub mod saved;
 pub mod worked;

@@ -128,6 +128,11 @@ impl Model {
         true
     }
 
+    /// Of an output: the oldest event that waits to be collected.
+    pub fn waiting(&self, s: usize) -> Option<(u32, i64)> {
+        self.events[s].iter().find(|(t, _)| **t as u64 >= self.mark[s]).map(|(t, v)| (*t, *v))
+    }
+
     pub fn call(&mut self, call: Call) -> Answer {
         let refused = |number| Answer { number, ..Answer::default() };
         let n = self.plan.len();
@@ -181,9 +186,7 @@ impl Model {
                     return refused(13);
                 }
                 let s = s as usize;
-                let Some((t, v)) = self.events[s].iter().find(|(t, _)| **t as u64 >= self.mark[s]).map(|(t, v)| (*t, *v)) else {
-                    return refused(14);
-                };
+                let Some((t, v)) = self.waiting(s) else { return refused(14) };
                 self.mark[s] = t as u64 + 1;
                 return Answer { stamp: t, value: v, ..Answer::default() };
             }

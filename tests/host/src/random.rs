@@ -47,6 +47,11 @@ impl Random {
         from[self.below(from.len() as u64) as usize]
     }
 
+    /// So many bytes of any contents.
+    pub fn bytes(&mut self, n: usize) -> Vec<u8> {
+        (0..n).map(|_| self.next() as u8).collect()
+    }
+
     /// Mostly small values, sometimes those at the edges.
     pub fn value(&mut self) -> i64 {
         match self.below(20) {

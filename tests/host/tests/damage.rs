@@ -1,14 +1,16 @@
-//! Texts and states damaged at random: the library's numbers, results and buffers are those of the plain C engine and, on
-//! states, of the model of any state; nothing is written on a refusal, nothing outside the lent buffers is touched.
+//! Texts, states and blocks of registers damaged at random: the library's numbers, results and buffers are those of the plain C
+//! engine and, on states and blocks, of the model of any state; a refusal writes nothing but what it says of the block, and nothing
+//! outside the lent buffers is touched.
 
 use host::buffer::Lent;
-use host::engine::{engines, Answer, Call, STATE_LENGTH};
+use host::engine::{engines, Answer, Call, BLOCK_LENGTH, STATE_LENGTH};
 use host::evaluator::HORIZON;
 use host::found::Found;
-use host::history::Session;
+use host::history::{any_write, Session};
 use host::model::Division;
 use host::plan::{parse, text_of};
 use host::random::{plan, rounds, seed, Random};
+use host::registers::{line, started, writes, Act, Board};
 use std::ops::RangeInclusive;
 
 fn damaged_text(random: &mut Random) -> Vec<u8> {
@@ -254,6 +256,28 @@ fn ahead(random: &mut Random, state: &mut [u8], streams: usize) {
     }
 }
 
+/// A block of any contents, and a write to it: mostly the command of a call whose numbers it holds, now and then damaged after
+/// they were written, or of another length.
+fn damaged_block(random: &mut Random, call: Call) -> (Vec<u8>, u32, u8) {
+    let mut block = random.bytes(BLOCK_LENGTH);
+    let mut acts = writes(&block, call).unwrap_or(vec![any_write(random)]);
+    if random.chance(10) {
+        acts.push(any_write(random));
+    }
+    let Some(Act::Write(at, byte)) = acts.pop() else { unreachable!("a write is the last") };
+    for act in acts {
+        if let Act::Write(at @ 0..=15, byte) = act {
+            block[at as usize] = byte;
+        }
+    }
+    match random.below(30) {
+        0 => block.resize(random.below(50) as usize, 0),
+        1..=3 => block[random.below(BLOCK_LENGTH as u64) as usize] = random.next() as u8,
+        _ => {}
+    }
+    (block, at, byte)
+}
+
 #[test]
 fn damaged_states() {
     // delays with events of their own: since below one past the newest, at it, above it; b's reading told at or above since,
@@ -266,7 +290,10 @@ fn damaged_states() {
     let mut down = 0u64;
     // buffers of zeros, which are the plan of no streams; a first stream alone in them; bytes behind a first byte that is 0
     let (mut zeros, mut alone, mut headless) = (0u64, 0u64, 0u64);
+    // writes: commands done, refused, refused 15, refused 17, others; an output that waits in the state left
+    let (mut written, mut waited) = ([0u64; 5], 0u64);
     let (mut good, mut bad, mut moves, mut done) = (0u64, 0u64, 0u64, [0u64; 5]);
+    let mut blocks = [Lent::of(&[0; BLOCK_LENGTH]), Lent::of(&[0; BLOCK_LENGTH])];
     for round in 0..rounds(15_000) {
         let mut random = Random::of(11, round);
         let plan = plan(&mut random, 12);
@@ -328,15 +355,35 @@ fn damaged_states() {
                     6..=7 => (3, Call::Run(random.below(20) as u32)),
                     _ => (4, Call::Collect(s)),
                 };
-                let answers: Vec<Answer> =
-                    engines().iter().zip(&mut states).map(|(engine, state)| engine.call(state, call)).collect();
-                let story = || format!("seed {} round {round}: {call:?} on\n{}", seed(), shown(&before, records));
+                // directly, or by a write to a block
+                let (block, act) = match random.chance(25).then(|| damaged_block(&mut random, call)) {
+                    None => (vec![0; BLOCK_LENGTH], Act::Call(call)),
+                    Some((block, at, byte)) => (block, Act::Write(at, byte)),
+                };
+                if block.len() != blocks[0].len() {
+                    blocks = [Lent::of(&block), Lent::of(&block)];
+                }
+                let answers: Vec<Answer> = engines()
+                    .iter()
+                    .zip(states.iter_mut().zip(&mut blocks))
+                    .map(|(engine, (state, lent))| {
+                        lent.copy_from_slice(&block);
+                        match act {
+                            Act::Call(call) => engine.call(state, call),
+                            Act::Write(at, byte) => Answer { number: engine.write(state, lent, at, byte), ..Answer::default() },
+                        }
+                    })
+                    .collect();
+                let story = || format!("seed {} round {round}: {act:?} on {block:?} and\n{}", seed(), shown(&before, records));
                 assert_eq!(answers[0], answers[1], "library and reference, {}", story());
                 let found = Found::read(&before);
-                let (wanted, after) = match found.clone() {
-                    None => (Answer { number: 15, ..Answer::default() }, before.clone()),
-                    Some(mut found) => (found.call(call), found.bytes()),
-                };
+                let mut board = Board { calls: found.clone(), block: block.clone() };
+                let wanted = board.act(act);
+                let after = board.calls.as_ref().map_or(before.clone(), Found::bytes);
+                for (engine, left) in engines().iter().zip(&blocks) {
+                    assert_eq!(left[..], board.block[..], "{} and model leave other blocks, {}", engine.name, story());
+                    assert!(left.untouched() && engine.line(left) == line(left), "{}, {}", engine.name, story());
+                }
                 assert_eq!(answers[0], wanted, "library and model, {}", story());
                 assert!(states[0][..] == after[..], "library and model leave other states, {}\nlibrary\n{}\nmodel\n{}", story(), shown(&states[0], records), shown(&after, records));
                 if before[0] == 0 {
@@ -345,9 +392,30 @@ fn damaged_states() {
                     assert_eq!(found.is_some(), before.iter().all(|&x| x == 0), "{}", story());
                 }
                 alone += (found.is_some() && before[0] != 0 && plan.is_empty()) as u64;
-                if let (Call::Move(_) | Call::Run(_), Some(found)) = (call, &found) {
+                // the call that it counts as
+                let command = match act {
+                    Act::Call(call) => Some(call),
+                    Act::Write(at, byte) => started(&block, at, byte),
+                };
+                if let (Some(made @ (Call::Move(_) | Call::Run(_))), Some(found)) = (command, &found) {
                     let mut toward_zero = Found { division: Division::TowardZero, ..found.clone() };
-                    down += (found.divides() && (toward_zero.call(call), toward_zero.bytes()) != (wanted, after.clone())) as u64;
+                    toward_zero.call(made);
+                    down += (found.divides() && toward_zero.bytes() != after) as u64;
+                }
+                if let Act::Write(..) = act {
+                    written[match (command, wanted.number) {
+                        (Some(_), 0) => 0,
+                        (Some(_), 15) => 2,
+                        (Some(_), _) => 1,
+                        (None, 17) => 3,
+                        (None, _) => 4,
+                    }] += 1;
+                    waited += (command.is_some() && block[18] & 2 == 0 && board.block[18] & 2 != 0) as u64;
+                    if command != Some(call) {
+                        // not the call that is counted below
+                        assert!(states[1][..] == after[..] && states.iter().all(Lent::untouched), "{}", story());
+                        continue;
+                    }
                 }
                 for d in (0..records).filter(|&d| before[256 * d] == 19) {
                     let newest = host::layout::held(&before, d).last().map(|(t, _)| *t as u64 + 1);
@@ -400,9 +468,11 @@ fn damaged_states() {
         seed()
     );
     println!("seed {}: signal forms, readings of an argument below the bound {untold}, events from a kept value {from_kept}, without meaning {unmeant}; moves and runs with a quotient that goes down {down}", seed());
+    println!("seed {}: writes, commands done {}, refused {}, refused 15 {}, refused 17 {}, others {}; found waiting {waited}", seed(), written[0], written[1], written[2], written[3], written[4]);
     println!("seed {}: calls on zeros {zeros}, on a first stream alone in them {alone}, on bytes behind a first byte that is 0 {headless}", seed());
     assert!(good > bad && moves > 0 && done.iter().all(|&count| count > 0));
     let reached = [below, at, above, edge, lower, before_since, untold, from_kept, unmeant, down, zeros, alone, headless];
+    let reached = [&reached[..], &written, &[waited]].concat();
     assert!(reached.iter().all(|&count| count > 0) || rounds(15_000) < 15_000, "a kind of state was never met: {reached:?}");
 }
 

@@ -1,13 +1,14 @@
-//! Random plans and random lists of calls: what document 01's "Whole runs" says, a model on whole histories, copies put
-//! back, the order of inputs, and full streams. Both engines make every call.
+//! Random plans and random lists of calls, some of them by writes to a block of registers: what document 01's "Whole runs" says, a
+//! model on whole histories, copies put back, the order of inputs, and full streams. Both engines make every call.
 
 use host::engine::Call;
 use host::evaluator::{evaluate, rounded, HORIZON};
-use host::history::{any_call, Session};
+use host::history::{any_acts, Session};
 use host::layout;
 use host::model::Model;
 use host::plan::{short, text_of, Op};
 use host::random::{plan, rounds, seed, Random};
+use host::registers::{Act, Board};
 
 /// Arguments lead from one stream to the other.
 fn reaches(plan: &[host::plan::Stream], from: usize, to: usize) -> bool {
@@ -23,20 +24,32 @@ fn reaches(plan: &[host::plan::Stream], from: usize, to: usize) -> bool {
     false
 }
 
-/// Every call's number, results, bounds, held events, marks and kept latest values are those of the model on whole histories.
+/// Every call's number, results, bounds, held events, marks and kept latest values are those of the model on whole histories, and so
+/// are every write's number and all bytes of the block.
 #[test]
 fn numbers_and_states_are_those_of_the_model_on_whole_histories() {
     let (mut calls, mut done, mut full, mut kept, mut down, mut empty) = (0u64, 0u64, 0u64, 0u64, 0u64, 0u64);
+    // commands done and refused, writes refused, others
+    let mut written = [0u64; 4];
     let all = rounds(5000);
     for round in 0..all {
         let mut random = Random::of(2, round);
         let plan = plan(&mut random, 12);
         let mut session = Session::load(&plan);
-        let mut model = Model::new(&plan);
-        for _ in 0..60 + random.below(80) {
-            let call = any_call(&mut random, &session);
-            let answer = session.call(call);
-            assert_eq!(answer, model.call(call), "the model's answer to {call:?}\n{}", session.story());
+        let mut board = Board::new(Model::new(&plan));
+        for _ in 0..50 + random.below(70) {
+            for act in any_acts(&mut random, &session) {
+                let answer = session.act(act);
+                assert_eq!(answer, board.act(act), "the model's answer to {act:?}\n{}", session.story());
+                assert_eq!(session.block(), board.block, "the model's block\n{}", session.story());
+                match (act, answer.number) {
+                    (Act::Call(_), number) => (calls, done) = (calls + 1, done + (number == 0) as u64),
+                    (Act::Write(16, _), 0) => written[0] += 1,
+                    (Act::Write(16, _), number) if number != 17 => written[1] += 1,
+                    (Act::Write(..), number) => written[if number == 17 { 2 } else { 3 }] += 1,
+                }
+            }
+            let model = &board.calls;
             for s in 0..plan.len() {
                 let state = session.state();
                 assert_eq!(layout::bound(state, s), model.bound[s], "bound of {s}\n{}", session.story());
@@ -48,16 +61,16 @@ fn numbers_and_states_are_those_of_the_model_on_whole_histories() {
                     kept += model.latest(s).iter().all(Option::is_some) as u64;
                 }
             }
-            calls += 1;
-            done += (answer.number == 0) as u64;
         }
-        down += (0..plan.len()).map(|s| rounded(&plan, &model.events, s)).sum::<u64>();
+        down += (0..plan.len()).map(|s| rounded(&plan, &board.calls.events, s)).sum::<u64>();
         if plan.is_empty() {
             assert!(session.state().iter().all(|&x| x == 0), "{}", session.story());
             empty += 1;
         }
     }
     println!("seed {}: {calls} calls, {done} done, full streams met {full} times, signal forms that keep both values {kept}, divisions that go down {down}, plans of no streams {empty}", seed());
+    println!("seed {}: commands done and refused, writes refused, others {written:?}", seed());
+    assert!(written.iter().all(|&count| count > all / 2), "too few writes of a kind: {written:?}");
     assert!(all < 1000 || empty > all / 50, "too few plans of no streams: {empty}");
     assert!(done * 3 > calls && full > 0 && kept > 0, "too many calls refused: {done} of {calls}");
     assert!(all < 1000 || down > all / 250, "too few divisions that go down: {down}");
@@ -89,8 +102,9 @@ fn handed_out_is_a_beginning_and_complete_at_rest() {
                     session.check_beginning();
                 }
                 _ => {
-                    let call = any_call(&mut random, &session);
-                    session.call(call);
+                    for act in any_acts(&mut random, &session) {
+                        session.act(act);
+                    }
                 }
             }
         }
@@ -140,10 +154,11 @@ fn loads_over_one_another() {
         let mut random = Random::of(8, round);
         let mut session = Session::load(&plan(&mut random, 12));
         for _ in 0..5 {
-            let mut model = Model::new(&session.plan);
+            let mut board = Board::new(Model::new(&session.plan));
             for _ in 0..random.below(50) {
-                let call = any_call(&mut random, &session);
-                assert_eq!(session.call(call), model.call(call), "the model's answer to {call:?}\n{}", session.story());
+                for act in any_acts(&mut random, &session) {
+                    assert_eq!(session.act(act), board.act(act), "the model's answer to {act:?}\n{}", session.story());
+                }
                 if random.chance(10) {
                     let (text, number) = random.pick(&REFUSED);
                     session.load_refused(text, number);
@@ -164,8 +179,8 @@ fn loads_over_one_another() {
     assert!(met.iter().flatten().all(|&count| count > all / 4) && refused > all);
 }
 
-/// The same accepted readings in another order of inputs, other moves and other collections: the same events handed out,
-/// and the same bytes at rest.
+/// The same accepted readings in another order of inputs, offered directly or by registers, other moves and other collections: the
+/// same events handed out, and the same bytes at rest.
 #[test]
 fn the_order_of_inputs_does_not_matter() {
     let (mut compared, mut bytes) = (0u64, 0u64);
@@ -197,7 +212,8 @@ fn the_order_of_inputs_does_not_matter() {
             while (0..script.len()).any(|i| next[i] < script[i].1.len()) && stuck < 50 {
                 let i = random.below(script.len() as u64) as usize;
                 let Some(call) = script[i].1.get(next[i]) else { continue };
-                match session.call(*call).number {
+                let by_registers = matches!(call, Call::Reading(..)) && random.chance(30);
+                match if by_registers { session.command(*call) } else { session.call(*call).number } {
                     0 => next[i] += 1,
                     9 => {
                         stuck += 1;
@@ -329,8 +345,9 @@ fn lists_that_start_near_the_horizon() {
             continue;
         }
         for _ in 0..80 {
-            let call = any_call(&mut random, &session);
-            session.call(call);
+            for act in any_acts(&mut random, &session) {
+                session.act(act);
+            }
         }
         if session.rest(3_000) && session.check_beginning() {
             rested += session.check_rest() as u64;

@@ -1,7 +1,7 @@
-//! What docs/MANUAL.md shows: each operator's example and each row of the timer's table, read from the page itself, and the
-//! table from TeSSLa's usual operators by hand.
+//! What docs/MANUAL.md shows: each operator's example, each row of the timer's table and each write to the registers, read from
+//! the page itself, and the table from TeSSLa's usual operators by hand.
 
-use host::engine::{engines, Call, STATE_LENGTH};
+use host::engine::{engines, Call, Engine, BLOCK_LENGTH, STATE_LENGTH};
 use host::evaluator::HORIZON;
 use host::plan::{short, text_of, Op, OPERATORS};
 use std::collections::BTreeSet;
@@ -208,5 +208,61 @@ fn the_plans_that_are_written_out() {
     // five rings of six streams fit, and six of five; one more does not
     for (streams, rings) in [(6, 5), (5, 6)] {
         assert!(2 + streams * rings <= 32 && 32 < 2 + streams * (rings + 1));
+    }
+}
+
+/// A row of the registers' example: a write, and what is shown after it.
+#[derive(Clone, Debug)]
+struct Write {
+    at: u32,
+    byte: u8,
+    /// what the write returns, the status, the flags, and 1 if the line is up
+    shown: [u32; 4],
+}
+
+/// The registers' example: its writes, and the block after them.
+fn registers(page: &str) -> (Vec<Write>, Vec<u8>) {
+    let example = page.split("| byte | written | returns | status | flags | line | why |").nth(1).expect("the registers' example");
+    let writes = example.lines().skip(2).take_while(|line| line.starts_with('|')).map(|line| {
+        let cells: Vec<&str> = line.split('|').map(str::trim).collect();
+        let line = ["down", "up"].iter().position(|word| *word == cells[6]).unwrap_or_else(|| panic!("line {}", cells[6]));
+        let number = |i: usize| cells[i].parse::<u32>().unwrap();
+        Write { at: number(1), byte: number(2) as u8, shown: [number(3), number(4), number(5), line as u32] }
+    });
+    let block = example.split("```\n").nth(1).expect("the block after the example");
+    (writes.collect(), block.split_whitespace().map(|byte| byte.parse().unwrap()).collect())
+}
+
+/// Whether an engine shows this after each write, and this block at the end, with the plan loaded and the block zeros at first.
+fn shows(engine: &Engine, plan: &str, writes: &[Write], block_then: &[u8]) -> bool {
+    let (mut state, mut block) = (vec![0; STATE_LENGTH], vec![0; BLOCK_LENGTH]);
+    assert_eq!(engine.load(&mut state, plan.as_bytes()), 0);
+    let each = writes.iter().all(|write| {
+        let number = engine.write(&mut state, &mut block, write.at, write.byte);
+        let (line, up) = engine.line(&block);
+        line == 0 && [number, block[17].into(), block[18].into(), up] == write.shown
+    });
+    each && block == block_then
+}
+
+#[test]
+fn each_write_to_the_registers() {
+    let page = page();
+    let plan = page.split("```\n").nth(1).expect("the first text of a plan");
+    let (writes, block) = registers(&page);
+    assert_eq!(writes.len(), 19);
+    for engine in engines() {
+        assert!(shows(&engine, plan, &writes, &block), "{}: {writes:?} {block:?}", engine.name);
+        // and any other number in the example would be seen
+        for (i, j) in (0..writes.len()).flat_map(|i| (0..4).map(move |j| (i, j))) {
+            let mut wrong = writes.clone();
+            wrong[i].shown[j] ^= 1;
+            assert!(!shows(&engine, plan, &wrong, &block), "{}: write {i}", engine.name);
+        }
+        for i in 0..BLOCK_LENGTH {
+            let mut wrong = block.clone();
+            wrong[i] ^= 1;
+            assert!(!shows(&engine, plan, &writes, &wrong), "{}: byte {i}", engine.name);
+        }
     }
 }

@@ -4,11 +4,12 @@
 use host::engine::{Answer, Call, LIBRARY, STATE_LENGTH};
 use host::evaluator::HORIZON;
 use host::found::{Found, Record};
-use host::history::{any_call, Session};
+use host::history::{any_acts, Session};
 use host::layout;
 use host::model::Division;
 use host::plan::text_of;
 use host::random::{rounds, seed, Random};
+use host::registers::{Act, Block, Board, REFUSED, WAITING};
 use host::saved::{read, write, Saved};
 use host::worked::{collected, numbers, runs};
 use std::fs;
@@ -24,7 +25,7 @@ fn files() -> Vec<PathBuf> {
 fn states() -> Vec<(String, Saved)> {
     let name = |path: &PathBuf| path.file_name().unwrap().to_string_lossy().into_owned();
     let states: Vec<(String, Saved)> = files().iter().map(|path| (name(path), read(&fs::read_to_string(path).unwrap()))).collect();
-    assert!(states.len() >= 10, "only {} saved states", states.len());
+    assert!(states.len() >= 13, "only {} saved states", states.len());
     states
 }
 
@@ -91,8 +92,8 @@ fn each_is_what_its_calls_leave_today() {
     assert!(cut >= 2, "only {cut} states with results of the earlier rule");
 }
 
-/// Any calls on the state put back: answers and bytes are those of the model, and what was handed out before the copy and after
-/// it is what the definition gives for the readings before and after. The latter not of a state with results of the earlier rule
+/// Any calls on the state put back, directly and by a block of registers: answers and bytes are those of the model, and what was
+/// handed out before the copy and after it is what the definition gives for the readings before and after. The latter not of a state with results of the earlier rule
 /// of division: "demands 2 and 3 speak of states loaded since".
 #[test]
 fn each_goes_on() {
@@ -102,25 +103,27 @@ fn each_goes_on() {
         for round in 0..all {
             let mut random = Random::of(30, round);
             let mut session = Session::put_back(&saved);
-            let mut model = Found::read(&saved.bytes).expect("a state");
-            let mut both = |session: &mut Session, call: Call| {
-                let answer = session.call(call);
-                assert_eq!(answer, model.call(call), "{name}: {call:?}\n{}", session.story());
-                assert!(session.state() == model.bytes(), "{name}: another state than the model's\n{}", session.story());
+            let mut model = Board::new(Found::read(&saved.bytes).expect("a state"));
+            let mut act = |session: &mut Session, act: Act| {
+                let answer = session.act(act);
+                assert_eq!(answer, model.act(act), "{name}: {act:?}\n{}", session.story());
+                assert_eq!(session.block(), model.block, "{name}: another block than the model's\n{}", session.story());
+                assert!(session.state() == model.calls.bytes(), "{name}: another state than the model's\n{}", session.story());
                 calls += 1;
                 answer
             };
-            for _ in 0..random.below(120) {
-                let call = any_call(&mut random, &session);
-                both(&mut session, call);
+            for _ in 0..random.below(100) {
+                for next in any_acts(&mut random, &session) {
+                    act(&mut session, next);
+                }
             }
             if saved.is_cut() {
                 // to rest, so that all that is held, kept or waiting comes out
                 let mut idle = false;
                 while !idle {
-                    idle = both(&mut session, Call::Run(50)).moves == 0;
+                    idle = act(&mut session, Act::Call(Call::Run(50))).moves == 0;
                     for s in session.outputs() {
-                        while both(&mut session, Call::Collect(s as u32)).number == 0 {
+                        while act(&mut session, Act::Call(Call::Collect(s as u32))).number == 0 {
                             idle = false;
                         }
                     }
@@ -134,7 +137,7 @@ fn each_goes_on() {
             }
             events += session.handed.iter().map(|handed| handed.len() as u64).sum::<u64>();
         }
-        println!("seed {}: {name}, {calls} calls on it, {events} events handed out, {checked} lists checked, {rested} at rest", seed());
+        println!("seed {}: {name}, {calls} calls and writes on it, {events} events handed out, {checked} lists checked, {rested} at rest", seed());
         let outputs = saved.plan.iter().any(|stream| stream.out);
         assert!(all < 20 || (checked * 2 > all && rested * 4 > all && (events > 0) == outputs));
     }
@@ -221,6 +224,89 @@ fn an_input_alone_is_no_empty_buffer() {
     runs(&mut session, 9, 0);
     numbers(&mut session, &[(Call::Collect(0), 13)]);
     assert_eq!(layout::bound(session.state(), 0), 5);
+}
+
+// ---- states saved before the block of registers
+
+/// A command on the state put back, its number and the flags after it; then both flags are cleared.
+fn commanded(session: &mut Session, call: Call, number: u32, flags: u8) {
+    assert_eq!(session.command(call), number, "{call:?}");
+    let block = Block::read(session.block()).unwrap();
+    assert_eq!((block.status as u32, block.flags), (number, flags), "{call:?}");
+    assert_eq!(session.write(18, REFUSED | WAITING), 0);
+}
+
+/// An event collected by command 2, as (stamp, value).
+fn replied(session: &mut Session, stream: u32, event: (u32, i64), flags: u8) {
+    commanded(session, Call::Collect(stream), 0, flags);
+    let block = Block::read(session.block()).unwrap();
+    assert_eq!((block.reply, block.value), event, "stream {stream}");
+}
+
+/// Outputs that waited when the copy was made come out through the block, and so does what is worked out after it.
+#[test]
+fn what_waited_is_collected_by_registers() {
+    let mut session = Session::put_back(&named("1.4-waiting.txt"));
+    // stream 5 counts the readings at 3, 5 and 9, of which the last is not worked off; stream 8 has their stamps
+    commanded(&mut session, Call::Run(64), 0, WAITING);
+    replied(&mut session, 5, (3, 1), WAITING);
+    replied(&mut session, 5, (5, 2), WAITING);
+    replied(&mut session, 5, (9, 3), WAITING);
+    // nothing of it waits, but of stream 8
+    commanded(&mut session, Call::Collect(5), 14, REFUSED | WAITING);
+    replied(&mut session, 8, (5, 5), WAITING);
+    replied(&mut session, 8, (9, 9), 0);
+    commanded(&mut session, Call::Collect(8), 14, REFUSED);
+    // input 6 had −4 at 1 and was known to 5: with 1 at 7 the difference at 5 is the least value + 4, and at 7 there is none,
+    // the least value less 1 being outside the range
+    commanded(&mut session, Call::Reading(6, 7, 1), 0, 0);
+    commanded(&mut session, Call::Run(64), 0, WAITING);
+    replied(&mut session, 7, (5, i64::MIN + 4), 0);
+    commanded(&mut session, Call::Collect(7), 14, REFUSED);
+    assert!(session.rest(100) && session.check_beginning() && session.check_rest());
+}
+
+/// At rest with nothing to collect: a run sets no flag, and a new reading goes through.
+#[test]
+fn a_state_at_rest_goes_on_by_registers() {
+    let saved = named("1.4-rest.txt");
+    let mut session = Session::put_back(&saved);
+    commanded(&mut session, Call::Run(64), 0, 0);
+    assert!(session.state() == saved.bytes);
+    commanded(&mut session, Call::Collect(4), 14, REFUSED);
+    assert!(session.state() == saved.bytes);
+    // of input 0 a 9 at 4 waits for this: 9 div −2 is −5, 9 lt −2 is 0; a delay of −2 does not fire
+    commanded(&mut session, Call::Reading(1, 4, -2), 0, 0);
+    commanded(&mut session, Call::Reading(1, 4, -2), 8, REFUSED);
+    commanded(&mut session, Call::Run(64), 0, WAITING);
+    replied(&mut session, 2, (4, -5), WAITING);
+    replied(&mut session, 3, (4, 0), 0);
+    commanded(&mut session, Call::Collect(4), 14, REFUSED);
+    assert!(session.rest(100) && session.check_beginning() && session.check_rest());
+}
+
+/// An input that holds 16 readings: the offer is refused 9 while an output waits, and taken once there is room.
+#[test]
+fn a_full_input_goes_on_by_registers() {
+    let saved = named("1.4-full.txt");
+    let mut session = Session::put_back(&saved);
+    commanded(&mut session, Call::Reading(0, 31, 5), 9, REFUSED | WAITING);
+    assert!(session.state() == saved.bytes);
+    commanded(&mut session, Call::Reading(1, 0, 10), 0, WAITING);
+    commanded(&mut session, Call::Reading(0, 31, 5), 9, REFUSED | WAITING);
+    // −8 + 10 at 0; the add is past it, and 15 readings are held
+    commanded(&mut session, Call::Run(64), 0, WAITING);
+    commanded(&mut session, Call::Reading(0, 31, 5), 0, WAITING);
+    commanded(&mut session, Call::Reading(0, 32, 5), 9, REFUSED | WAITING);
+    replied(&mut session, 2, (0, 2), WAITING);
+    commanded(&mut session, Call::Collect(2), 14, REFUSED | WAITING);
+    // neg has 15 events from 2 to 30 and then that of 31
+    commanded(&mut session, Call::Run(64), 0, WAITING);
+    for t in (2..32).step_by(2) {
+        replied(&mut session, 3, (t, 8 - t as i64), WAITING);
+    }
+    replied(&mut session, 3, (31, -5), 0);
+    assert!(session.rest(100) && session.check_beginning() && session.check_rest());
 }
 
 /// No test: to save a state with the library of today, write a file with the two lines of head, the plan and the calls, and

@@ -1,9 +1,9 @@
 -- `engine::tessla_run` meets its contract.
-use Rattle.engine.proofs.Replies.{reply-state, reply-none}
+use Rattle.calls.proofs.Answers.{reply-state, reply-none}
 use mathlib.Core.Path.{refl, sym, _∙_}
 use denote.Ref.{now}
 use Rattle.roundtrip.proofs.In.{tested-state, tested-none}
-use Rattle.engine.proofs.Replies.{reply-state, reply-none, run-done}
+use Rattle.calls.proofs.Answers.{reply-state, reply-none, run-done}
 use Rattle.machine.specs.Calls.{running}
 use borrow.Author.Needs.{needs}
 use Rattle.engine.proofs.tessla_run.Statement.{statement}

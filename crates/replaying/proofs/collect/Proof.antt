@@ -7,8 +7,8 @@ use mir.Facts.{toZ-ofZ}
 use denote.Ref.{now}
 use Rattle.machine.specs.Calls.{collecting}
 use Rattle.decimal.proofs.Puts.{put-none}
-use Rattle.engine.specs.Reply.{reply}
-use Rattle.engine.proofs.Replies.{collect-is-value}
+use Rattle.calls.specs.Reply.{reply}
+use Rattle.calls.proofs.Answers.{collect-is-value}
 use Rattle.replaying.specs.Replay.{toOutput}
 use Rattle.replaying.proofs.Steps.{collected-event, collected-none}
 use borrow.Author.Needs.{needs}

@@ -4,7 +4,7 @@ use mathlib.Core.Bool.{false}
 use mathlib.Core.Path.{sym, ap, _∙_}
 use denote.Ref.{now}
 use Rattle.machine.specs.Calls.{running}
-use Rattle.engine.specs.Reply.{reply}
+use Rattle.calls.specs.Reply.{reply}
 use Rattle.replaying.specs.Replay.{allMoves, toOutput}
 use Rattle.replaying.proofs.Steps.{ran-rest, ran-moved}
 use borrow.Author.Needs.{needs}

@@ -3,7 +3,7 @@ use mathlib.Core.Path.{refl, sym, _∙_}
 use denote.Ref.{now}
 use Rattle.machine.specs.Calls.{running}
 use Rattle.decimal.proofs.Puts.{put-none}
-use Rattle.engine.specs.Reply.{reply}
+use Rattle.calls.specs.Reply.{reply}
 use Rattle.replaying.specs.Replay.{allMoves, step}
 use Rattle.replaying.proofs.Steps.{ran-state}
 use borrow.Author.Needs.{needs}

@@ -1,0 +1,4 @@
+pub mod Flags
+pub mod Bits
+pub mod Places
+pub mod CasesHold

@@ -1,0 +1,5 @@
+pub mod Refused
+pub mod Taking
+pub mod Shown
+pub mod Whole
+pub mod NoPlan

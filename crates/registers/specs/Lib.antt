@@ -1,0 +1,4 @@
+pub mod Write
+pub mod Laws
+pub mod Sequence
+pub mod Cases
