@@ -102,24 +102,15 @@ fn shift24(s: &mut [u8], at: usize, by: usize)
     shift12(s, at + 12, by);
 }
 
-// Moves 48 bytes down.
-fn shift48(s: &mut [u8], at: usize, by: usize)
-    requires { ⌜ at + by + 48 ≤ length (now s) ⌝ }
-    ensures { λ _. ⌜ now (s .exit) ≡ sets (now (s .entry)) at (part (now (s .entry)) (at + by) 48) ⌝ }
-{
-    shift24(s, at, by);
-    shift24(s, at + 24, by);
-}
-
-// The same as shift, for many bytes: 48 at a time, and what is left as shift does.
+// The same as shift, for many bytes: 24 at a time, and what is left as shift does.
 pub fn shift_many(s: &mut [u8], at: usize, by: usize, n: usize)
     requires { ⌜ at + by + n ≤ length (now s) ⌝ }
     ensures { λ _. ⌜ now (s .exit) ≡ sets (now (s .entry)) at (part (now (s .entry)) (at + by) n) ⌝ }
 {
     let mut moved = 0;
-    while 48 <= n - moved {
-        shift48(s, at + moved, by);
-        moved += 48;
+    while 24 <= n - moved {
+        shift24(s, at + moved, by);
+        moved += 24;
     }
     shift(s, at + moved, by, n - moved);
 }

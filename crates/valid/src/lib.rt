@@ -303,7 +303,7 @@ fn rest_clear(w: &[u8], fill: u64) -> bool
     requires { ⌜ (length (now w) ≡ windowLength) × (fill < 256) ⌝ }
     ensures { λ x. ⌜ x ≡ allZero (drop (fill * 8) (now (w .entry))) ⌝ }
 {
-    if Plan::WIDTH < fill {
+    if Plan::WIDTH <= fill {
         return true; // nothing is behind them
     }
     le::zeros(w, fill as usize * 8)

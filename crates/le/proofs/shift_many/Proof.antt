@@ -11,7 +11,7 @@ use Rattle.le.proofs.shift_many.Statement.{statement}
 use Rattle.le.proofs.shift_many.Tie as tie
 use Rattle.le.proofs.shift_many.Reads as reads
 use Rattle.le.proofs.shift_many.Lts as lts
-use Rattle.le.proofs.shift48.Reads as shift48-reads
+use Rattle.le.proofs.shift24.Reads as shift24-reads
 use Rattle.le.proofs.shift.Reads as shift-reads
 
 abbrev Inv-loop : tie.InvT-loop
@@ -26,11 +26,11 @@ loop-holds c = (omega arith, refl, simp (add-zero, sub-zero))
 sub-loop : tie.Need-sub-loop Inv-loop μ-loop
 sub-loop c = omega arith
 
-add-shift48 : tie.Need-add-shift48 Inv-loop μ-loop
-add-shift48 c = omega arith
+add-shift24 : tie.Need-add-shift24 Inv-loop μ-loop
+add-shift24 c = omega arith
 
-shift48-requires : tie.Need-shift48-requires Inv-loop μ-loop
-shift48-requires c κs = omega arith
+shift24-requires : tie.Need-shift24-requires Inv-loop μ-loop
+shift24-requires c κs = omega arith
 
 add-moved : tie.Need-add-moved Inv-loop μ-loop
 add-moved c = omega arith
@@ -39,7 +39,7 @@ loop-less : tie.Need-loop-less Inv-loop μ-loop
 loop-less c = omega arith
 
 loop-again : tie.Need-loop-again Inv-loop μ-loop
-loop-again c = let a = c .before .before .before .before .before .before .before .args in let l = c .before .before .before .before .before .loop in let t = c .before .before .shift48 .last .0 in (omega arith, ap length (c .before .before .shift48 .ensures) ∙ length-sets (l .s) (a .at + l .moved) (part (l .s) (a .at + l .moved + a .by) 48) ∙ l .inv .1, shift-turns (l .s) t (a .at) (a .by) (l .moved) 48 (a .n) (omega arith) (omega arith) (omega arith) (c .before .before .shift48 .ensures) ∙ l .inv .2)
+loop-again c = let a = c .before .before .before .before .before .before .before .args in let l = c .before .before .before .before .before .loop in let t = c .before .before .shift24 .last .0 in (omega arith, ap length (c .before .before .shift24 .ensures) ∙ length-sets (l .s) (a .at + l .moved) (part (l .s) (a .at + l .moved + a .by) 24) ∙ l .inv .1, shift-turns (l .s) t (a .at) (a .by) (l .moved) 24 (a .n) (omega arith) (omega arith) (omega arith) (c .before .before .shift24 .ensures) ∙ l .inv .2)
 
 add-shift : tie.Need-add-shift Inv-loop μ-loop
 add-shift c = omega arith
@@ -64,8 +64,8 @@ shift-many-spec =
     μ-loop
     loop-holds
     sub-loop
-    add-shift48
-    shift48-requires
+    add-shift24
+    shift24-requires
     add-moved
     loop-less
     loop-again
