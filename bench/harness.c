@@ -262,6 +262,66 @@ static void held(unsigned n) {
     }
 }
 
+/* 70 readings of one input, each worked off and collected: a window of 64 is full. Then one reading more, by its calls and to rest */
+static void windowed(const char *name, const char *form) {
+    static struct plan p;
+    uint32_t moves;
+    make(&p, name, form);
+    if (tessla_load(start, sizeof start, (const uint8_t *)p.text, strlen(p.text)) != 0) fail(p.name);
+    for (uint32_t t = 1; t <= 70; t++) {
+        if (tessla_offer_reading(start, sizeof start, 0, t, (int64_t)(t * 2654435761u % 200001) - 100000) != 0) fail("offer");
+        run_to_rest(start);
+        collect_all(&p, start);
+    }
+    spread();
+    begin();
+    for (unsigned i = 0; i < used; i++) tessla_run(copies[i], TESSLA_STATE_LENGTH, 0, &moves);
+    end(p.name, "check alone", used, p.streams);
+
+    begin();
+    for (unsigned i = 0; i < used; i++) {
+        if (tessla_offer_reading(copies[i], TESSLA_STATE_LENGTH, 0, 90, 7) != 0) fail("offer");
+        tessla_run(copies[i], TESSLA_STATE_LENGTH, 100000, &moves);
+    }
+    end(p.name, "a reading to rest", used, p.streams);
+    if (moves != p.outputs) fail("a move of each window");
+
+    if (tessla_offer_reading(start, sizeof start, 0, 90, 7) != 0) fail("offer");
+    spread();
+    begin();
+    for (unsigned i = 0; i < used; i++)
+        if (tessla_move(copies[i], TESSLA_STATE_LENGTH, 1) != 0) fail("move");
+    end(p.name, "move", used, p.streams);
+
+    spread();
+    unsigned long total = 0;
+    begin();
+    for (unsigned i = 0; i < used; i++) {
+        tessla_run(copies[i], TESSLA_STATE_LENGTH, 100000, &moves);
+        total += moves;
+    }
+    end(p.name, "run to rest, a move", total, p.streams);
+}
+
+/* a wsum of 64 that is full: one move passes 16 readings, at each of which the sum is out of range */
+static void missing_sums(void) {
+    static struct plan p;
+    uint32_t moves;
+    make(&p, "MISSING(16)", "in; wsum 0 k64 out");
+    if (tessla_load(start, sizeof start, (const uint8_t *)p.text, strlen(p.text)) != 0) fail(p.name);
+    for (uint32_t t = 1; t <= 86; t++) {
+        if (tessla_offer_reading(start, sizeof start, 0, t, t > 68 ? INT64_MAX : 7) != 0) fail("offer");
+        if (t > 70) continue;
+        run_to_rest(start);
+        collect_all(&p, start);
+    }
+    spread();
+    begin();
+    for (unsigned i = 0; i < used; i++) tessla_run(copies[i], TESSLA_STATE_LENGTH, 100000, &moves);
+    end(p.name, "run to rest, a move", used, 16);
+    if (moves != 1) fail("one move past all of them");
+}
+
 int main(void) {
     static struct plan p;
     used = RUNNING_ON_VALGRIND ? 4 : COPIES;
@@ -295,5 +355,12 @@ int main(void) {
     readers(&p);
     operations(&p);
     for (unsigned n = 0; n <= TESSLA_ROOM; n += 4) held(n);
+    /* a window of the latest 64 values beside neg in its place; then all eight */
+    windowed("NEG", "in; neg 0 out");
+    windowed("WSUM(64)", "in; wsum 0 k64 out");
+    windowed("WMIN(64)", "in; wmin 0 k64 out");
+    windowed("WMAX(64)", "in; wmax 0 k64 out");
+    windowed("WINDOWS(8)", "in; wsum 0 k64 out; wmin 0 k64 out; wmax 0 k64 out; wsum 0 k64 out; wmin 0 k64 out; wmax 0 k64 out; wsum 0 k64 out; wmin 0 k64 out");
+    missing_sums();
     return 0;
 }

@@ -157,9 +157,9 @@ static uint32_t all_operators(void) {
     uint32_t n = 0;
     rows[n++] = (struct row){ .op = IN };
     rows[n++] = (struct row){ .op = IN };
-    for (uint8_t op = NIL; op <= SEQ; op++)
-        rows[n++] = (struct row){ .op = op, .a = op >= TIME ? 0 : 0, .b = op >= ADD ? 1 : 0, .out = 1,
-                                  .k = op == SET ? INT64_MIN : op == PLUS ? INT64_MAX : 0 };
+    for (uint8_t op = NIL; op <= WMAX; op++)
+        rows[n++] = (struct row){ .op = op, .b = uses_b(op) ? 1 : 0, .out = 1,
+                                  .k = op == SET ? INT64_MIN : op == PLUS ? INT64_MAX : is_window(op) ? 3 : 0 };
     return n;
 }
 
@@ -324,6 +324,103 @@ static void signals(void) {
     }
 }
 
+/* sum, least and greatest of three, of the latest values up to one at stamp t */
+static void weigh(uint32_t t, int64_t v) {
+    reading(0, t, v);
+    run(9);
+    for (uint32_t s = 1; s < 4; s++) collect(s);
+}
+
+/* windows: worked cases first, of which firmware/test knows the values; then eight of 64, over many readings, several before a run; then
+   what each keeps, changed in the state */
+static void windows(void) {
+    static const int64_t WORKED[] = { 5, -7, INT64_MAX, INT64_MAX, INT64_MIN, INT64_MIN, 0, 3 };
+    static const uint8_t FIELDS[] = { 2, 5, 6, 8, 9, 12, 15, 32, 39, 40, 47, 48, 55, 56 };
+    uint32_t n;
+    head("worked windows");
+    rows[0] = (struct row){ .op = IN };
+    for (uint8_t op = WSUM; op <= WMAX; op++) rows[op - WSUM + 1] = (struct row){ .op = op, .k = 3, .out = 1 };
+    load_rows(4);
+    for (uint32_t i = 0; i < COUNT(WORKED); i++) weigh(2 * i, WORKED[i]);
+    head("windows");
+    n = eight_windows(rows);
+    for (uint32_t several = 1; several < 17; several += 5) {
+        load_rows(n);
+        for (uint32_t i = 0; i < 80; i++) {
+            reading(0, 3 * i, VALUES[7 * i % COUNT(VALUES)]);
+            if (i % several == 0) {
+                run(50);
+                for (uint32_t s = 1; s < n; s++)
+                    while (s % several != 1 && collect(s) == 0) {}
+            }
+        }
+        work_off(n);
+    }
+    memcpy(copy, state, LENGTH);
+    /* each field of a record, by turns of the eight; the first, a middle and the last value of each window */
+    for (uint32_t i = 0; i < COUNT(FIELDS); i++)
+        for (uint32_t change = 1; change < 4; change++) {
+            state[256 * (1 + i % 8) + FIELDS[i]] ^= (uint8_t)change;
+            run(1);
+            reading(0, 300, 6);
+            run(100);
+            collect(1 + i % 8);
+            memcpy(state, copy, LENGTH);
+        }
+    for (uint32_t j = 0; j < 8; j++)
+        for (uint32_t at = 0; at < 512; at += 73) {
+            state[8192 + 512 * j + at] ^= 0x80;
+            reading(0, 300, -6);
+            run(100);
+            collect(1 + j);
+            memcpy(state, copy, LENGTH);
+        }
+    /* half full: what lies behind the fill, and in windows that no stream has */
+    for (uint32_t w = 1; w < 8; w += 3) {
+        load_rows(1 + w);
+        for (uint32_t i = 0; i < 20; i++) {
+            reading(0, i, VALUES[i % COUNT(VALUES)]);
+            run(50);
+            for (uint32_t s = 1; s <= w; s++) collect(s);
+        }
+        memcpy(copy, state, LENGTH);
+        for (uint32_t at = 8192; at < LENGTH; at += at % 512 == 160 ? 1 : 31) {
+            state[at] ^= 1;
+            run(1);
+            reading(0, 300, 1);
+            run(100);
+            memcpy(state, copy, LENGTH);
+        }
+        for (uint32_t fill = 0; fill < 256; fill += fill < 24 || (fill > 60 && fill < 68) ? 1 : 7) {
+            state[256 + 5] = (uint8_t)fill;
+            run(1);
+            memcpy(state, copy, LENGTH);
+            state[256 + 8] = (uint8_t)fill; /* the width */
+            run(1);
+            reading(0, 300, 1);
+            run(100);
+            memcpy(state, copy, LENGTH);
+        }
+    }
+    /* fresh: with bound 0 nothing is kept; a ninth window, and one for another operator */
+    load_rows(n);
+    for (uint32_t s = 1; s < n; s++) {
+        state[256 * s + 5] = 1;
+        run(1);
+        state[256 * s + 5] = 0;
+    }
+    rows[n++] = (struct row){ .op = SET, .k = 2 };
+    load_rows(n);
+    state[256 * 9] = WMIN;
+    run(1);
+    state[256] = NEG;
+    memset(state + 256 + 8, 0, 8);
+    run(1);
+    reading(0, 1, 1);
+    run(100);
+    collect(9);
+}
+
 /* ---- no plan */
 
 /* the calls that firmware/test knows the answers to, on a state of no streams, and whether all its bytes are 0 then */
@@ -391,7 +488,7 @@ static void zeros(void) {
         state[at] = 0;
     }
     /* the first byte: a stream of an operator without arguments, else no state */
-    for (uint32_t op = 0; op < 256; op += op < 30 ? 1 : 25) {
+    for (uint32_t op = 0; op < 256; op += op < 33 ? 1 : 25) {
         state[0] = (uint8_t)op;
         reading(0, 3, 7);
         move(0);
@@ -449,8 +546,23 @@ static void texts(void) {
         "plan=1\nstreams=2\nop=in\na=0\nb=0\nk=0\nout=0\nop=seq\na=0\nb=0\nk=1\nout=0\n",
         "plan=1\nstreams=2\nop=in\na=0\nb=0\nk=0\nout=0\nop=slt\na=0\nb=2\nk=0\nout=0\n",
         "plan=1\nstreams=2\nop=in\na=0\nb=0\nk=0\nout=0\nop=srem\na=0\nb=0\nk=0\nout=1\n",
+        "plan=1\nstreams=1\nop=wsum\na=0\nb=0\nk=1\nout=0\n", "plan=1\nstreams=1\nop=wsum\na=0\nb=0\nk=65\nout=0\n",
+        "plan=1\nstreams=2\nop=in\na=0\nb=0\nk=0\nout=0\nop=wmin\na=0\nb=0\nk=0\nout=1\n",
+        "plan=1\nstreams=2\nop=in\na=0\nb=0\nk=0\nout=0\nop=wmin\na=0\nb=0\nk=-1\nout=1\n",
+        "plan=1\nstreams=2\nop=in\na=0\nb=0\nk=0\nout=0\nop=wmin\na=0\nb=0\nk=4294967297\nout=1\n",
+        "plan=1\nstreams=2\nop=in\na=0\nb=0\nk=0\nout=0\nop=wmax\na=0\nb=1\nk=0\nout=1\n",
+        "plan=1\nstreams=2\nop=in\na=0\nb=0\nk=0\nout=0\nop=wmax\na=0\nb=0\nk=64\nout=1\n",
+        "plan=1\nstreams=1\nop=wsums\na=0\nb=0\nk=1\nout=0\n",
     };
     for (uint32_t i = 0; i < COUNT(refused); i++) text_of(refused[i]);
+    /* a window too many, in the last place or behind others, and in a plan with a cycle */
+    uint32_t w = eight_windows(rows);
+    rows[w++] = (struct row){ .op = WMAX, .k = 1 };
+    load_rows(w);
+    for (uint32_t i = 0; i < 32; i++) rows[i] = (struct row){ .op = WSUM, .k = 64 };
+    load_rows(32);
+    rows[0] = (struct row){ .op = IN };
+    load_rows(32);
     /* longer than any text may be; what is behind the pointer is not looked at then */
     load(MOST + 1);
     load(UINT64_C(1) << 32);
@@ -731,12 +843,12 @@ static uint32_t some_plan(void) {
     if (next(25) == 0) return 0;
     uint32_t n = next(4) ? 1 + next(10) : 1 + next(32);
     for (uint32_t i = 0; i < n; i++) {
-        struct row r = { .op = (uint8_t)(i == 0 || next(5) == 0 ? IN : 1 + next(SEQ)) };
+        struct row r = { .op = (uint8_t)(i == 0 || next(5) == 0 ? IN : 1 + next(WMAX)) };
         /* mostly backward, so that there is no cycle; last and delay also forward */
         uint32_t most = next(12) == 0 ? n : i ? i : 1;
         if (r.op >= TIME) r.a = (uint8_t)(r.op == LAST || r.op == DELAY ? next(n) : next(most));
-        if (r.op >= ADD) r.b = (uint8_t)next(most);
-        if (r.op == SET || r.op == PLUS) r.k = some_value();
+        if (uses_b(r.op)) r.b = (uint8_t)next(most);
+        if (uses_k(r.op)) r.k = !is_window(r.op) ? some_value() : next(30) ? 1 + next(next(3) ? 5 : 64) : next(90);
         if (r.op != IN) r.out = next(2) == 0;
         rows[i] = r;
     }
@@ -799,7 +911,7 @@ static void random_calls(uint32_t plans, uint32_t calls) {
         /* a damaged byte, and the state put back */
         memcpy(copy, state, LENGTH);
         for (uint32_t i = 0; i < 6; i++) {
-            uint32_t at = next(4) ? next((n ? n : 1) * 256) : next(LENGTH);
+            uint32_t at = next(4) ? next((n ? n : 1) * 256) : next(2) ? 8192 + next(1024) : next(LENGTH);
             state[at] ^= (uint8_t)(1 << next(8));
             if (run(1) != 0) memcpy(state, copy, LENGTH);
             some_call(n, &now);
@@ -850,6 +962,7 @@ int main(void) {
     values();
     divisions();
     signals();
+    windows();
     zeros();
     full();
     texts();

@@ -200,6 +200,44 @@ static void signals(void) {
     beside("two inputs, its five streams", five, 7);
 }
 
+/* a reading of one input, of which 70 came before, so that a window of 64 is full; the same values to each plan */
+static void windowed(const char *name, const struct row *rows, uint32_t n) {
+    plan = name;
+    tessla_load(S, text, write_plan(text, rows, n));
+    for (uint32_t t = 1; t <= 70; t++) {
+        to_rest(0, t, (int64_t)(t * 2654435761u % 200001) - 100000);
+        collect_all();
+    }
+    MEASURE("a reading to rest", to_rest(0, 90, 7));
+}
+
+static uint32_t moves_of_run(void) {
+    uint32_t moves = 0;
+    tessla_run(S, 100000, &moves);
+    return moves;
+}
+
+/* a window of the latest 64 values beside the input alone, and beside neg, which looks at one; one move of the sum that passes 16 readings, at each of which it is out
+   of range; all eight windows */
+static void windows(void) {
+    static const char *const names[] = { "one input, neg", "one input, wsum of 64", "one input, wmin of 64", "one input, wmax of 64" };
+    static const uint8_t ops[] = { NEG, WSUM, WMIN, WMAX };
+    static const struct row alone[] = { { .op = IN } };
+    struct row eight[9];
+    windowed("one input, alone", alone, 1);
+    for (uint32_t i = 0; i < 4; i++) {
+        const struct row two[] = { { .op = IN }, { .op = ops[i], .k = ops[i] == NEG ? 0 : 64, .out = 1 } };
+        windowed(names[i], two, 2);
+        if (ops[i] != WSUM) continue;
+        /* twice the greatest value are in the window when the 16 come */
+        for (uint32_t t = 100; t < 102; t++) to_rest(0, t, INT64_MAX);
+        collect_all();
+        for (uint32_t t = 102; t < 118; t++) tessla_offer_reading(S, 0, t, INT64_MAX);
+        MEASURE("run over 16 readings", moves_of_run());
+    }
+    windowed("one input, eight windows of 64", eight, eight_windows(eight));
+}
+
 /* one move of a calculation to its event, both arguments having one; lt does the same but for the arithmetic */
 static void calculation(const char *name, uint8_t op, const char *operands, int64_t x, int64_t y) {
     const struct row rows[] = { { .op = IN }, { .op = IN }, { .op = op, .b = 1, .out = 1 } };
@@ -290,12 +328,13 @@ int main(void) {
     for (uint32_t i = 1; i < 32; i++) rows[i].out = 1;
     full(rows, 32);
     for (uint8_t i = 0; i < 32; i++) {
-        uint8_t op = i < 2 ? IN : i <= SEQ ? i : LAST + i % 2;
-        rows[i] = (struct row){ .op = op, .b = op >= ADD, .k = op == SET || op == PLUS ? 3 : 0, .out = op > IN };
-        if (i > SEQ) rows[i].a = i - 4;
+        uint8_t op = i < 2 ? IN : i <= WMAX ? i : DELAY;
+        rows[i] = (struct row){ .op = op, .b = uses_b(op), .k = uses_k(op) ? 3 : 0, .out = op > IN };
+        if (i > WMAX) rows[i].a = i - 4;
     }
     measure("32 streams, every operator", rows, 32);
     signals();
+    windows();
     divisions();
     put("stack|");
     put_number(deep);

@@ -5,12 +5,17 @@
 
 enum {
     IN = 1, NIL, UNIT, TIME, SET, PLUS, NEG, ADD, SUB, MUL, DIV, REM, LT, LE, EQ, KEEP, MERGE, LAST, DELAY,
-    SADD, SSUB, SMUL, SDIV, SREM, SLT, SLE, SEQ
+    SADD, SSUB, SMUL, SDIV, SREM, SLT, SLE, SEQ, WSUM, WMIN, WMAX
 };
 
 static const char *const NAMES[] = { "",     "in",   "nil",  "unit", "time", "set", "plus", "neg",   "add",  "sub",
                                      "mul",  "div",  "rem",  "lt",   "le",   "eq",  "keep", "merge", "last", "delay",
-                                     "sadd", "ssub", "smul", "sdiv", "srem", "slt", "sle",  "seq" };
+                                     "sadd", "ssub", "smul", "sdiv", "srem", "slt", "sle",  "seq",   "wsum", "wmin",
+                                     "wmax" };
+
+static inline int is_window(uint8_t op) { return op >= WSUM; }
+static inline int uses_b(uint8_t op) { return op >= ADD && !is_window(op); }
+static inline int uses_k(uint8_t op) { return op == SET || op == PLUS || is_window(op); }
 
 struct row {
     uint8_t op, a, b, out;
@@ -59,5 +64,12 @@ static uint32_t write_plan(uint8_t *bytes, const struct row *rows, uint32_t n) {
     add_line(&t, "streams=", n);
     for (uint32_t i = 0; i < n; i++) add_row(&t, rows[i]);
     return t.length;
+}
+
+/* an input, and as many windows as a plan may have, each as wide as one may be; nine rows */
+static inline uint32_t eight_windows(struct row *rows) {
+    rows[0] = (struct row){ .op = IN };
+    for (uint8_t i = 1; i <= 8; i++) rows[i] = (struct row){ .op = (uint8_t)(WSUM + i % 3), .k = 64, .out = 1 };
+    return 9;
 }
 #endif

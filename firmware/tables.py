@@ -92,6 +92,19 @@ for plan in ['two inputs alone', 'two inputs, a signal form', 'two inputs, its f
     cells = ['%s | %s' % (count(zone(n, plan)[1]), count(int(zone(n, plan)[1]) - int(zone(n, 'two inputs alone')[1]))) for n in names]
     print('| %s | %s | %s | %s |' % (plan, zone(c, plan)[0], ' | '.join(cells), ms(zone(c, plan)[2])))
 print()
+print('A window of the latest 64 values, full, and neg, which looks at one, a reading to rest:')
+print()
+print('| plan | moves | %s | ms, %s |' % (' | '.join('%s, instructions | beside the input alone' % CORES[n] for n in names), CORES[c]))
+print('|---|---:|%s---:|' % ('---:|---:|' * len(names)))
+for plan in ['alone', 'neg', 'wsum of 64', 'wmin of 64', 'wmax of 64', 'eight windows of 64']:
+    zone = lambda n, plan: zones[n]['one input, ' + plan, 'a reading to rest']
+    cells = ['%s | %s' % (count(zone(n, plan)[1]), count(int(zone(n, plan)[1]) - int(zone(n, 'alone')[1]))) for n in names]
+    print('| one input, %s | %s | %s | %s |' % (plan, zone(c, plan)[0], ' | '.join(cells), ms(zone(c, plan)[2])))
+print()
+passing = [zones[n]['one input, wsum of 64', 'run over 16 readings'] for n in names]
+print('A run whose one move passes 16 readings, each sum of 64 out of range: %s; %s ms on the %s.'
+      % (', '.join('%s instructions on the %s' % (count(zone[1]), CORES[n]) for n, zone in zip(names, passing)), ms(passing[0][2]), CORES[c]))
+print()
 print('One move of a division to its event, and what div and rem take beside the same move of lt, which divides nothing:')
 print()
 print('| operands | %s |' % ' | '.join('%s, instructions with lt | div | rem' % CORES[n] for n in names))

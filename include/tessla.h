@@ -49,16 +49,22 @@
  * are full a move takes 1.1 ms. By that the 64 moves of a command 3 take 18 ms. Leave the watchdog twice that. Few calls with
  * much work in each cost least (docs/PERFORMANCE.md, "On the controller").
  *
+ * Windows. The operators wsum, wmin and wmax give at each event of their argument the sum, the least or the greatest of its
+ * latest k values, that event's included, or of all so far while they are fewer; k is 1 to 64, and a plan has at most eight
+ * windows. A sum outside the range of values gives no event, and the window goes on over the argument's events. What a window
+ * looks back at is kept in the state, behind the records.
+ *
  * Registers. A board that talks in single bytes makes the calls through a block of 24 bytes, tessla_register_write below;
  * examples/reader.c is a driver for one. A firmware that makes the calls itself needs no block.
  *
- * A copy of the state. The buffer may be copied anywhere, to flash say, and put back later, at any address. Only the records
- * of the plan's streams are used, tessla_used_length bytes; all behind them is 0 and need not be saved. A block of registers is
- * no part of the state: begin with a fresh one. A state put back has had the calls made up to its copy: what was accepted or
- * handed out after the copy does not count for it. Readings offered after the copy are to be offered again, and events collected
- * after the copy are handed out again. A copy damaged in storage is refused 15 where its contents are no state; where they
- * happen to be one, no call can know that it is not the one that was saved: a storage that gives back zeros gives a state without
- * a plan. So save to two places in turn, each with a checksum: examples/saving.c does, and loses no copy to a power cut.
+ * A copy of the state. The buffer may be copied anywhere, to flash say, and put back later, at any address. Only the records of
+ * the plan's streams are used, and the windows behind all records, if it has some: the first tessla_used_length bytes. All
+ * behind them is 0 and need not be saved. A block of registers is no part of the state: begin with a fresh one. A state put back
+ * has had the calls made up to its copy: what was accepted or handed out after the copy does not count for it. Readings offered
+ * after the copy are to be offered again, and events collected after the copy are handed out again. A copy damaged in storage is
+ * refused 15 where its contents are no state; where they happen to be one, no call can know that it is not the one that was
+ * saved: a storage that gives back zeros gives a state without a plan. So save to two places in turn, each with a checksum:
+ * examples/saving.c does, and loses no copy to a power cut.
  */
 #ifndef TESSLA_H
 #define TESSLA_H
@@ -82,10 +88,14 @@ extern "C" {
  *         it ends it.
  *   1.5   the block of registers: tessla_register_write, tessla_register_line, number 17, and tessla_bounds. The other calls, the
  *         plan texts and the states are those of 1.4.
+ *   1.6   the operators wsum, wmin, wmax in a plan, and number 18; an earlier engine refuses such a text 4. A plan without
+ *         windows is laid out as before. Of a plan with windows tessla_used_length counts them in. So a firmware that saves that
+ *         many bytes is to be compiled with this header: the earlier one leaves out all that the windows keep, and the copy, in
+ *         which zeros stand for it, is not refused.
  */
 #define TESSLA_VERSION_MAJOR 1
-#define TESSLA_VERSION_MINOR 5
-#define TESSLA_VERSION "1.5"
+#define TESSLA_VERSION_MINOR 6
+#define TESSLA_VERSION "1.6"
 
 /* The length of the state in bytes. Any other length is refused 15. */
 #define TESSLA_STATE_LENGTH 12288
@@ -93,7 +103,7 @@ extern "C" {
 /* The most bytes that a plan text may have. A longer one is refused 1. */
 #define TESSLA_TEXT_LIMIT 2048
 
-/* A plan has at most 32 streams, and none if its text has no bytes; a stream holds at most 16 events. */
+/* A plan has at most 32 streams, and none if its text has no bytes; a stream holds at most 16 events. Windows: see number 18. */
 #define TESSLA_STREAM_LIMIT 32
 #define TESSLA_ROOM 16
 
@@ -125,8 +135,9 @@ enum tessla_number {
     TESSLA_NO_OUTPUT = 13,     /* collect            no such stream, or out=0 */
     TESSLA_NOTHING = 14,       /* collect            nothing waits to be collected */
     TESSLA_BAD_STATE = 15,     /* all on a state     wrong state length; but for load also contents that are no state */
-    TESSLA_BAD_WRITE = 17      /* register calls     the block is not 24 bytes long; a write to bytes 17, 20 to 23 or beyond, or of
+    TESSLA_BAD_WRITE = 17,     /* register calls     the block is not 24 bytes long; a write to bytes 17, 20 to 23 or beyond, or of
                                                      a command other than 1 to 3. (16 is the replay program's.) */
+    TESSLA_TEXT_WINDOW = 18    /* load               the k of a wsum, wmin or wmax is not 1 to 64, or there are more than eight */
 };
 
 /*
@@ -137,7 +148,7 @@ enum tessla_number {
 
 /*
  * Load: takes a plan text and fills a fresh state, all bounds 0, whatever the state held before.
- * Numbers: 15, 1; then the first faulty line decides between 2, 3 and 4; then 5; then 6.
+ * Numbers: 15, 1; then the first faulty line decides between 2, 3 and 4; then 5; then 18; then 6.
  * A text of no bytes, and only that one, is a plan of no streams: it is taken, nothing is read through its pointer, and every
  * byte of the state becomes 0. plan=1 alone is 2, streams=0 is 3.
  */
@@ -255,10 +266,14 @@ uint32_t tessla_register_line(const uint8_t *block, uint64_t block_length, uint3
 
 /*
  * What the state's bytes say without a call, by the layout in docs/LAYOUT.md, of a state that load and the calls left: stream
- * i has the record of TESSLA_RECORD bytes at i * TESSLA_RECORD; its first byte is 0 if there is no such stream, its byte 3 is 1
- * if it is an output, its bytes 16 to 23 are its bound.
+ * i has the record of TESSLA_RECORD bytes at i * TESSLA_RECORD; its first byte is 0 if there is no such stream and 28 to 30 if
+ * it is a window, its byte 3 is 1 if it is an output, its bytes 16 to 23 are its bound. The values of the plan's j-th window,
+ * counted from 0 by stream number, lie at TESSLA_WINDOWS + j * TESSLA_WINDOW, the oldest first, 8 bytes each, as many as byte 5
+ * of its record says; all other bytes there are 0.
  */
 #define TESSLA_RECORD 256
+#define TESSLA_WINDOWS (TESSLA_STREAM_LIMIT * TESSLA_RECORD)
+#define TESSLA_WINDOW 512
 
 /* Whether a stream is an output. To ask before a collect costs nothing; a collect that is refused 13 costs a millisecond. */
 static inline int tessla_is_output(const uint8_t *state, uint32_t stream) {
@@ -272,9 +287,17 @@ static inline uint32_t tessla_streams(const uint8_t *state) {
     return n;
 }
 
-/* How many bytes of the state are used; all behind them is 0. Of a state without a plan none: to put it back, fill it with 0. */
+/*
+ * How many bytes of the state are used, from its beginning; all behind them is 0. Of a state without a plan none: to put it back,
+ * fill it with 0. Of a plan without windows its records; of one with windows all up to the end of the last.
+ */
 static inline uint32_t tessla_used_length(const uint8_t *state) {
-    return tessla_streams(state) * TESSLA_RECORD;
+    uint32_t n = tessla_streams(state), windows = 0;
+    for (uint32_t stream = 0; stream < n; stream++) {
+        uint8_t number = state[stream * TESSLA_RECORD];
+        if (number >= 28 && number <= 30) windows++;
+    }
+    return windows == 0 ? n * TESSLA_RECORD : TESSLA_WINDOWS + windows * TESSLA_WINDOW;
 }
 
 /*
@@ -310,7 +333,8 @@ static inline uint64_t tessla_bounds(const uint8_t *state) {
     X(13, "collect: no such stream, or it is no output") \
     X(14, "collect: nothing waits") \
     X(15, "the buffer is no state of this engine") \
-    X(17, "registers: the block is not 24 bytes long, this byte of it cannot be written, or the command is not 1, 2 or 3")
+    X(17, "registers: the block is not 24 bytes long, this byte of it cannot be written, or the command is not 1, 2 or 3") \
+    X(18, "a window is not 1 to 64 events wide, or the plan has more than eight windows")
 
 static inline const char *tessla_text(uint32_t number) {
     switch (number) {

@@ -1,10 +1,10 @@
 """Damaged plan texts, for the tests: edits of good plans, from the ones a hand makes to single bytes; and texts of few bytes."""
 import glob
 
-from shortly import OPERATORS, random_plan, text_of
+from shortly import OPERATORS, WINDOWS, random_plan, text_of
 
-NUMBERS = ["0", "1", "5", "31", "32", "33", "00", "01", "-0", "-1", "+1", "999", "1000", "", "1.5", "0,5", "9223372036854775807", "9223372036854775808", "-9223372036854775808", "-9223372036854775809"]
-NAMES = list(OPERATORS) + ["", "Merge", "merg", "count", "filter", "on", "x", "sneg", "sadds", "Sadd", "smerge", "add1", "abcdef", "in "]
+NUMBERS = ["0", "1", "5", "31", "32", "33", "64", "65", "00", "01", "-0", "-1", "+1", "999", "1000", "", "1.5", "0,5", "9223372036854775807", "9223372036854775808", "-9223372036854775808", "-9223372036854775809"]
+NAMES = list(OPERATORS) + ["", "Merge", "merg", "count", "filter", "on", "x", "sneg", "sadds", "Sadd", "smerge", "wsums", "Wsum", "wavg", "add1", "abcdef", "in "]
 LINES = ["", "# x", "plan=1", "plan=2", "streams=3", "op=in", "a=0", "b=0", "k=0", "out=0", "out=1", "out=2", " a=0", "a =0", "OP=in", "\t", "a=0\r"]
 # the plan of no streams, and what is close to it
 FEW = [b"", b"", b"", b"\n", b" ", b"\x00", b"\xef\xbb\xbf", b"plan=1", b"plan=1\n", b"plan=1\n\n", b"streams=0\n", b"plan=1\nstreams=0", b"plan=1\nstreams=0\n", b"plan=1\nstreams=0\n\n"]
@@ -46,12 +46,16 @@ def by_byte(draw, text):
 
 
 def by_field(draw, rows):
-    """A field of one stream, of the right form: what numbers 5 and 6 are about."""
+    """A field of one stream, of the right form: what numbers 5, 18 and 6 are about."""
     place = draw.randrange(len(rows))
     op, a, b, k, out = rows[place]
-    way = draw.randrange(5)
+    way = draw.randrange(7)
     if way == 0:
         op = draw.choice(list(OPERATORS))
+    elif way == 5 and OPERATORS[op] == 1:
+        op, k = draw.choice(WINDOWS), draw.choice([0, 1, 10, 63, 64, 64, 65, 66, 256, 257, -1, 2**32 + 5, 2**63 - 1, -2**63])
+    elif way == 6 and op in WINDOWS:
+        k = draw.choice([0, 65, -1])
     elif way in (1, 2):
         a = draw.randrange(len(rows) + 2)
     elif way == 3:
@@ -74,6 +78,10 @@ def texts(draw, rounds):
             continue
         if turn % 3 == 0:
             rows = random_plan(draw, draw.choice([1, 2, 5, 12, 32, 33]))
+            if draw.random() < 0.1:
+                # about as many windows as are taken
+                for place in draw.sample(range(len(rows)), min(len(rows), draw.randrange(7, 11))):
+                    rows[place] = draw.choice(WINDOWS), rows[place][1], 0, draw.choice([1, 2, 3, 64]), rows[place][4]
             for _ in range(draw.randrange(3)):
                 by_field(draw, rows)
             yield text_of(rows).encode()

@@ -1,6 +1,6 @@
-"""The definition, from document 01's operator table, the rules under it, and document 02's signal forms and rule of division: a
-plan and the readings of its inputs give to every stream its events. Plain and in one go, stamp by stamp; it knows nothing of
-calls, bounds or held events."""
+"""The definition, from document 01's operator table, the rules under it, and document 02's signal forms, rule of division and
+windows: a plan and the readings of its inputs give to every stream its events. Plain and in one go, stamp by stamp; it knows nothing
+of calls, bounds or held events."""
 import heapq
 
 LAST_STAMP = 4294967295
@@ -29,6 +29,8 @@ CALCULATE = {
 }
 # to each signal form what it works out of the latest values
 SIGNALS = {"s" + op: CALCULATE[op] for op in ("add", "sub", "mul", "div", "rem", "lt", "le", "eq")}
+# to each window what it works out of the latest k values, "or of all so far while fewer"
+WINDOWS = {"wsum": lambda values: within(sum(values)), "wmin": min, "wmax": max}
 
 
 def in_order(plan):
@@ -42,7 +44,7 @@ def in_order(plan):
         op, a, b = plan[s][:3]
         if op not in ("in", "nil", "unit", "last", "delay"):
             place(a)
-        if op not in ("in", "nil", "unit", "time", "set", "plus", "neg"):
+        if op not in ("in", "nil", "unit", "time", "set", "plus", "neg", *WINDOWS):
             place(b)
         order.append(s)
 
@@ -100,6 +102,8 @@ def meaning(plan, readings, until, most=None):
                 now[s] = within(now[a] + k)
             elif op == "neg":
                 now[s] = within(-now[a])
+            elif op in WINDOWS:
+                now[s] = WINDOWS[op]([*events[a].values(), now[a]][-k:])
             else:
                 now[s] = CALCULATE[op](now[a], now[b]) if now[b] is not None else None
         for s, value in enumerate(now):

@@ -2,8 +2,9 @@
 OPERATORS = {
     "in": 0, "nil": 0, "unit": 0, "time": 1, "set": 1, "plus": 1, "neg": 1, "add": 2, "sub": 2, "mul": 2, "div": 2, "rem": 2,
     "lt": 2, "le": 2, "eq": 2, "keep": 2, "merge": 2, "last": 2, "delay": 2, "sadd": 2, "ssub": 2, "smul": 2, "sdiv": 2,
-    "srem": 2, "slt": 2, "sle": 2, "seq": 2,
+    "srem": 2, "slt": 2, "sle": 2, "seq": 2, "wsum": 1, "wmin": 1, "wmax": 1,
 }
+WINDOWS = ["wsum", "wmin", "wmax"]
 
 
 def short(text):
@@ -30,12 +31,17 @@ def spelled(rows, s):
 
 
 def random_plan(draw, count):
-    """A plan that load takes: undelayed arguments are earlier streams in a hidden order, delayed ones any."""
+    """A plan that load takes: undelayed arguments are earlier streams in a hidden order, delayed ones any. One in ten has as many
+    windows as there is room for."""
+    many = draw.random() < 0.1
     names = list(range(count))
     draw.shuffle(names)
     rows = [None] * count
     for place, s in enumerate(names):
         op = draw.choice(["in"] * 3 + ["unit"] * 2 + list(OPERATORS)) if place else draw.choice(["in", "unit"])
+        op = draw.choice(WINDOWS) if place and many else op
+        if op in WINDOWS and sum(row is not None and row[0] in WINDOWS for row in rows) == 8:
+            op = "neg"
         a = b = k = 0
         if OPERATORS[op] >= 1:
             a = names[draw.randrange(count if op in ("last", "delay") else place)]
@@ -43,6 +49,8 @@ def random_plan(draw, count):
             b = names[draw.randrange(place)]
         if op in ("set", "plus"):
             k = draw.choice([0, 1, 1, 2, 3, 7, 60, -1, -5, 2**63 - 1, -2**63])
+        if op in WINDOWS:
+            k = draw.choice([1, 2, 2, 3, 3, 5, 10, 64])
         rows[s] = (op, a, b, k, op != "in" and draw.random() < 0.4)
     return rows
 
@@ -54,7 +62,10 @@ def random_readings(draw, plan, shared):
     for s, row in enumerate(plan):
         if row[0] == "in":
             stamps = sorted(draw.sample(free, min(len(free), draw.randrange(7))))
-            readings[s] = {t: draw.choice([0, 1, 2, 3, 5, -1, -4, draw.randrange(-100, 100)]) for t in stamps}
+            values = [0, 1, 2, 3, 5, -1, -4, draw.randrange(-100, 100)]
+            # so that sums leave the range
+            values += [2**63 - 1, -2**63] if draw.random() < 0.2 else []
+            readings[s] = {t: draw.choice(values) for t in stamps}
             if not shared:
                 free = [t for t in free if t not in stamps]
     return readings

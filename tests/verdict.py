@@ -1,17 +1,18 @@
 #!/usr/bin/env python3
-"""A second judge of plan texts, from document 01's "Plan text" and "Load" with document 02's operators and its plan of no streams,
-apart from the library: it reads a text from the standard input and prints `number=N line=L stream=S`, as the program `verdict` does. `verdict(text)`
-gives the three."""
+"""A second judge of plan texts, from document 01's "Plan text" and "Load" with document 02's operators, its plan of no streams and its
+number 18, apart from the library: it reads a text from the standard input and prints `number=N line=L stream=S`, as the program
+`verdict` does. `verdict(text)` gives the three."""
 import re
 import sys
 
 KEYS = ["op", "a", "b", "k", "out"]
 NO_ARGUMENT = ["in", "nil", "unit"]
-ONE_ARGUMENT = ["time", "set", "plus", "neg"]
+WINDOWS = ["wsum", "wmin", "wmax"]
+ONE_ARGUMENT = ["time", "set", "plus", "neg"] + WINDOWS
 CALCULATIONS = ["add", "sub", "mul", "div", "rem", "lt", "le", "eq"]
 # the signal forms among them: "with s in front"
 TWO_ARGUMENTS = CALCULATIONS + ["keep", "merge", "last", "delay"] + ["s" + op for op in CALCULATIONS]
-USE_K = ["set", "plus"]
+USE_K = ["set", "plus"] + WINDOWS
 DELAYED = ["last", "delay"]
 
 NATURAL = r"(?:0|[1-9][0-9]*)"
@@ -81,6 +82,17 @@ def rule_5(rows):
             raise Fault(5, 4 + 5 * stream + bad.index(True), stream)
 
 
+def rule_18(rows):
+    """"a width outside 1 to 64 or a ninth window": the lowest stream with such a width, by its k line; else the ninth window, by its
+    op line."""
+    windows = [stream for stream, row in enumerate(rows) if row[0] in WINDOWS]
+    for stream in windows:
+        if not 1 <= rows[stream][3] <= 64:
+            raise Fault(18, 6 + 5 * stream, stream)
+    if len(windows) > 8:
+        raise Fault(18, 3 + 5 * windows[8], windows[8])
+
+
 def rule_6(rows):
     """A cycle without a delayed argument: the lowest stream that leads to itself."""
     step = []
@@ -101,6 +113,7 @@ def verdict(text):
     try:
         rows = read(text)
         rule_5(rows)
+        rule_18(rows)
         rule_6(rows)
     except Fault as fault:
         return fault.args

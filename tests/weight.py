@@ -1,7 +1,8 @@
 #!/usr/bin/env python3
-"""The day of plans/weight, the evening of plans/light and the night of plans/hill, apart from the engine: the day's readings,
-and what must be printed of all three, by the arithmetic of the questions. Without an argument it compares the files with this;
-`tests/weight.py --write` writes the day's readings-0.txt, readings-1.txt and expected.txt. Run at the top of the repository."""
+"""The day of plans/weight, the evening of plans/light, the night of plans/hill and the weighings of plans/curve, apart from the
+engine: the day's readings, and what must be printed of all four, by the arithmetic of the questions. Without an argument it compares
+the files with this; `tests/weight.py --write` writes the day's readings-0.txt, readings-1.txt and expected.txt. Run at the top of the
+repository."""
 import re
 import sys
 from fractions import Fraction
@@ -106,6 +107,19 @@ def night(trace):
     return lines
 
 
+# ---- plans/curve
+
+def perch(trace):
+    """What the lines of a trace print: with each weighing the mean of the last ten of all so far, the least and the greatest."""
+    weighings, lines = [], []
+    for line in trace:
+        stamp, value = map(int, re.fullmatch(r"s=0 t=(\d+) v=(-?\d+)\n", line).groups())
+        weighings.append(value)
+        last = weighings[-10:]
+        lines += ["s=%d t=%d v=%d\n" % (s, stamp, v) for s, v in [(4, quotient(sum(last), len(last))), (5, min(last)), (6, max(last))]]
+    return lines
+
+
 def compare(folder, printed):
     """What is worked out of a folder's trace stands in its expected.txt; gives how many lines that are."""
     with open(folder + "/trace.txt", encoding="ascii") as file:
@@ -126,6 +140,7 @@ def main(write):
     print("the day of plans/weight: %d weighings, %d temperatures" % (DAY // MINUTE, len(TEMPERATURES)))
     print("the evening of plans/light: %d answers" % compare("plans/light", evening))
     print("the night of plans/hill: %d means" % compare("plans/hill", night))
+    print("the weighings of plans/curve: %d lines" % compare("plans/curve", perch))
 
 
 if __name__ == "__main__":

@@ -2,7 +2,7 @@
 whose stamps."""
 from collections import namedtuple
 
-from plans import CALCULATIONS, GREATEST, LAST_STAMP, LEAST, NO_ARGUMENT, ONE_ARGUMENT, SIGNALS
+from plans import CALCULATIONS, GREATEST, LAST_STAMP, LEAST, NO_ARGUMENT, ONE_ARGUMENT, SIGNALS, WINDOWS
 
 # What a stream may have at stamp 0 (`first`) and after it (`later`): NONE, one value only, or ANY value.
 NONE, ANY = "none", "any"
@@ -68,6 +68,20 @@ def one(stream, x):
     return within(x + stream.k if stream.op == "plus" else -x)
 
 
+def window(stream, a):
+    """Of a window: at stamp 0 there is one value to look at; after it there may be that one too, and others before."""
+    if stream.k == 1 or a.later == NONE:
+        return a
+    known = {a.first, a.later} - {NONE}
+    if ANY in known:
+        return May(a.first, ANY)
+    if stream.op == "wsum":
+        # one value again and again, or two: how many of each is not known
+        return May(a.first, 0 if known == {0} else ANY)
+    best = min(known) if stream.op == "wmin" else max(known)
+    return May(a.first, either(a.later, best))
+
+
 def sets(x):
     """Whether a timer may be set to it: to a whole number of stamps that does not lead past the last one for sure."""
     return x == ANY or (x != NONE and 1 <= x <= LAST_STAMP)
@@ -84,6 +98,8 @@ def row(stream, may):
     a = may[stream.a]
     if stream.op == "time":
         return May(NONE if a.first == NONE else 0, NONE if a.later == NONE else ANY)
+    if stream.op in WINDOWS:
+        return window(stream, a)
     if stream.op in ONE_ARGUMENT:
         return May(one(stream, a.first), one(stream, a.later))
     b = may[stream.b]

@@ -1,6 +1,6 @@
 """Warnings about a plan that load takes: what it does is settled, but hardly what was meant."""
 from events import ANY, NEVER, NONE, clocks, possible, row, sets
-from plans import CALCULATIONS, LAST_STAMP, ONE_ARGUMENT, SIGNALS, inputs, reached, readers, reads, sources
+from plans import CALCULATIONS, LAST_STAMP, ONE_ARGUMENT, SIGNALS, inputs, reached, readers, reads, sources, windows
 from words import joined
 
 # a timer that rings no more often than this has an end in sight
@@ -231,6 +231,20 @@ def strangers(plan, may, clock):
     return [(s, what) for s, what in said if what]
 
 
+# ---- windows that have nothing to look back at
+
+def single(plan, may):
+    """Windows over a stream that has one event at most."""
+    said = []
+    for s in windows(plan):
+        a = plan[s].a
+        if may[a] != NEVER and may[a].later == NONE:
+            said.append((s, (
+                "stream %d has an event only at stamp 0, so there is never more than this one value to look at. For a constant at "
+                "each event of another stream, as to count them, let a be a stream op=set of that one" % a)))
+    return said
+
+
 # ---- streams that lead nowhere
 
 def unread(plan, s):
@@ -274,5 +288,6 @@ def warnings(plan):
         return ["warning: " + NO_STREAMS]
     may = possible(plan)
     ticking = endless(plan, may)
-    found = nevers(plan, may) + ticking + strangers(plan, may, clocks(plan, may)) + nowhere(plan, {s for s, _ in ticking})
+    found = nevers(plan, may) + ticking + strangers(plan, may, clocks(plan, may)) + single(plan, may)
+    found += nowhere(plan, {s for s, _ in ticking})
     return ["warning: %s%s" % ("" if s is None else named(plan, s) + ": ", what) for s, what in found]

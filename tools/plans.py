@@ -12,16 +12,20 @@ HORIZON = LAST_STAMP + 1
 LEAST, GREATEST = -2**63, 2**63 - 1
 TEXT = 2048
 STREAMS = 32
+WIDEST = 64
+MOST_WINDOWS = 8
 
 # by what they use
 NO_ARGUMENT = ["in", "nil", "unit"]
-ONE_ARGUMENT = ["time", "set", "plus", "neg"]
+# at each event of their argument, something of its latest k values
+WINDOWS = ["wsum", "wmin", "wmax"]
+ONE_ARGUMENT = ["time", "set", "plus", "neg"] + WINDOWS
 CALCULATIONS = ["add", "sub", "mul", "div", "rem", "lt", "le", "eq"]
 # the signal form of each, on the last known values
 SIGNALS = {"s" + op: op for op in CALCULATIONS}
 TWO_ARGUMENTS = CALCULATIONS + ["keep", "merge", "last", "delay"] + list(SIGNALS)
 OPERATORS = NO_ARGUMENT + ONE_ARGUMENT + TWO_ARGUMENTS
-USE_K = ["set", "plus"]
+USE_K = ["set", "plus"] + WINDOWS
 KEYS = ["op", "a", "b", "k", "out"]
 
 Stream = namedtuple("Stream", "op a b k out")
@@ -47,7 +51,7 @@ def lines_of(text):
 
 
 def fields(text):
-    """The streams of a text whose lines have the right form, also if it breaks rule 5 or 6; none of the text of no bytes."""
+    """The streams of a text whose lines have the right form, also if it breaks rule 5, 18 or 6; none of the text of no bytes."""
     words = [line.rstrip(b"\n").split(b"=")[1].decode() for line in lines_of(text)[2:]]
     rows = [words[place:place + 5] for place in range(0, len(words), 5)]
     return [Stream(op, int(a), int(b), int(k), out == "1") for op, a, b, k, out in rows]
@@ -63,6 +67,10 @@ def reads(stream):
 def undelayed(stream):
     """Those of them that are read at the same stamp: all but the first of a last or a delay."""
     return [stream.b] if stream.op in ("last", "delay") else reads(stream)
+
+
+def windows(plan):
+    return [s for s, stream in enumerate(plan) if stream.op in WINDOWS]
 
 
 def inputs(plan):

@@ -4,8 +4,8 @@ import re
 
 import causes
 from causes import Cause
-from plans import CALCULATIONS, KEYS, NO_ARGUMENT, ONE_ARGUMENT, OPERATORS, STREAMS, TEXT, USE_K
-from plans import fields, lines_of, undelayed
+from plans import CALCULATIONS, KEYS, MOST_WINDOWS, NO_ARGUMENT, ONE_ARGUMENT, OPERATORS, STREAMS, TEXT, USE_K, WIDEST, WINDOWS
+from plans import fields, lines_of, undelayed, windows
 from words import joined, plural
 
 TABLE = '"From TeSSLa\'s usual operators" in docs/MANUAL.md'
@@ -13,6 +13,8 @@ TABLE = '"From TeSSLa\'s usual operators" in docs/MANUAL.md'
 IN_TABLE = ["count", "const", "prev", "on", "sum", "filter", "default", "and", "or", "not"]
 # those for an operator on events and on signals
 LIFTS = ["signal", "lift", "slift"]
+# names for the mean of the latest events
+MEANS = ["mean", "avg", "average", "wmean", "wavg"]
 
 
 def and_signals(names):
@@ -27,7 +29,8 @@ NEGATED = and_signals({"ne": "eq", "neq": "eq"})
 ELSEWHERE = and_signals({
     "input": "in", "read": "in", "null": "nil", "none": "nil", "empty": "nil", "value": "set", "minus": "sub", "times": "mul",
     "mult": "mul", "mod": "rem", "less": "lt", "lower": "lt", "lte": "le", "equal": "eq", "equals": "eq", "timer": "delay",
-    "either": "merge", "subtract": "sub", "multiply": "mul", "divide": "div", "modulo": "rem", "negate": "neg",
+    "either": "merge", "subtract": "sub", "multiply": "mul", "divide": "div", "modulo": "rem", "negate": "neg", "window": "wsum",
+    "wadd": "wsum", "least": "wmin", "minimum": "wmin", "greatest": "wmax", "maximum": "wmax",
 })
 
 
@@ -144,6 +147,8 @@ def nearest(name):
         return (
             "write the operator itself: op=add and the like work where both arguments have an event, op=sadd and the like on "
             'their last known values; see "Signals" in docs/MANUAL.md')
+    if low in MEANS:
+        return "a mean is a sum divided by how many there are, as by op=wsum and op=div; plans/curve has one of the last ten"
     if low in IN_TABLE:
         return "see %s: it says how to write %s in a plan" % (TABLE, low)
     if low.startswith("s") and low[1:] in ONE_ARGUMENT + ["keep", "merge", "last", "delay"]:
@@ -281,6 +286,18 @@ def of_field(plan, line, s):
     return Cause("%s=%d, but %s does not use %s: it uses %s" % (key, value, op, key, used), "write %s=0" % key)
 
 
+def of_window(plan, line, s):
+    """Number 18: the width at the line, or the operator of the first window too many, of stream s."""
+    if KEYS[(line - 3) % 5] == "k":
+        return Cause(
+            "k=%d, but the k of %s is %d to %d: how many of the latest events it looks at" % (plan[s].k, plan[s].op, 1, WIDEST),
+            "write a number from %d to %d" % (1, WIDEST))
+    return Cause(
+        "stream %d (%s) is a window too many: a plan has at most eight of %s, and this one has %d"
+        % (s, plan[s].op, joined(WINDOWS), len(windows(plan))),
+        "leave windows out, or split the plan into two; those before it are %s" % joined(windows(plan)[:MOST_WINDOWS]))
+
+
 def cycle(plan, s):
     """A shortest way from stream s back to itself by undelayed arguments."""
     ways, met = [[s]], set()
@@ -315,7 +332,9 @@ def why(text, verdict):
         return of_count(text)
     if number == 4:
         return of_operator(text, line)
-    return of_field(fields(text), line, stream) if number == 5 else of_cycle(fields(text), stream)
+    if number == 5:
+        return of_field(fields(text), line, stream)
+    return of_window(fields(text), line, stream) if number == 18 else of_cycle(fields(text), stream)
 
 
 # ---- what is printed

@@ -9,20 +9,24 @@
 #include <string.h>
 
 enum { STREAMS = 32, ROOM = 16, RECORD = 256, EVENTS = 64, SLOT = 12, STATE = 12288, TEXT = 2048 };
+/* windows: how many, their greatest width, the bytes of one, and where the first lies, behind the records */
+enum { WINDOWS = 8, WIDEST = 64, WINDOW = 8 * WIDEST, AT_WINDOWS = STREAMS * RECORD };
 #define HORIZON UINT64_C(4294967296)
 
 enum op {
     NONE, IN, NIL, UNIT, TIME, SET, PLUS, NEG, ADD, SUB, MUL, DIV, REM, LT, LE, EQ, KEEP, MERGE, LAST, DELAY,
-    SADD, SSUB, SMUL, SDIV, SREM, SLT, SLE, SEQ, OPS
+    SADD, SSUB, SMUL, SDIV, SREM, SLT, SLE, SEQ, WSUM, WMIN, WMAX, OPS
 };
 
 static const char *const NAMES[OPS] = { "",     "in",   "nil",  "unit", "time", "set",  "plus", "neg",   "add",  "sub",
                                         "mul",  "div",  "rem",  "lt",   "le",   "eq",   "keep", "merge", "last", "delay",
-                                        "sadd", "ssub", "smul", "sdiv", "srem", "slt",  "sle",  "seq" };
+                                        "sadd", "ssub", "smul", "sdiv", "srem", "slt",  "sle",  "seq",   "wsum", "wmin",
+                                        "wmax" };
 
+static bool is_window(unsigned op) { return op >= WSUM && op <= WMAX; }
 static bool uses_a(unsigned op) { return op >= TIME; }
-static bool uses_b(unsigned op) { return op >= ADD; }
-static bool uses_k(unsigned op) { return op == SET || op == PLUS; }
+static bool uses_b(unsigned op) { return op >= ADD && op <= SEQ; }
+static bool uses_k(unsigned op) { return op == SET || op == PLUS || is_window(op); }
 /* the first argument of a last or a delay is delayed */
 static bool waits_for_a(unsigned op) { return uses_a(op) && op != LAST && op != DELAY; }
 /* the signal forms stand in the order of the operations that they do */
@@ -96,6 +100,18 @@ static struct maybe prior_of(const uint8_t *r) { return kept(r, 6, 48); }
 static struct maybe latest_a(const uint8_t *r) { return kept(r, 5, 32); }
 static struct maybe latest_b(const uint8_t *r) { return kept(r, 6, 40); }
 
+/* of a window: how many values it keeps, and how many it keeps at most */
+static unsigned fill_of(const uint8_t *r) { return r[5]; }
+static unsigned width_of(const uint8_t *r) { return (unsigned)k_of(r); }
+static int64_t value_in(const uint8_t *w, unsigned i) { return value_of(get8(w + 8 * i)); }
+
+/* where the values of a window lie, by its rank among the plan's windows */
+static unsigned window_at(const uint8_t *state, const uint8_t *o) {
+    unsigned rank = 0;
+    for (const uint8_t *r = state; r < o; r += RECORD) rank += is_window(op_of(r));
+    return AT_WINDOWS + WINDOW * rank;
+}
+
 /* the number of held events below stamp t: the place of the first one at t or later */
 static unsigned place(const uint8_t *r, uint64_t t) {
     unsigned j = 0;
@@ -141,9 +157,12 @@ static bool all_zero(const uint8_t *p, size_t n) {
 static bool fields_good(unsigned op, unsigned a, unsigned b, bool k_is_0, unsigned out, unsigned n) {
     if (uses_a(op) ? a >= n : a != 0) return false;
     if (uses_b(op) ? b >= n : b != 0) return false;
-    if (!uses_k(op) && !k_is_0) return false;
+    if (!k_is_0 && !uses_k(op)) return false;
     return op != IN || out == 0;
 }
+
+/* the width of a window, as a k's bits */
+static bool width_good(uint64_t k) { return k >= 1 && k <= WIDEST; }
 
 struct edges {
     uint8_t count[STREAMS];
@@ -176,6 +195,7 @@ static bool no_cycle(const struct edges *e, unsigned n) {
 
 static bool kept_good(const uint8_t *r) {
     uint64_t bound = bound_of(r);
+    if (op_of(r) < LAST) return r[5] == 0 && r[6] == 0 && all_zero(r + 32, 24);
     if (op_of(r) == LAST) {
         if (r[5] > 1 || (r[5] == 0 && get8(r + 32) != 0) || (bound == 0 && r[5] != 0)) return false;
         return r[6] == 0 && get8(r + 40) == 0 && get8(r + 48) == 0;
@@ -193,7 +213,9 @@ static bool kept_good(const uint8_t *r) {
         if (r[6] > 1 || (r[6] == 0 && get8(r + 40) != 0)) return false;
         return get8(r + 48) == 0 && (bound > 0 || (r[5] == 0 && r[6] == 0));
     }
-    return r[5] == 0 && r[6] == 0 && all_zero(r + 32, 24);
+    /* a window */
+    if (!width_good(get8(r + 8)) || fill_of(r) > width_of(r) || (bound == 0 && fill_of(r) != 0)) return false;
+    return r[6] == 0 && all_zero(r + 32, 24);
 }
 
 static bool record_good(const uint8_t *r, unsigned n) {
@@ -217,13 +239,21 @@ static bool is_state(const uint8_t *state, uint64_t length, unsigned *streams) {
     unsigned n = 0;
     while (n < STREAMS && state[RECORD * n] != 0) n++;
     struct edges e;
+    /* what lies behind the last value of each window is 0, up to the next one */
+    unsigned windows = 0;
+    const uint8_t *behind = state + RECORD * n;
     for (unsigned s = 0; s < n; s++) {
         const uint8_t *r = state + RECORD * s;
         if (!record_good(r, n)) return false;
         note(&e, s, op_of(r), arg_a(r), arg_b(r));
+        if (!is_window(op_of(r))) continue;
+        if (windows == WINDOWS) return false;
+        const uint8_t *w = state + AT_WINDOWS + WINDOW * windows++;
+        if (!all_zero(behind, (size_t)(w - behind))) return false;
+        behind = w + 8 * fill_of(r);
     }
     *streams = n;
-    return all_zero(state + RECORD * n, STATE - RECORD * (size_t)n) && no_cycle(&e, n);
+    return all_zero(behind, (size_t)(state + STATE - behind)) && no_cycle(&e, n);
 }
 
 /* ---- load */
@@ -320,6 +350,11 @@ uint32_t ref_load(uint8_t *state, uint64_t state_length, const uint8_t *text, ui
         if (!fields_good(l->op, (unsigned)l->a, (unsigned)l->b, l->k == 0, (unsigned)l->out, (unsigned)n)) return 5;
         note(&e, s, l->op, (unsigned)l->a, (unsigned)l->b);
     }
+    unsigned windows = 0;
+    for (unsigned s = 0; s < n; s++) {
+        if (!is_window(lines[s].op)) continue;
+        if (!width_good(lines[s].k) || windows++ == WINDOWS) return 18;
+    }
     if (!no_cycle(&e, (unsigned)n)) return 6;
     memset(state, 0, STATE);
     for (unsigned s = 0; s < n; s++) {
@@ -386,6 +421,59 @@ static struct next one_next(const uint8_t *o, const uint8_t *a) {
         uint64_t t = stamp_at(a, j);
         struct maybe v = one_value(op_of(o), k_of(o), t, value_at(a, j));
         if (v.is) return found(t, v.v);
+    }
+    return silent(reach);
+}
+
+/*
+ * The latest values of a window, looked at without being moved: a's held events from its bound on, up to the one at place `to`, and
+ * as many of the kept before them as the width leaves.
+ */
+struct latest_k {
+    const uint8_t *w, *a;
+    unsigned oldest, fill, from, to;
+};
+
+static struct latest_k latest_k(const uint8_t *o, const uint8_t *w, const uint8_t *a, unsigned first, unsigned to) {
+    unsigned width = width_of(o), fill = fill_of(o), fresh = to - first, from = first, old = 0;
+    if (fresh > width) from = to - width;
+    else old = fill + fresh > width ? width - fresh : fill;
+    return (struct latest_k){ w, a, fill - old, fill, from, to };
+}
+
+/*
+ * The sum over whole numbers: what fits 64 bits, and how often it went over or under, which is 0 exactly if the whole sum is a
+ * value.
+ */
+static void added(int64_t *sum, int *over, int64_t v) {
+    if (__builtin_add_overflow(*sum, v, sum)) *over += v < 0 ? -1 : 1;
+}
+
+static struct maybe sum_of(struct latest_k x) {
+    int64_t sum = 0;
+    int over = 0;
+    for (unsigned i = x.oldest; i < x.fill; i++) added(&sum, &over, value_in(x.w, i));
+    for (unsigned j = x.from; j < x.to; j++) added(&sum, &over, value_at(x.a, j));
+    return over == 0 ? some(sum) : NOTHING;
+}
+
+static int64_t better(unsigned op, int64_t x, int64_t y) { return (op == WMIN ? y < x : y > x) ? y : x; }
+
+/* there is at least one held event among them */
+static struct maybe best_of(unsigned op, struct latest_k x) {
+    int64_t v = value_at(x.a, x.to - 1);
+    for (unsigned i = x.oldest; i < x.fill; i++) v = better(op, v, value_in(x.w, i));
+    for (unsigned j = x.from; j < x.to; j++) v = better(op, v, value_at(x.a, j));
+    return some(v);
+}
+
+static struct next window_next(const uint8_t *o, const uint8_t *w, const uint8_t *a) {
+    uint64_t y = bound_of(o), reach = most(y, bound_of(a));
+    unsigned first = place(a, y);
+    for (unsigned j = first; j < held(a); j++) {
+        struct latest_k x = latest_k(o, w, a, first, j + 1);
+        struct maybe v = op_of(o) == WSUM ? sum_of(x) : best_of(op_of(o), x);
+        if (v.is) return found(stamp_at(a, j), v.v);
     }
     return silent(reach);
 }
@@ -467,6 +555,7 @@ static struct next next_of(const uint8_t *state, const uint8_t *o) {
     if (op == LAST) return last_next(o, a, b);
     if (op == DELAY) return delay_next(o, a, b);
     if (is_signal(op)) return signal_next(o, a, b);
+    if (is_window(op)) return window_next(o, state + window_at(state, o), a);
     return uses_b(op) ? two_next(o, a, b) : one_next(o, a);
 }
 
@@ -491,7 +580,7 @@ static void release(uint8_t *state, unsigned n, unsigned s) {
     o[4] = (uint8_t)left;
 }
 
-/* a last or a delay keeps what comes in below its bound; a signal form keeps what it moved over, and is not told */
+/* a last or a delay keeps what comes in below its bound; a signal form or a window keeps what it moved over, and is not told */
 static void tell(uint8_t *r, unsigned s, uint64_t t, int64_t v) {
     uint64_t y = bound_of(r);
     if (t >= y) return;
@@ -527,9 +616,21 @@ static void absorb(uint8_t *o, const uint8_t *a, const uint8_t *b) {
     }
 }
 
+/* a window from bound y on to its new one keeps a's held events there; the oldest values make room */
+static void move_window(uint8_t *o, uint8_t *w, const uint8_t *a, uint64_t y) {
+    unsigned first = place(a, y), to = place(a, bound_of(o));
+    struct latest_k x = latest_k(o, w, a, first, to);
+    unsigned old = x.fill - x.oldest, fill = old + x.to - x.from;
+    if (first == to) return;
+    memmove(w, w + 8 * x.oldest, 8 * old);
+    for (unsigned j = x.from; j < x.to; j++) put8(w + 8 * (old + j - x.from), (uint64_t)value_at(a, j));
+    o[5] = (uint8_t)fill;
+}
+
 /* the bound of stream s goes to y, with or without an event (t, v) */
 static void raise(uint8_t *state, unsigned n, unsigned s, uint64_t y, bool event, uint64_t t, int64_t v) {
     uint8_t *o = state + RECORD * s;
+    uint64_t before = bound_of(o);
     put8(o + 16, y);
     if (event) {
         uint8_t *slot = o + EVENTS + SLOT * held(o);
@@ -538,6 +639,7 @@ static void raise(uint8_t *state, unsigned n, unsigned s, uint64_t y, bool event
         o[4]++;
     }
     absorb(o, state + RECORD * arg_a(o), state + RECORD * arg_b(o));
+    if (is_window(op_of(o))) move_window(o, state + window_at(state, o), state + RECORD * arg_a(o), before);
     if (event)
         for (unsigned i = 0; i < n; i++) tell(state + RECORD * i, s, t, v);
     release(state, n, s);

@@ -26,16 +26,54 @@ static uint32_t make(char *text, uint32_t n) {
     return at;
 }
 
-/* the loaded plan has n streams */
-static void look(uint32_t n) {
+/* the loaded plan has n streams, and so many bytes of the state are used */
+static void look_used(uint32_t n, uint32_t used) {
     uint32_t stamp;
     int64_t value;
     expect(tessla_streams(state) == n, "the number of streams", n);
-    expect(tessla_used_length(state) == n * 256, "the bytes used", n);
+    expect(tessla_used_length(state) == used, "the bytes used", n);
     for (uint32_t i = tessla_used_length(state); i < TESSLA_STATE_LENGTH; i++) expect(state[i] == 0, "a byte behind the used ones", i);
     for (uint32_t i = 0; i < 300; i++) {
         uint32_t number = tessla_collect(state, sizeof state, i, &stamp, &value);
         expect(tessla_is_output(state, i) == (number != TESSLA_NO_OUTPUT), "whether a stream is an output", i);
+    }
+}
+
+/* the loaded plan has n streams and no window */
+static void look(uint32_t n) {
+    look_used(n, n * 256);
+}
+
+/* plans of w windows over one input, with a stream behind them: what is used has all that they keep, up to its last byte once the last
+   window is full, and so does the place that the header gives to each */
+static void look_at_windows(void) {
+    char text[TESSLA_TEXT_LIMIT + 1];
+    const char *names[] = { "wsum", "wmin", "wmax" };
+    uint32_t moves, stamp;
+    int64_t value;
+    for (uint32_t w = 0; w <= 9; w++) {
+        uint32_t at = (uint32_t)sprintf(text, "plan=1\nstreams=%lu\nop=in\na=0\nb=0\nk=0\nout=0\n", (unsigned long)w + 2);
+        for (uint32_t i = 0; i < w; i++) at += (uint32_t)sprintf(text + at, "op=%s\na=0\nb=0\nk=64\nout=0\n", names[i % 3]);
+        at += (uint32_t)sprintf(text + at, "op=neg\na=0\nb=0\nk=0\nout=1\n");
+        uint32_t number = tessla_load(state, sizeof state, (const uint8_t *)text, at);
+        expect(number == (w <= 8 ? TESSLA_DONE : TESSLA_TEXT_WINDOW), "load of windows", w);
+        if (number != TESSLA_DONE) break;
+        uint32_t used = w == 0 ? 512 : 8192 + 512 * w;
+        look_used(w + 2, used);
+        for (uint32_t t = 1; t <= 70; t++) {
+            expect(tessla_offer_reading(state, sizeof state, 0, t, -(int64_t)t) == TESSLA_DONE, "a reading", t);
+            expect(tessla_run(state, sizeof state, 99, &moves) == TESSLA_DONE && moves == w + 1, "a run of windows", w);
+            expect(tessla_collect(state, sizeof state, w + 1, &stamp, &value) == TESSLA_DONE, "a collect", w);
+        }
+        look_used(w + 2, used);
+        for (uint32_t j = 0; j < w; j++) {
+            const uint8_t *window = state + TESSLA_WINDOWS + j * TESSLA_WINDOW;
+            expect(state[(j + 1) * TESSLA_RECORD + 5] == 64, "a full window", j);
+            /* -7, the oldest of the latest 64, to -70 */
+            for (uint32_t i = 0; i < 64; i++)
+                for (uint32_t b = 0; b < 8; b++) expect(window[8 * i + b] == (b == 0 ? (uint8_t)(249 - i) : 255), "a value of a window", i);
+        }
+        if (w > 0) expect(state[used - 1] == 255, "the last used byte", w);
     }
 }
 
@@ -190,11 +228,12 @@ int main(void) {
     look(0);
     expect(!tessla_is_output(state, UINT32_MAX) && !tessla_is_output(state, 1u << 24), "a stream far out", 0);
 
+    look_at_windows();
     look_at_bounds();
     look_at_places();
     look_at_a_run();
 
-    for (uint32_t n = 0; n <= TESSLA_BAD_WRITE; n++)
+    for (uint32_t n = 0; n <= TESSLA_TEXT_WINDOW; n++)
         for (uint32_t m = 0; m < n; m++) expect(strcmp(tessla_text(n), tessla_text(m)) != 0, "one text for two numbers", n);
     expect(strcmp(tessla_text(16), "no number of this engine") == 0, "the text of no number", 16);
     sprintf(version, "%d.%d", TESSLA_VERSION_MAJOR, TESSLA_VERSION_MINOR);

@@ -151,6 +151,25 @@ static void no_plan(void) {
         }
 }
 
+/* what windows keep lies behind the records, and is saved with them: a copy of a plan with two, one of them full */
+static void windows(void) {
+    static const char TEXT[] = "plan=1\nstreams=3\nop=in\na=0\nb=0\nk=0\nout=0\nop=wsum\na=0\nb=0\nk=3\nout=0\nop=wmin\na=0\nb=0\nk=64\nout=0\n";
+    static uint8_t before[TESSLA_STATE_LENGTH], state[TESSLA_STATE_LENGTH];
+    uint32_t moves;
+    if (tessla_load(before, sizeof before, (const uint8_t *)TEXT, sizeof TEXT - 1) != TESSLA_DONE) fail("load of windows");
+    for (uint32_t t = 0; t < 66; t++) {
+        if (tessla_offer_reading(before, sizeof before, 0, t, -1) != TESSLA_DONE) fail("offer");
+        if (tessla_run(before, sizeof before, 9, &moves) != TESSLA_DONE || moves != 2) fail("run");
+        if (t % 11 != 0) continue;
+        memset(flash, 0xFF, sizeof flash);
+        left = 1000000;
+        save(before);
+        memset(state, 0xEE, sizeof state);
+        if (!restore(state) || memcmp(state, before, sizeof state) != 0) fail("a copy of windows is not what was saved");
+        if (tessla_run(state, sizeof state, 5, &moves) != TESSLA_DONE || moves != 0) fail("what was restored is no state");
+    }
+}
+
 /* a copy of every earlier minor version is found, and the next save goes on from it; one of another first part is none */
 static void versions(void) {
     for (int minor = 0; minor <= TESSLA_VERSION_MINOR; minor++) {
@@ -169,6 +188,7 @@ static void versions(void) {
 int main(void) {
     make_states();
     no_plan();
+    windows();
     versions();
     /* flash as it comes, and flash with anything in it */
     for (int fill = 0; fill < 2; fill++) {

@@ -6,6 +6,8 @@ use Rattle.apply.specs.declared.Calc.{Calc}
 use Rattle.apply.specs.declared.Calc.the-variants.{Add, Sub, Mul, Div, Rem, Lt, Le, Eq}
 use Rattle.apply.specs.declared.Binary.{Binary}
 use Rattle.apply.specs.declared.Binary.the-variants.{Arith, Keep, Merge}
+use Rattle.apply.specs.declared.Fold.{Fold}
+use Rattle.apply.specs.declared.Fold.the-variants.{Sum, Least, Greatest}
 
 abbrev pub unary : Unary → plan.Unary
 unary Time = plan.time
@@ -27,3 +29,8 @@ abbrev pub binary : Binary → plan.Binary
 binary (Arith g) = plan.calc (calculation g)
 binary Keep = plan.keep
 binary Merge = plan.merge
+
+abbrev pub folding : Fold → plan.Fold
+folding Sum = plan.wsum
+folding Least = plan.wmin
+folding Greatest = plan.wmax

@@ -36,6 +36,13 @@ pub enum Binary {
     Merge,
 }
 
+// What a window tells of its values.
+pub enum Fold {
+    Sum,
+    Least,
+    Greatest,
+}
+
 // The value of an answer, if it has one.
 fn value_of(x: Answer) -> Found
     ensures { λ r. ⌜ asOption r ≡ valueOf x ⌝ }

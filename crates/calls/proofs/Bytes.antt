@@ -1,14 +1,16 @@
 -- The bytes of a state are bytes.
 use Prim.Native.Nat.{ℕ, zero, suc, _*_, _-_}
-use mathlib.Core.List.{List, [], _∷_, _++_}
+use mathlib.Core.List.{List, [], _∷_, _++_, map}
 use lib.Dec.{lit<}
 use lib.ListN.{length, replicate}
 use Rattle.le.specs.Bytes.{Bytes, enc}
 use Rattle.le.specs.Layout.{encFields, encRows}
 use Rattle.le.proofs.Laws.{enc-bytes}
 use Rattle.machine.specs.State.{State, room}
+use Rattle.operators.specs.Limits.{widthLimit, windowLimit}
 use Rattle.layout.specs.Record.{Slot, Raw, noSlot, noRaw, headWidths, slotWidths, slotNums, encSlot, encRaw, encode}
-use Rattle.encoding.specs.View.{rawsOf, bytesOf}
+use Rattle.layout.specs.Windows.{areaLength, encWindow, encWindows}
+use Rattle.encoding.specs.View.{windowsOf, wordsOf, behind, rawsOf, bytesOf}
 
 append-bytes : (x y : List ℕ) → Bytes x → Bytes y → Bytes (x ++ y)
 append-bytes [] y a b i = b i
@@ -40,8 +42,16 @@ zero-bytes zero i = lit< tt
 zero-bytes (suc n) zero = lit< tt
 zero-bytes (suc n) (suc i) = zero-bytes n i
 
+window-bytes : (ws : List ℕ) → Bytes (encWindow ws)
+unfolding encWindow
+window-bytes ws = rows-bytes (enc 8) 0 (enc-bytes 8) widthLimit ws
+
+area-bytes : (l : List (List ℕ)) → Bytes (encWindows l)
+unfolding encWindows
+area-bytes l = rows-bytes encWindow [] window-bytes windowLimit l
+
 pub state-bytes : (n : ℕ) (M : State) → Bytes (bytesOf n M)
-unfolding bytesOf rawsOf encode
+unfolding bytesOf rawsOf behind encode
 state-bytes n M =
     append-bytes (encRows encRaw noRaw (length M) (rawsOf n M .rows)) (rawsOf n M .spare) (rows-bytes encRaw noRaw raw-bytes (length M) (rawsOf n M .rows))
-    (zero-bytes (n - length M * 256))
+    (append-bytes (replicate (n - areaLength - length M * 256) 0) (encWindows (map wordsOf (windowsOf M))) (zero-bytes (n - areaLength - length M * 256)) (area-bytes (map wordsOf (windowsOf M))))

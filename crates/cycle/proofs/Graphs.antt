@@ -7,7 +7,7 @@ use native.Mathlib.Omega.{arith}
 use lib.Dec.{lit<}
 use lib.ListN.{length, getD, length-append, List·getD-append}
 use lib.Seq.{getD-append-add}
-use Rattle.meaning.specs.Plan.{Eqn, input, nil, unit, one, two, last, delay, signal, Plan, eqnAt}
+use Rattle.meaning.specs.Plan.{Eqn, input, nil, unit, one, two, last, delay, signal, window, Plan, eqnAt}
 use Rattle.meaning.specs.Arguments.{undelayed, prompts, argA, argB, AllBelow}
 use Rattle.meaning.specs.CycleTest.{acyclic}
 use Rattle.operators.specs.Limits.{mostStreams}
@@ -44,6 +44,7 @@ args-by (two g a b) = (refl, refl)
 args-by (last a b) = (refl, refl)
 args-by (delay a b) = (refl, refl)
 args-by (signal c a b) = (refl, refl)
+args-by (window f k a) = (refl, refl)
 
 more : (e : Eqn) (plan : Plan) (r : List ℕ) → graphOf (e ∷ plan) ++ r ≡ entryBy (undelayed e) ++ (graphOf plan ++ r)
 unfolding graphOf

@@ -38,7 +38,7 @@ pub fn note(graph: &mut [u8], i: usize, op: u8, a: u8, b: u8)
     let at = 3 * i;
     match operators::group_of(op as u64) {
         Group::Absent | Group::Input | Group::Plain => store(graph, at, BARE, 0, 0),
-        Group::One => store(graph, at, OPEN, a, a),
+        Group::One | Group::Window => store(graph, at, OPEN, a, a),
         Group::Two | Group::Signal => store(graph, at, OPEN, a, b),
         Group::Last | Group::Delay => store(graph, at, OPEN, b, b),
     }

@@ -8,9 +8,9 @@ use native.Mathlib.Omega.{arith}
 use lib.Dec.{leb, ltb}
 use lib.IntN.{ℤ}
 use borrow.Author.Tests.{lt-ltb, le-ltb}
-use Rattle.meaning.specs.Plan.{Unary, Binary, Calc, Eqn, input, nil, unit, one, two, last, delay, signal}
+use Rattle.meaning.specs.Plan.{Unary, Binary, Calc, Eqn, input, nil, unit, one, two, last, delay, signal, window}
 use Rattle.meaning.specs.Events.{has}
-use Rattle.machine.specs.State.{Cell}
+use Rattle.machine.specs.State.{Cell, withPassed}
 use Rattle.machine.specs.Reach.{least, limit, stops, gives, reach, first, event, silent, nextOf, decide}
 use Rattle.machine.proofs.Search.{least-ge}
 use Rattle.streams.specs.Look.{ownCell, argCell}
@@ -137,7 +137,7 @@ module _ (o a b : Cell) where
 
 -- ---- a move looks at no more of the cells than this
 
-pub decide-near : (e : Eqn) (o a b : Cell) → decide e (ownCell (o .eqn) (o .bound) (o .kept)) (argCell (a .bound) (a .held)) (argCell (b .bound) (b .held)) ≡ decide e o a b
+pub decide-near : (e : Eqn) (o a b : Cell) → decide e (withPassed (o .passed) (ownCell (o .eqn) (o .bound) (o .kept))) (argCell (a .bound) (a .held)) (argCell (b .bound) (b .held)) ≡ decide e o a b
 unfolding decide
 decide-near input o a b = refl
 decide-near nil o a b = refl
@@ -147,3 +147,4 @@ decide-near (two g _ _) o a b = refl
 decide-near (last _ _) o a b = refl
 decide-near (delay _ _) o a b = refl
 decide-near (signal c _ _) o a b = refl
+decide-near (window f k _) o a b = refl

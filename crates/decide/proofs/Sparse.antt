@@ -9,9 +9,9 @@ use native.Mathlib.Omega.{arith}
 use native.Mathlib.Decide.{decLt, decLe}
 use lib.Dec.{T, leb, ltb, eqb, leb→le, ltb→lt, eqb→eq, le→leb, lt→ltb, eqb-refl, not-T, T-not}
 use lib.IntN.{ℤ, pos, negsuc}
-use Rattle.meaning.specs.Plan.{Unary, Binary, Calc, calc, keep, merge, Eqn, input, nil, unit, one, two, last, delay, signal}
+use Rattle.meaning.specs.Plan.{Unary, Binary, Calc, Fold, calc, keep, merge, Eqn, input, nil, unit, one, two, last, delay, signal, window}
 use Rattle.meaning.specs.Events.{Event, found, has, orElse}
-use Rattle.meaning.specs.Table.{one-at, two-at, unit-at, last-at, signal-at, is, delay-at}
+use Rattle.meaning.specs.Table.{one-at, two-at, unit-at, last-at, signal-at, window-at, is, delay-at}
 use Rattle.meaning.proofs.Tests.{Is, yes!, no!, look, T-and, T-and-l, T-and-r, T-or, T-or-l, T-or-r}
 use Rattle.machine.specs.State.{Cell}
 use Rattle.machine.specs.Reach.{view, pastLatest, least, limit, point, stops, reach, due, gives, first}
@@ -137,6 +137,11 @@ signal-has c (some v) p x y h = inl tt
 signal-has c none (some w) x y h = inr tt
 signal-has c none none x y h = absurd h
 
+window-has : (f : Fold) (o : Option ℤ) (xs : List ℤ) → T (has (window-at f o xs)) → T (has o)
+unfolding window-at
+window-has f none xs h = h
+window-has f (some x) xs h = tt
+
 last-has : (o v : Option ℤ) → T (has (last-at o v)) → T (has o)
 unfolding last-at
 last-has none v h = h
@@ -183,6 +188,7 @@ gives-in unit o a b t l h = unit-has t h
 gives-in (one f _) o a b t l h = found-in (a .held) t (one-has f t (view a t) h)
 gives-in (two g _ _) o a b t l h = either-in a b t (two-has g (view a t) (view b t) h)
 gives-in (signal c _ _) o a b t l h = either-in a b t (signal-has c (view a t) (view b t) _ _ h)
+gives-in (window f k _) o a b t l h = found-in (a .held) t (window-has f (view a t) _ h)
 gives-in (last _ _) o a b t l h = found-in (b .held) t (last-has (view b t) _ h)
 gives-in (delay _ _) o a b t l h = go (point-in o b t)
   where
@@ -258,6 +264,7 @@ stop-in (two g _ _) o a b t l h = absurd h
 stop-in (last _ _) o a b t l h = (t, found-in (b .held) t (T-and-l (has (view b t)) (ltb (a .bound) t) h), l, omega arith, h)
 stop-in (delay _ _) o a b t l h = delay-stop o a b t l h
 stop-in (signal c _ _) o a b t l h = absurd h
+stop-in (window f k _) o a b t l h = absurd h
 
 pub reach-pick : (e : Eqn) (o a b : Cell) → reach e o a b ≡ pick (stops e o a b) (o .bound) (max (o .bound) (limit e o a b)) (halts e o a b)
 unfolding reach

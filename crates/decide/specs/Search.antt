@@ -3,7 +3,7 @@ use Prim.Native.Nat.{ℕ, suc, pred, _+_}
 use mathlib.Core.Bool.{Bool, true, false, cond, _&&_}
 use mathlib.Core.List.{List, [], _∷_, _++_, map}
 use lib.Dec.{leb, ltb}
-use Rattle.meaning.specs.Plan.{Eqn, input, nil, unit, one, two, last, delay, signal}
+use Rattle.meaning.specs.Plan.{Eqn, input, nil, unit, one, two, last, delay, signal, window}
 use Rattle.meaning.specs.Events.{Event, has}
 use Rattle.machine.specs.State.{Cell}
 use Rattle.machine.specs.Reach.{stops, gives, valueAt}
@@ -31,6 +31,7 @@ wanted (two g _ _) o a b = stamps (a .held) ++ stamps (b .held)
 wanted (last _ _) o a b = stamps (b .held)
 wanted (delay _ _) o a b = map (dueAt o a) (o .kept .since ∷ map suc (stamps (b .held)))
 wanted (signal c _ _) o a b = stamps (a .held) ++ stamps (b .held)
+wanted (window f k _) o a b = stamps (a .held)
 
 -- those at which its reach can end
 abbrev pub halts : Eqn → (o a b : Cell) → List ℕ
@@ -42,6 +43,7 @@ halts (two g _ _) o a b = []
 halts (last _ _) o a b = stamps (b .held)
 halts (delay _ _) o a b = o .bound ∷ map suc (stamps (b .held))
 halts (signal c _ _) o a b = []
+halts (window f k _) o a b = []
 
 -- the two tests of a search: an event (true), or the end of the reach
 unfoldable pub test : Bool → Eqn → (o a b : Cell) → ℕ → Bool
@@ -58,6 +60,7 @@ candidateOf g (two f _ _) o a s = s
 candidateOf g (last _ _) o a s = s
 candidateOf g (delay _ _) o a s = cond g (dueAt o a (suc s)) (suc s)
 candidateOf g (signal c _ _) o a s = s
+candidateOf g (window f k _) o a s = s
 
 -- the better of a candidate and the best so far
 abbrev pub nearer : Bool → Eqn → (o a b : Cell) → (c best : ℕ) → ℕ

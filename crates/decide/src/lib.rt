@@ -1,4 +1,5 @@
-// The decision of a move: how far the equation sees, and the first event that it has there.
+// The decision of a move: how far the equation sees, and the first event that it has there. Of all equations but windows, for
+// which nil stands here: crates/windows has theirs.
 ghost use mathlib.Core.Path.{_≡_};
 ghost use mathlib.Core.Bool.{true};
 ghost use mathlib.Core.List.{List};
@@ -8,7 +9,7 @@ ghost use Rattle.meaning.specs.Events.{Event, horizon};
 ghost use Rattle.machine.specs.Reach as machine;
 ghost use Rattle.layout.specs.Record.{decRaw};
 ghost use Rattle.encoding.specs.Back.{heldOf};
-ghost use Rattle.streams.specs.Look.{lookOf, equation, ownOf, argCell, argOf, Bounded, Within};
+ghost use Rattle.streams.specs.Look.{lookOf, plain, ownOf, argCell, argOf, Bounded, Within};
 ghost use Rattle.events.specs.Near.{keeping, holding};
 ghost use Rattle.decide.specs.Search.{dueAt};
 ghost use Rattle.decide.specs.Near.{testIn, nearerIn, candidateIn, searchIn, reachIn, firstIn, nextIn, toNext, knownTo};
@@ -28,7 +29,7 @@ pub enum Next {
 // Whether the reach ends at t.
 fn stops(l: Look, b: &[u8], t: u64) -> bool
     requires { ⌜ Within l × (length (now b) ≡ 256) ⌝ }
-    ensures { λ r. ⌜ ((x : List Event) → r ≡ machine.stops (equation (l .stream .op)) (ownOf (l .stream)) (argCell (l .abound) x) (argOf (l .bbound) (now (b .entry))) t) ⌝ }
+    ensures { λ r. ⌜ ((x : List Event) → r ≡ machine.stops (plain (l .stream .op)) (ownOf (l .stream)) (argCell (l .abound) x) (argOf (l .bbound) (now (b .entry))) t) ⌝ }
 {
     let s = l.stream;
     let op = s.op;
@@ -51,6 +52,7 @@ fn stops(l: Look, b: &[u8], t: u64) -> bool
             l.abound < z
         }
         Op::Signal(_, _, _) => false,
+        Op::Window(_, _, _) => false,
     }
 }
 
@@ -114,6 +116,7 @@ fn candidate(give: bool, l: Look, a: &[u8], s: u64) -> u64
             s + 1
         }
         Op::Signal(_, _, _) => s,
+        Op::Window(_, _, _) => s,
     }
 }
 
@@ -147,7 +150,7 @@ fn scan_both(l: Look, a: &[u8], b: &[u8], hi: u64) -> u64
 // The greatest bound that the arguments' bounds allow.
 fn limit(l: Look) -> u64
     requires { ⌜ Within l ⌝ }
-    ensures { λ r. ⌜ ((x y : List Event) → r ≡ machine.limit (equation (l .stream .op)) (ownOf (l .stream)) (argCell (l .abound) x) (argCell (l .bbound) y)) × (r ≤ horizon) ⌝ }
+    ensures { λ r. ⌜ ((x y : List Event) → r ≡ machine.limit (plain (l .stream .op)) (ownOf (l .stream)) (argCell (l .abound) x) (argCell (l .bbound) y)) × (r ≤ horizon) ⌝ }
 {
     let s = l.stream;
     let op = s.op;
@@ -160,6 +163,7 @@ fn limit(l: Look) -> u64
         Op::Last(_, _) => l.bbound,
         Op::Delay(_, _) => streams::smaller(l.bbound + 1, Bound::HORIZON),
         Op::Signal(_, _, _) => streams::smaller(l.abound, l.bbound),
+        Op::Window(_, _, _) => Bound::HORIZON,
     }
 }
 
@@ -183,6 +187,7 @@ fn reach(l: Look, a: &[u8], b: &[u8]) -> u64
             closer(false, l, a, b, s.bound, best)
         }
         Op::Signal(_, _, _) => hi,
+        Op::Window(_, _, _) => hi,
     }
 }
 
@@ -207,6 +212,7 @@ fn first(l: Look, a: &[u8], b: &[u8], r: u64) -> u64
             closer(true, l, a, b, c, best)
         }
         Op::Signal(_, _, _) => scan_both(l, a, b, r),
+        Op::Window(_, _, _) => r,
     }
 }
 
@@ -230,7 +236,7 @@ fn next_in(l: Look, a: &[u8], b: &[u8]) -> Next
 // What a move of the stream s finds, with its arguments in a and b.
 pub fn find_next(s: Stream, a: &[u8], b: &[u8]) -> Next
     requires { ⌜ Bounded s × (length (now a) ≡ 256) × (length (now b) ≡ 256) ⌝ }
-    ensures next { λ n. ⌜ toNext n ≡ machine.decide (equation (s .op)) (ownOf s) (lookOf (decRaw (now (a .entry)))) (lookOf (decRaw (now (b .entry)))) ⌝ }
+    ensures next { λ n. ⌜ toNext n ≡ machine.decide (plain (s .op)) (ownOf s) (lookOf (decRaw (now (a .entry)))) (lookOf (decRaw (now (b .entry)))) ⌝ }
     ensures known { λ n. ⌜ knownTo n ≤ horizon ⌝ }
 {
     let l = streams::beside(s, a, b);

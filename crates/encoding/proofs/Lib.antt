@@ -1,2 +1,3 @@
 pub mod Widths
 pub mod Points
+pub mod Cells

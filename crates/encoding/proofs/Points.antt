@@ -6,7 +6,7 @@ use native.Mathlib.Omega.{arith}
 use native.Mathlib.Decide.{decLt}
 use lib.Dec.{T, eqb, eqb→eq}
 use lib.ListN.{length}
-use Rattle.meaning.specs.Plan.{Eqn, input, nil, unit, one, two, last, delay, signal}
+use Rattle.meaning.specs.Plan.{Eqn, input, nil, unit, one, two, last, delay, signal, window}
 use Rattle.meaning.specs.Events.{Event, found, has}
 use Rattle.meaning.proofs.Tests.{Is, yes!, no!, look}
 use Rattle.machine.specs.State.{Cell, State, cellAt}
@@ -49,6 +49,7 @@ own-kept (two g a b) c q h = tt
 own-kept (last a b) c q h = tt
 own-kept (delay a b) c q h = held-below 0 (c .kept .since) (c .held) (h (rw q tt))
 own-kept (signal g a b) c q h = tt
+own-kept (window f k a) c q h = tt
 
 -- in a sound state the reach of every equation is fixed by its arguments, its own held events counted, if it is above its bound
 pub sound-reach-fixed : {cap : ℕ} (M : State) (s : ℕ) (a b : Cell) → Sound cap M → s < length M

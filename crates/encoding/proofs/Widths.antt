@@ -11,18 +11,19 @@ use lib.ListN.{length, take}
 use mir.Syntax.{w64}
 use mir.Val.{ofZ, toZ}
 use mir.Facts.{toZ-ofZ}
-use Rattle.meaning.specs.Plan.{Eqn, input, nil, unit, one, two, last, delay, signal}
+use Rattle.meaning.specs.Plan.{Eqn, input, nil, unit, one, two, last, delay, signal, window}
 use Rattle.meaning.specs.Arguments.{reads, argA, argB, AllBelow}
 use Rattle.meaning.specs.Events.{Event, ev, horizon}
-use Rattle.machine.specs.State.{Kept, Cell, room}
+use Rattle.machine.specs.State.{Kept, Passed, Cell, room, noPassed, withPassed}
+use Rattle.operators.specs.Windows.{IsWidth}
 use Rattle.operators.specs.Operators.{groupOf, numberOf, valueOf, eqnOf}
-use Rattle.operators.proofs.Laws.{one-group, two-group, signal-group, number-range, eqn-back}
+use Rattle.operators.proofs.Laws.{one-group, two-group, signal-group, window-group, number-range, eqn-back}
 use Rattle.le.proofs.RoundTrip.{All}
 use Rattle.layout.specs.Record.{noSlot}
 use Rattle.layout.proofs.Laws.{RawOk, SlotOk}
 use Rattle.encoding.specs.View.{flag, flagOf, bitsOf, KeptNums, keptNums, slotOf, padTo, rawOf, ofCell}
 use Rattle.encoding.specs.Back.{optional, eventOf, heldOf, keptOf, toCell}
-use Rattle.encoding.specs.Sound.{IsValue, IsOptional, Rising, IsNext, IsKept, SoundCell}
+use Rattle.encoding.specs.Sound.{IsValue, IsOptional, Rising, IsNext, IsKept, IsPassed, SoundCell}
 
 -- ---- numbers below their widths
 
@@ -62,6 +63,7 @@ module _ (n : ℕ) (h : n ≤ 256) where
   first-below (last a b) k = omega (arith, k .0)
   first-below (delay a b) k = omega (arith, k .0)
   first-below (signal c a b) k = omega (arith, k .0)
+  first-below (window f w a) k = omega (arith, k .0)
 
   second-below : (e : Eqn) → AllBelow n (reads e) → argB e < 256
   second-below input k = lit< tt
@@ -72,6 +74,7 @@ module _ (n : ℕ) (h : n ≤ 256) where
   second-below (last a b) k = omega (arith, k .1 .0)
   second-below (delay a b) k = omega (arith, k .1 .0)
   second-below (signal c a b) k = omega (arith, k .1 .0)
+  second-below (window f w a) k = lit< tt
 
 -- the five numbers of what is kept
 pub record KeptSmall (n : KeptNums) : Type 0 where
@@ -84,19 +87,23 @@ pub record KeptSmall (n : KeptNums) : Type 0 where
 none-small : KeptSmall (record { flag = 0; priorFlag = 0; kept = 0; value = 0; prior = 0 })
 none-small = record { flag = lit< tt; priorFlag = lit< tt; kept = lit< tt; value = lit< tt; prior = lit< tt }
 
-kept-small : (e : Eqn) (y : ℕ) (k : Kept) → y ≤ horizon → IsKept e y k → KeptSmall (keptNums e k)
-kept-small input y k h ok = none-small
-kept-small nil y k h ok = none-small
-kept-small unit y k h ok = none-small
-kept-small (one f a) y k h ok = none-small
-kept-small (two g a b) y k h ok = none-small
-kept-small (last a b) y k h ok =
+kept-small : (e : Eqn) (y : ℕ) (k : Kept) (w : Passed) → y ≤ horizon → IsWidth e → IsKept e y k → IsPassed e y w → KeptSmall (keptNums e k w)
+kept-small input y k w h i ok p = none-small
+kept-small nil y k w h i ok p = none-small
+kept-small unit y k w h i ok p = none-small
+kept-small (one f a) y k w h i ok p = none-small
+kept-small (two g a b) y k w h i ok p = none-small
+kept-small (last a b) y k w h i ok p =
     record { flag = flag-below (k .prev); priorFlag = lit< tt; kept = optional-below (k .prev) (ok .prev); value = lit< tt; prior = lit< tt }
-kept-small (delay a b) y k h ok =
+kept-small (delay a b) y k w h i ok p =
     let s = ok .since in
     record { flag = flag-below (k .value); priorFlag = flag-below (k .prior); kept = omega arith; value = optional-below (k .value) (ok .value); prior = optional-below (k .prior) (ok .prior) }
-kept-small (signal c a b) y k h ok =
+kept-small (signal c a b) y k w h i ok p =
     record { flag = flag-below (k .prev); priorFlag = flag-below (k .prevB); kept = optional-below (k .prev) (ok .prev); value = optional-below (k .prevB) (ok .prevB); prior = lit< tt }
+kept-small (window f n a) y k w h i ok p =
+    let s = p .few in
+    let l = i .1 in
+    record { flag = omega arith; priorFlag = lit< tt; kept = lit< tt; value = lit< tt; prior = lit< tt }
 
 -- ---- slots
 
@@ -121,7 +128,7 @@ pad-length (suc n) d (a ∷ l) = ap suc (pad-length n d l)
 pub cell-raw : (n : ℕ) (c : Cell) → n ≤ 256 → SoundCell n c → RawOk (ofCell c)
 unfolding ofCell
 cell-raw n c h ok =
-    let k = kept-small (c .eqn) (c .bound) (c .kept) (ok .bound) (ok .kept) in
+    let k = kept-small (c .eqn) (c .bound) (c .kept) (c .passed) (ok .bound) (ok .width) (ok .kept) (ok .passed) in
     let b = ok .bound in
     let f = ok .few in
     record {
@@ -159,36 +166,37 @@ held-back lo top zero (e ∷ es) h r = absurd (omega arith)
 held-back lo top (suc n) (e ∷ es) h r =
     ap₂ _∷_ (ap (ev (e .stamp)) (value-back (e .value) (r .1))) (held-back (suc (e .stamp)) top n es (omega arith) (r .2))
 
-kept-back : (e : Eqn) (k : Kept) (o : Bool) (y : ℕ) (h : List Event) (m : ℕ) → IsKept e y k → keptOf (rawOf e o y h m (keptNums e k)) ≡ k
+kept-back : (e : Eqn) (k : Kept) (w : Passed) (o : Bool) (y : ℕ) (h : List Event) (m : ℕ) → IsKept e y k → keptOf (rawOf e o y h m (keptNums e k w)) ≡ k
 unfolding keptOf groupOf numberOf
-kept-back input k o y h m ok = sym ok
-kept-back nil k o y h m ok = sym ok
-kept-back unit k o y h m ok = sym ok
-kept-back (one f a) k o y h m ok = rw (one-group f) (sym ok)
-kept-back (two g a b) k o y h m ok = rw (two-group g) (sym ok)
-kept-back (last a b) k o y h m ok =
+kept-back input k w o y h m ok = sym ok
+kept-back nil k w o y h m ok = sym ok
+kept-back unit k w o y h m ok = sym ok
+kept-back (one f a) k w o y h m ok = rw (one-group f) (sym ok)
+kept-back (two g a b) k w o y h m ok = rw (two-group g) (sym ok)
+kept-back (last a b) k w o y h m ok =
     let p = optional-back (k .prev) (ok .prev) in
     λ i. record { prev = p i; prevB = sym (ok .prevB) i; since = sym (ok .since) i; value = sym (ok .value) i; prior = sym (ok .prior) i }
-kept-back (delay a b) k o y h m ok =
+kept-back (delay a b) k w o y h m ok =
     let v = optional-back (k .value) (ok .value) in
     let p = optional-back (k .prior) (ok .prior) in
     λ i. record { prev = sym (ok .prev) i; prevB = sym (ok .prevB) i; since = k .since; value = v i; prior = p i }
-kept-back (signal c a b) k o y h m ok =
+kept-back (signal c a b) k w o y h m ok =
     let p = optional-back (k .prev) (ok .prev) in
     let q = optional-back (k .prevB) (ok .prevB) in
     rw (signal-group c) (λ i. record { prev = p i; prevB = q i; since = sym (ok .since) i; value = sym (ok .value) i; prior = sym (ok .prior) i })
+kept-back (window f n a) k w o y h m ok = rw (window-group f) (sym ok)
 
 out-back : (b : Bool) → not (eqb (flag b) 0) ≡ b
 out-back true = refl
 out-back false = refl
 
--- every sound cell is what its record gives
-pub cell-back : (n : ℕ) (c : Cell) → SoundCell n c → toCell (ofCell c) ≡ c
+-- every sound cell is what its record gives, but for what a window keeps
+pub cell-back : (n : ℕ) (c : Cell) → SoundCell n c → toCell (ofCell c) ≡ withPassed noPassed c
 unfolding toCell heldOf ofCell
 cell-back n c ok =
     let f = ok .few in
     let m : min (length (c .held)) room ≡ length (c .held) = omega arith in
     let e = ap (eqnOf (numberOf (c .eqn)) (argA (c .eqn)) (argB (c .eqn))) (value-back (valueOf (c .eqn)) (ok .value)) ∙ eqn-back (c .eqn) in
     let h = ap (λ (j : ℕ). map eventOf (take j (padTo room noSlot (map slotOf (c .held))))) m ∙ held-back 0 (c .bound) room (c .held) f (ok .held) in
-    let k = kept-back (c .eqn) (c .kept) (c .out) (c .bound) (c .held) (c .next) (ok .kept) in
-    λ i. record { eqn = e i; out = out-back (c .out) i; bound = c .bound; held = h i; next = c .next; kept = k i }
+    let k = kept-back (c .eqn) (c .kept) (c .passed) (c .out) (c .bound) (c .held) (c .next) (ok .kept) in
+    λ i. record { eqn = e i; out = out-back (c .out) i; bound = c .bound; held = h i; next = c .next; kept = k i; passed = noPassed }

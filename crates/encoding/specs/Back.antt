@@ -1,16 +1,17 @@
 -- How: a raw record read as a cell of the machine: total, also where the numbers are no cell's.
-use Prim.Native.Nat.{ℕ, min}
+use Prim.Native.Nat.{ℕ, _-_, min}
 use mathlib.Core.Bool.{not, cond}
 use mathlib.Core.Option.{Option, none, some}
-use mathlib.Core.List.{List, map}
+use mathlib.Core.List.{List, [], _∷_, map}
 use lib.Dec.{eqb}
-use lib.ListN.{take}
+use lib.ListN.{length, take, drop}
 use lib.IntN.{ℤ}
 use mir.Syntax.{w64}
 use mir.Val.{toZ}
 use Rattle.meaning.specs.Events.{Event, ev}
-use Rattle.machine.specs.State.{Kept, Cell, State, room, noKept}
-use Rattle.operators.specs.Operators.{groupOf, isLast, isDelay, isSignal, eqnOf}
+use Rattle.machine.specs.State.{Kept, Passed, Cell, State, room, noKept, noPassed, withPassed}
+use Rattle.operators.specs.Operators.{groupOf, isLast, isDelay, isSignal, isWindow, eqnOf}
+use Rattle.layout.specs.Windows.{windowLength, areaLength, decWindow}
 use Rattle.layout.specs.Record.{Slot, Raw, num, decode, opF, aF, bF, outF, countF, flagF, priorFlagF, kF, boundF, nextF, keptF, valueF, priorF}
 
 -- what may be absent
@@ -42,6 +43,7 @@ keptOf r =
     (cond (isDelay (groupOf (num opF r))) (delayOf r)
     (cond (isSignal (groupOf (num opF r))) (signalOf r) noKept))
 
+-- but for what a window keeps, which lies outside its record
 unfoldable pub toCell : Raw → Cell
 unfolding heldOf keptOf
 toCell r =
@@ -52,9 +54,27 @@ toCell r =
       held = heldOf r;
       next = num nextF r;
       kept = keptOf r;
+      passed = noPassed;
     }
+
+-- what a window with so many values keeps, of its bytes
+abbrev pub passedOf : ℕ → List ℕ → Passed
+passedOf n s = record { window = map (toZ w64) (take n (decWindow s)) }
+
+-- the cells of records, with the bytes of the windows that are left for them
+unfoldable pub cells : List Raw → List ℕ → State
+unfolding toCell
+cells [] b = []
+cells (r ∷ rs) b =
+    cond (isWindow (groupOf (num opF r)))
+    (withPassed (passedOf (num flagF r) (take windowLength b)) (toCell r) ∷ cells rs (drop windowLength b))
+    (toCell r ∷ cells rs b)
+
+-- the windows' bytes, of all that lie behind the records
+abbrev pub areaOf : List ℕ → List ℕ
+areaOf s = drop (length s - areaLength) s
 
 -- the state that n records in bytes give
 unfoldable pub stateOf : ℕ → List ℕ → State
-unfolding toCell
-stateOf n s = map toCell (decode n s .rows)
+unfolding cells
+stateOf n s = cells (decode n s .rows) (areaOf (decode n s .spare))

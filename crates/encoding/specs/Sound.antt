@@ -8,12 +8,15 @@ use lib.Dec.{T}
 use lib.ListN.{length}
 use lib.IntN.{ℤ}
 use lib.Signed.{mag}
-use Rattle.meaning.specs.Plan.{Eqn, input, nil, unit, one, two, last, delay, signal, isInput}
+use Rattle.meaning.specs.Plan.{Eqn, input, nil, unit, one, two, last, delay, signal, window, isInput}
+use Rattle.meaning.specs.Table.{width}
 use Rattle.meaning.specs.Arguments.{reads, AllBelow}
 use Rattle.meaning.specs.Events.{Event, horizon}
 use Rattle.meaning.specs.Cycle.{Acyclic}
-use Rattle.machine.specs.State.{Kept, Cell, State, room, noKept, cellAt, planOf}
+use Rattle.machine.specs.State.{Kept, Passed, Cell, State, room, noKept, noPassed, cellAt, planOf}
 use Rattle.operators.specs.Operators.{eqnGroup, isDelay, valueOf}
+use Rattle.operators.specs.Limits.{windowLimit}
+use Rattle.operators.specs.Windows.{IsWidth, windows}
 
 -- a signed 64-bit whole number
 abbrev pub IsValue : ℤ → Type 0
@@ -69,17 +72,41 @@ IsKept (two g a b) y k = k ≡ noKept
 IsKept (last a b) y k = LastKept y k
 IsKept (delay a b) y k = DelayKept y k
 IsKept (signal c a b) y k = SignalKept y k
+IsKept (window f n a) y k = k ≡ noKept
+
+abbrev pub AllValues : List ℤ → Type 0
+AllValues [] = Unit {0}
+AllValues (v ∷ vs) = IsValue v × AllValues vs
+
+-- what a window of k events with this bound may keep: "of all so far while fewer"
+pub record WindowKept (k y : ℕ) (w : Passed) : Type 0 where
+  pub few : length (w .window) ≤ k
+  pub values : AllValues (w .window)
+  pub fresh : y ≡ 0 → w .window ≡ []
+
+abbrev pub IsPassed : Eqn → ℕ → Passed → Type 0
+IsPassed input y w = w ≡ noPassed
+IsPassed nil y w = w ≡ noPassed
+IsPassed unit y w = w ≡ noPassed
+IsPassed (one f a) y w = w ≡ noPassed
+IsPassed (two g a b) y w = w ≡ noPassed
+IsPassed (last a b) y w = w ≡ noPassed
+IsPassed (delay a b) y w = w ≡ noPassed
+IsPassed (signal c a b) y w = w ≡ noPassed
+IsPassed (window f k a) y w = WindowKept (width k) y w
 
 -- a cell of a state of n streams
 pub record SoundCell (n : ℕ) (c : Cell) : Type 0 where
   pub arguments : AllBelow n (reads (c .eqn))
   pub value : IsValue (valueOf (c .eqn))
+  pub width : IsWidth (c .eqn)
   pub out : T (isInput (c .eqn)) → c .out ≡ false
   pub bound : c .bound ≤ horizon
   pub few : length (c .held) ≤ room
   pub held : Rising 0 (c .bound) (c .held)
   pub next : IsNext (c .out) (c .next) (c .bound)
   pub kept : IsKept (c .eqn) (c .bound) (c .kept)
+  pub passed : IsPassed (c .eqn) (c .bound) (c .passed)
 
 -- a delay's own events are set points, and `since` is one past the latest
 abbrev pub Own : Cell → Type 0
@@ -92,4 +119,5 @@ pub record Sound (cap : ℕ) (M : State) : Type 0 where
   pub few : length M ≤ cap
   pub each : (i : ℕ) → i < length M → SoundCell (length M) (cellAt M i)
   pub own : (i : ℕ) → i < length M → Own (cellAt M i)
+  pub windows : windows (planOf M) ≤ windowLimit
   pub acyclic : Acyclic (planOf M)

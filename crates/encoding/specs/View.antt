@@ -2,7 +2,7 @@
 use Prim.Native.Nat.{ℕ, zero, suc, _*_, _-_}
 use mathlib.Core.Bool.{Bool, true, false, cond}
 use mathlib.Core.Option.{Option, none, some}
-use mathlib.Core.List.{List, [], _∷_, map}
+use mathlib.Core.List.{List, [], _∷_, _++_, map}
 use lib.ListN.{length, replicate}
 use lib.IntN.{ℤ}
 use mir.Syntax.{w64}
@@ -10,9 +10,11 @@ use mir.Val.{ofZ}
 use Rattle.meaning.specs.Plan.{Eqn}
 use Rattle.meaning.specs.Arguments.{argA, argB}
 use Rattle.meaning.specs.Events.{Event}
-use Rattle.machine.specs.State.{Kept, Cell, State, room}
-use Rattle.operators.specs.Operators.{isLast, isDelay, isSignal, eqnGroup, numberOf, valueOf}
+use Rattle.machine.specs.State.{Kept, Passed, Cell, State, room}
+use Rattle.operators.specs.Operators.{isLast, isDelay, isSignal, isWindow, eqnGroup, numberOf, valueOf}
+use Rattle.operators.specs.Windows.{isWindowEqn}
 use Rattle.layout.specs.Record.{Slot, Raw, Raws, noSlot, encode}
+use Rattle.layout.specs.Windows.{areaLength, encWindows}
 
 abbrev pub flag : Bool → ℕ
 flag true = 1
@@ -47,12 +49,17 @@ delayNums k = record { flag = flagOf (k .value); priorFlag = flagOf (k .prior); 
 abbrev pub signalNums : Kept → KeptNums
 signalNums k = record { flag = flagOf (k .prev); priorFlag = flagOf (k .prevB); kept = bitsOf (k .prev); value = bitsOf (k .prevB); prior = 0 }
 
+-- of a window: how many values it keeps
+abbrev pub windowNums : Passed → KeptNums
+windowNums w = record { flag = length (w .window); priorFlag = 0; kept = 0; value = 0; prior = 0 }
+
 -- by the group of the equation
-abbrev pub keptNums : Eqn → Kept → KeptNums
-keptNums e k =
+abbrev pub keptNums : Eqn → Kept → Passed → KeptNums
+keptNums e k w =
     cond (isLast (eqnGroup e)) (lastNums k)
     (cond (isDelay (eqnGroup e)) (delayNums k)
-    (cond (isSignal (eqnGroup e)) (signalNums k) noNums))
+    (cond (isSignal (eqnGroup e)) (signalNums k)
+    (cond (isWindow (eqnGroup e)) (windowNums w) noNums)))
 
 abbrev pub slotOf : Event → Slot
 slotOf e = record { stamp = e .stamp; value = ofZ w64 (e .value) }
@@ -73,12 +80,25 @@ rawOf e out bound held next n =
     }
 
 unfoldable pub ofCell : Cell → Raw
-ofCell c = rawOf (c .eqn) (c .out) (c .bound) (c .held) (c .next) (keptNums (c .eqn) (c .kept))
+ofCell c = rawOf (c .eqn) (c .out) (c .bound) (c .held) (c .next) (keptNums (c .eqn) (c .kept) (c .passed))
 
--- the raw state of a machine state, in this many bytes: the records, and zeros behind them
+-- what the windows of the state keep, by stream number
+abbrev pub windowsOf : State → List (List ℤ)
+windowsOf [] = []
+windowsOf (c ∷ M) = cond (isWindowEqn (c .eqn)) (c .passed .window ∷ windowsOf M) (windowsOf M)
+
+-- a window's values as words
+abbrev pub wordsOf : List ℤ → List ℕ
+wordsOf w = map (ofZ w64) w
+
+-- behind the records, of so many bytes in all: zeros, and the windows in the last of them
+unfoldable pub behind : ℕ → State → List ℕ
+behind size M = replicate (size - areaLength - length M * 256) 0 ++ encWindows (map wordsOf (windowsOf M))
+
+-- the raw state of a machine state, in this many bytes
 unfoldable pub rawsOf : ℕ → State → Raws
-unfolding ofCell
-rawsOf size M = record { rows = map ofCell M; spare = replicate (size - length M * 256) 0 }
+unfolding ofCell behind
+rawsOf size M = record { rows = map ofCell M; spare = behind size M }
 
 unfoldable pub bytesOf : ℕ → State → List ℕ
 unfolding rawsOf

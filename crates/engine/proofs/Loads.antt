@@ -41,7 +41,7 @@ module _ (text s : List ℕ) (most : ℕ) (m : most ≡ capacity (length s)) whe
 
     -- a taken one fills it
     pub load-fills : (n : ℕ) → n ≡ number most text → n ≡ 0 → filled most text s ≡ loadReply text s .buffer
-    load-fills n e z = rw (load-is, eq-eqb (number most text) 0 (sym e ∙ z), m) (taken-filled text s (rw (sym m) (sym e ∙ z)))
+    load-fills n e z = rw (load-is, eq-eqb (number most text) 0 (sym e ∙ z), m) (taken-filled text s (rw (sym m) l) (rw (sym m) (sym e ∙ z)))
 
 -- ---- a load
 

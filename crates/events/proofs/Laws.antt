@@ -18,7 +18,7 @@ use Rattle.machine.specs.Reach as machine
 use Rattle.machine.proofs.Window.{or-none}
 use Rattle.streams.specs.declared.Op.{Op}
 use Rattle.streams.specs.declared.Look.{Look}
-use Rattle.streams.specs.Look.{equation, ownOf, argOf}
+use Rattle.streams.specs.Look.{plain, ownOf, argOf}
 use Rattle.events.specs.Near.{size}
 
 -- ---- a value as a number of stamps
@@ -73,8 +73,8 @@ unit-later (suc t) h = refl
 -- ---- an arm of a match on the operator
 
 pub gives-arm : (l : Look) (A B : List ℕ) (t : ℕ) {p q : Op} → p ≡ q
-    → machine.gives (equation q) (ownOf (l .stream)) (argOf (l .abound) A) (argOf (l .bbound) B) t ≡ machine.gives (equation p) (ownOf (l .stream)) (argOf (l .abound) A) (argOf (l .bbound) B) t
-gives-arm l A B t e = sym (ap (λ (o : Op). machine.gives (equation o) (ownOf (l .stream)) (argOf (l .abound) A) (argOf (l .bbound) B) t) e)
+    → machine.gives (plain q) (ownOf (l .stream)) (argOf (l .abound) A) (argOf (l .bbound) B) t ≡ machine.gives (plain p) (ownOf (l .stream)) (argOf (l .abound) A) (argOf (l .bbound) B) t
+gives-arm l A B t e = sym (ap (λ (o : Op). machine.gives (plain o) (ownOf (l .stream)) (argOf (l .abound) A) (argOf (l .bbound) B) t) e)
 
 -- a signal form, where neither argument has an event and where one has
 module _ (c : Calc) (u w x y : Option ℤ) where

@@ -8,7 +8,7 @@ use Rattle.machine.specs.State.{Cell}
 use Rattle.machine.specs.Reach.{gives}
 use Rattle.streams.specs.declared.Kept.{Kept}
 use Rattle.streams.specs.declared.Look.{Look}
-use Rattle.streams.specs.Look.{equation, keptIn, ownCell, ownOf, argOf}
+use Rattle.streams.specs.Look.{plain, keptIn, ownCell, ownOf, argOf}
 
 -- a cell of which only what it keeps is looked at
 abbrev pub keeping : Kept → Cell
@@ -26,4 +26,4 @@ size (some (negsuc n)) = 0
 
 -- what the equation has at t
 abbrev pub givesIn : Look → (A B : List ℕ) → ℕ → Option ℤ
-givesIn l A B t = gives (equation (l .stream .op)) (ownOf (l .stream)) (argOf (l .abound) A) (argOf (l .bbound) B) t
+givesIn l A B t = gives (plain (l .stream .op)) (ownOf (l .stream)) (argOf (l .abound) A) (argOf (l .bbound) B) t

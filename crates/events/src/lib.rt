@@ -157,7 +157,7 @@ fn unit_at(t: u64) -> Found
     Found::Nothing
 }
 
-// What the equation has at t.
+// What the equation has at t. A window is not looked for by stamps, and has nothing here.
 pub fn event_at(l: Look, a: &[u8], b: &[u8], t: u64) -> Found
     requires { ⌜ (length (now a) ≡ 256) × (length (now b) ≡ 256) × (l .stream .kept .since ≤ t) × (t ≤ horizon) ⌝ }
     ensures { λ r. ⌜ asOption r ≡ givesIn l (now (a .entry)) (now (b .entry)) t ⌝ }
@@ -189,5 +189,6 @@ pub fn event_at(l: Look, a: &[u8], b: &[u8], t: u64) -> Found
             let k = s.kept;
             signal_at(g, k, a, b, t)
         }
+        Op::Window(_, _, _) => Found::Nothing,
     }
 }

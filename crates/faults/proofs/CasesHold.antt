@@ -11,14 +11,15 @@ use Rattle.meaning.specs.Cycle.{Leads, step, then}
 use Rattle.meaning.specs.CycleTest.{acyclic}
 use Rattle.operators.specs.Operators.{groupOf, usesK, eqnOf}
 use Rattle.operators.specs.Rules.{fieldsOk}
+use Rattle.operators.specs.Windows.{widthOk}
 use Rattle.lines.specs.Form.{skip, scan, whole, ended, field, signed, valueLine, outLine}
 use Rattle.text.specs.Grammar.{nameAt, place, numberNamed, named, opLine, fieldsAfter, stream, head}
 use Rattle.plan.specs.Rules.{streams, declared}
-use Rattle.faults.specs.Faults.{fault, fieldLine, streamLine, formFault, ruleFault, faultWith, Found}
+use Rattle.faults.specs.Faults.{fault, fieldLine, streamLine, formFault, firstBroken, faultWith, Found}
 use Rattle.faults.specs.Cases.{bytes, besideCycle, cases}
 
 pub cases-hold : map (λ c. faultWith 32 (bytes (c .text)) (c .fault .stream)) cases ≡ map (λ c. c .fault) cases
-unfolding faultWith formFault ruleFault streamLine fieldLine streams declared acyclic head stream opLine named nameAt numberNamed place fieldsAfter field whole scan ended signed valueLine outLine skip fieldsOk groupOf usesK eqnOf
+unfolding faultWith formFault firstBroken streamLine fieldLine streams declared acyclic head stream opLine named nameAt numberNamed place fieldsAfter field whole scan ended signed valueLine outLine skip fieldsOk widthOk groupOf usesK eqnOf
 cases-hold = refl
 
 -- 1 text longer than 2,048 bytes, whatever is in it: no line
@@ -41,5 +42,5 @@ never-first {s} {z} (step m) = not-first s z m
 never-first (then m w) = never-first w
 
 pub beside-cycle : Found 32 (bytes besideCycle) (fault 6 8 1)
-unfolding faultWith formFault ruleFault streamLine fieldLine streams declared acyclic head stream opLine named nameAt numberNamed place fieldsAfter field whole scan ended signed valueLine outLine skip fieldsOk groupOf usesK eqnOf
+unfolding faultWith formFault firstBroken streamLine fieldLine streams declared acyclic head stream opLine named nameAt numberNamed place fieldsAfter field whole scan ended signed valueLine outLine skip fieldsOk widthOk groupOf usesK eqnOf
 beside-cycle = record { place = refl; lowest = λ e. record { itself = then (List·Memᴰ·head refl) (step (List·Memᴰ·head refl)); below = λ x l w. let z = never-first w in omega arith } }

@@ -7,7 +7,6 @@ use native.Mathlib.Omega.{arith}
 use native.Mathlib.Decide.{decLt}
 use lib.Dec.{eqb, ltb}
 use lib.ListN.{length}
-use borrow.Author.Tests.{eqb-true}
 use Rattle.meaning.specs.CycleTest.{acyclic}
 use Rattle.operators.specs.Limits.{textLimit}
 use Rattle.lines.specs.declared.Word.{Word}
@@ -22,13 +21,12 @@ use Rattle.text.specs.declared.Head.{Head}
 use Rattle.text.specs.declared.Head.the-variants as Head
 use Rattle.text.specs.Grammar.{planLine, firstKey, secondKey, stream, head}
 use Rattle.render.proofs.Ranges.{same-stream, not-refused}
-use Rattle.plan.specs.Rules.{allKeep, Form, refused, formed, streams}
 use Rattle.faults.specs.declared.Fault as declared
-use Rattle.faults.specs.Faults.{fault, none, inStream, orNext, headLine, lineOr, fieldLine, streamLine, streamOr, formFault, ruleFault, cycleFault, planOf, faultOfHead, faultWith, Found}
+use Rattle.faults.specs.Faults.{fault, none, inStream, orNext, headLine, lineOr, fieldLine, streamLine, streamOr, formFault, fieldRule, ruleFault, windowFault, cycleFault, planOf, faultOfHead, faultWith, Found}
 use Rattle.faults.specs.Lines.{LineIn, op, a, b, k, out, StreamIn, first, next, LineAt, top, count, inside, beyond, Shown}
 use Rattle.faults.proofs.Begins.{line-begins}
 use Rattle.faults.proofs.Located.{fault-read}
-use Rattle.faults.proofs.Says.{FormSays, form-says, Judged, RuleSays, rule-says}
+use Rattle.faults.proofs.Says.{first-told, window-told}
 
 heads-count : {n m p q : ℕ} → Head.Streams n p ≡ Head.Streams m q → n ≡ m
 heads-count e = cc
@@ -145,32 +143,40 @@ module _ (cap : ℕ) (s : List ℕ) (f : declared.Fault) (l : 0 < f .line) (few 
   same-last : (g : declared.Fault) → f ≡ g → (0 < g .line → (m q : ℕ) → LineAt cap s m q → m ≤ g .line) → Last
   same-last g e h = subst (λ (x : declared.Fault). (m q : ℕ) → LineAt cap s m q → m ≤ x .line) (sym e) (h (subst (λ (x : declared.Fault). 0 < x .line) e l))
 
-  -- 5 and 6 are above 4
-  not-above : (g : declared.Fault) → f ≡ g → 5 ≤ g .number → Last
-  not-above g e h = let z = ap (λ (x : declared.Fault). x .number) e in absurd (omega arith)
+  -- told here, or by what comes next
+  last-or : (g h : declared.Fault) → f ≡ orNext g h → (f ≡ g → Last) → (f ≡ h → Last) → Last
+  last-or g h e here later = by (eqb (g .line) 0) e
+    where
+      by : (t : Bool) → f ≡ cond t h g → Last
+      by true = later
+      by false = here
+
+  -- 5, 18 and 6 are above 4
+  not-above : (g : declared.Fault) (r : ℕ) → (0 < g .line → g .number ≡ r) → 5 ≤ r → f ≡ g → Last
+  not-above g r t h e =
+      let n = ap (λ (x : declared.Fault). x .number) e in
+      let q = t (subst (λ (x : declared.Fault). 0 < x .line) e l) in
+      absurd (omega arith)
 
   at-cycle : (t : Bool) (c : ℕ) → f ≡ cond t none (inStream 6 c 0) → Last
   at-cycle true c e = same-last none e (λ z. absurd (omega arith))
-  at-cycle false c e = not-above (inStream 6 c 0) e (omega arith)
-
-  at-rule : (n at : ℕ) (x : Form) → FormSays s (0 + n) x (formFault s 0 at n) → RuleSays s n x (ruleFault s n 0 at n) → formFault s 0 at n .line ≡ 0 → f ≡ ruleFault s n 0 at n → Last
-  at-rule n at (refused r) g h z e = absurd (omega arith)
-  at-rule n at (formed fs end) g h z e = by (allKeep n fs) h
-    where
-      by : (t : Bool) → Judged s n t (ruleFault s n 0 at n) → Last
-      by true j = same-last none (e ∙ j) (λ y. absurd (omega arith))
-      by false j = not-above (ruleFault s n 0 at n) e (omega arith)
+  at-cycle false c e = not-above (inStream 6 c 0) 6 (λ z. refl) (omega arith) e
 
   at-streams : (n at : ℕ) → head cap s ≡ Head.Streams n at → f ≡ faultOfHead cap s (f .stream) (Head.Streams n at) → Last
-  at-streams n at h e = by-form (eqb (formFault s 0 at n .line) 0) refl e
+  at-streams n at h e =
+      last-or (formFault s 0 at n) rules e (λ e. same-last (formFault s 0 at n) e (form-most s at cap n h n 0 at (omega arith) first)) (λ e.
+      last-or (ruleFault s n at) windows e (not-above (ruleFault s n at) 5 (first-told s (fieldRule n) n 0 0 at) (omega arith)) (λ e.
+      last-or (windowFault s n at) cycle e (not-above (windowFault s n at) 18 (window-told s n at) (omega arith))
+      (at-cycle (acyclic cap (planOf cap s)) (f .stream))))
     where
-      by-rule : formFault s 0 at n .line ≡ 0 → (t : Bool) → f ≡ cond t (cycleFault cap (planOf cap s) (f .stream)) (ruleFault s n 0 at n) → Last
-      by-rule z true e = at-cycle (acyclic cap (planOf cap s)) (f .stream) e
-      by-rule z false e = at-rule n at (streams s at n) (form-says s n 0 at) (rule-says s n n 0 at) z e
+      cycle : declared.Fault
+      cycle = cycleFault cap (planOf cap s) (f .stream)
 
-      by-form : (t : Bool) → eqb (formFault s 0 at n .line) 0 ≡ t → f ≡ cond t (orNext (ruleFault s n 0 at n) (cycleFault cap (planOf cap s) (f .stream))) (formFault s 0 at n) → Last
-      by-form true z e = by-rule (eqb-true (formFault s 0 at n .line) 0 z) (eqb (ruleFault s n 0 at n .line) 0) e
-      by-form false z e = same-last (formFault s 0 at n) e (form-most s at cap n h n 0 at (omega arith) first)
+      windows : declared.Fault
+      windows = orNext (windowFault s n at) cycle
+
+      rules : declared.Fault
+      rules = orNext (ruleFault s n at) windows
 
   head-most : (r : ℕ) → head cap s ≡ Head.Refused r → (x : Word) → skip s 0 planLine ≡ x → (m q : ℕ) → LineAt cap s m q → m ≤ headLine x
   head-most r h (Past p) e m q top = omega arith

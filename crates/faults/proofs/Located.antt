@@ -5,7 +5,7 @@ use mathlib.Core.Bool.{Bool, true, false, cond}
 use mathlib.Core.List.{List}
 use native.Mathlib.Omega.{arith}
 use native.Mathlib.Decide.{decLt}
-use lib.Dec.{eqb, ltb}
+use lib.Dec.{eqb, ltb, lit<}
 use lib.ListN.{length}
 use borrow.Author.Tests.{eqb-true, eqb-false}
 use Rattle.meaning.specs.Plan.{Plan}
@@ -29,11 +29,11 @@ use Rattle.text.specs.declared.Head.the-variants as Head
 use Rattle.text.specs.Grammar.{planLine, firstKey, secondKey, opLine, stream, head}
 use Rattle.render.proofs.Ranges.{fields-case, stream-case}
 use Rattle.render.proofs.Heads.{head-case}
-use Rattle.plan.specs.Rules.{keeps, Form, refused, formed, put, others, streams, planFrom}
+use Rattle.plan.specs.Rules.{Form, refused, formed, put, others, streams, planFrom}
 use Rattle.plan.proofs.Forms.{clash}
 use Rattle.plan.proofs.Noted.{read-sound, plan-length}
 use Rattle.faults.specs.declared.Fault as declared
-use Rattle.faults.specs.Faults.{fault, none, inStream, orNext, headLine, lineOr, fieldLine, lineAfter, streamLine, streamOr, formFault, fieldBroken, ruleFault, Lowest, cycleFault, planOf, faultOfHead, faultWith, Found}
+use Rattle.faults.specs.Faults.{fault, none, inStream, orNext, headLine, lineOr, fieldLine, lineAfter, streamLine, streamOr, formFault, Rule, firstBroken, fieldBroken, fieldRule, ruleFault, widthRule, ninthRule, widthFault, ninthFault, windowFault, Lowest, cycleFault, planOf, faultOfHead, faultWith, Found}
 use Rattle.faults.specs.Lines.{LineIn, op, a, b, k, out, StreamIn, first, next, LineAt, top, count, inside, beyond}
 use Rattle.faults.proofs.Says.{FormSays, form-says}
 use Rattle.faults.proofs.Cycles.{no-way}
@@ -72,17 +72,19 @@ module _ (s : List ℕ) where
       by Name.Fault e = (at, op)
 
   -- all five lines of a stream that is read
-  broken-line-in : (n at : ℕ) (f : Fields) → stream s at ≡ Lines.Stream f → Somewhere (LineIn s at (fieldBroken n f))
-  broken-line-in n at f e =
+  lines-in : (at : ℕ) (f : Fields) → stream s at ≡ Lines.Stream f → (j : ℕ) → j < 5 → Somewhere (LineIn s at j)
+  lines-in at f e j h =
       stream-case s at f e (λ o p eo r.
       fields-case s o p f r (λ x p₁ y p₂ z p₃ w end ea eb ek eu t.
-      by (argOk (usesA (f .op)) n (f .a)) (argOk (usesB (f .op)) n (f .b)) (valueOk (usesK (f .op)) (f .k)) (p, a eo) (p₁, b (a eo) ea) (p₂, k (b (a eo) ea) eb) (p₃, out (k (b (a eo) ea) eb) ek)))
+      by j h (p, a eo) (p₁, b (a eo) ea) (p₂, k (b (a eo) ea) eb) (p₃, out (k (b (a eo) ea) eb) ek)))
     where
-      by : (x y z : Bool) → Somewhere (LineIn s at 1) → Somewhere (LineIn s at 2) → Somewhere (LineIn s at 3) → Somewhere (LineIn s at 4) → Somewhere (LineIn s at (cond x (cond y (cond z 4 3) 2) 1))
-      by true true true l₁ l₂ l₃ l₄ = l₄
-      by true true false l₁ l₂ l₃ l₄ = l₃
-      by true false z l₁ l₂ l₃ l₄ = l₂
-      by false y z l₁ l₂ l₃ l₄ = l₁
+      by : (j : ℕ) → j < 5 → Somewhere (LineIn s at 1) → Somewhere (LineIn s at 2) → Somewhere (LineIn s at 3) → Somewhere (LineIn s at 4) → Somewhere (LineIn s at j)
+      by zero h l₁ l₂ l₃ l₄ = (at, op)
+      by (suc zero) h l₁ l₂ l₃ l₄ = l₁
+      by (suc (suc zero)) h l₁ l₂ l₃ l₄ = l₂
+      by (suc (suc (suc zero))) h l₁ l₂ l₃ l₄ = l₃
+      by (suc (suc (suc (suc zero)))) h l₁ l₂ l₃ l₄ = l₄
+      by (suc (suc (suc (suc (suc j))))) h l₁ l₂ l₃ l₄ = absurd (omega arith)
 
   -- ## All streams
 
@@ -116,22 +118,24 @@ module _ (s : List ℕ) where
         by (Lines.Stream f) e l ih = ih f e l
         by (Lines.Refused r) e l ih = read-in (omega arith) w (stream-line-in p)
 
-    rule-read : (m i p : ℕ) → i + m ≡ n → StreamIn s at i p → 0 < ruleFault s n i p m .line → Read (ruleFault s n i p m .line)
-    unfolding ruleFault
-    rule-read zero i p u w l = absurd (omega arith)
-    rule-read (suc m) i p u w l = by (stream s p) refl l (λ f e. rule-read m (i + 1) (f .next) (omega arith) (next w e))
+    -- a rule is broken at one of a stream's five lines
+    first-read : (r : Rule) → ((f : Fields) → r .line f < 5) → (m w i p : ℕ) → i + m ≡ n → StreamIn s at i p → 0 < firstBroken r s w i p m .line → Read (firstBroken r s w i p m .line)
+    unfolding firstBroken
+    first-read r five zero w i p u x l = absurd (omega arith)
+    first-read r five (suc m) w i p u x l = by (stream s p) refl l (λ f e. first-read r five m (r .count w f) (i + 1) (f .next) (omega arith) (next x e))
       where
-        by-test : (t : Bool) (f : Fields) → stream s p ≡ Lines.Stream f → 0 < cond t (ruleFault s n (i + 1) (f .next) m) (inStream 5 i (fieldBroken n f)) .line
-            → (0 < ruleFault s n (i + 1) (f .next) m .line → Read (ruleFault s n (i + 1) (f .next) m .line))
-            → Read (cond t (ruleFault s n (i + 1) (f .next) m) (inStream 5 i (fieldBroken n f)) .line)
-        by-test true f e l ih = ih l
-        by-test false f e l ih = read-in (omega arith) w (broken-line-in n p f e)
+        after : Fields → declared.Fault
+        after f = firstBroken r s (r .count w f) (i + 1) (f .next) m
 
-        by : (x : Lines) → stream s p ≡ x → 0 < streamOr x (λ r. none) (λ f. cond (keeps n f) (ruleFault s n (i + 1) (f .next) m) (inStream 5 i (fieldBroken n f))) .line
-            → ((f : Fields) → stream s p ≡ Lines.Stream f → 0 < ruleFault s n (i + 1) (f .next) m .line → Read (ruleFault s n (i + 1) (f .next) m .line))
-            → Read (streamOr x (λ r. none) (λ f. cond (keeps n f) (ruleFault s n (i + 1) (f .next) m) (inStream 5 i (fieldBroken n f))) .line)
-        by (Lines.Stream f) e l ih = by-test (keeps n f) f e l (ih f e)
-        by (Lines.Refused r) e l ih = absurd (omega arith)
+        by-test : (t : Bool) (f : Fields) → stream s p ≡ Lines.Stream f → 0 < cond t (after f) (inStream (r .number) i (r .line f)) .line → (0 < after f .line → Read (after f .line)) → Read (cond t (after f) (inStream (r .number) i (r .line f)) .line)
+        by-test true f e l ih = ih l
+        by-test false f e l ih = read-in (omega arith) x (lines-in p f e (r .line f) (five f))
+
+        by : (y : Lines) → stream s p ≡ y → 0 < streamOr y (λ q. none) (λ f. cond (r .kept w f) (after f) (inStream (r .number) i (r .line f))) .line
+            → ((f : Fields) → stream s p ≡ Lines.Stream f → 0 < after f .line → Read (after f .line))
+            → Read (streamOr y (λ q. none) (λ f. cond (r .kept w f) (after f) (inStream (r .number) i (r .line f))) .line)
+        by (Lines.Stream f) e l ih = by-test (r .kept w f) f e l (ih f e)
+        by (Lines.Refused q) e l ih = absurd (omega arith)
 
     -- every stream of a text that was read
     stream-read : (m i p : ℕ) (fs : List Fields) (end : ℕ) → StreamIn s at i p → streams s p m ≡ formed fs end → (c : ℕ) → i ≤ c → c < i + m → Somewhere (StreamIn s at c)
@@ -151,12 +155,39 @@ module _ (s : List ℕ) where
 
 -- ## The whole text
 
+broken-five : (n : ℕ) (f : Fields) → fieldBroken n f < 5
+broken-five n f = by (argOk (usesA (f .op)) n (f .a)) (argOk (usesB (f .op)) n (f .b)) (valueOk (usesK (f .op)) (f .k))
+  where
+    by : (x y z : Bool) → cond x (cond y (cond z 4 3) 2) 1 < 5
+    by true true true = lit< tt
+    by true true false = lit< tt
+    by true false z = lit< tt
+    by false y z = lit< tt
+
 module _ (cap : ℕ) (s : List ℕ) (f : declared.Fault) (l : 0 < f .line) where
   abbrev Told : Type 0
   Told = Somewhere (LineAt cap s (f .line))
 
-  same-line : (g : declared.Fault) → f ≡ g → (0 < g .line → Somewhere (LineAt cap s (g .line))) → Told
+  abbrev Reads : declared.Fault → Type 0
+  Reads g = 0 < g .line → Somewhere (LineAt cap s (g .line))
+
+  or-read : (g h : declared.Fault) → Reads g → Reads h → Reads (orNext g h)
+  or-read g h p q = by (eqb (g .line) 0)
+    where
+      by : (t : Bool) → Reads (cond t h g)
+      by true = q
+      by false = p
+
+  same-line : (g : declared.Fault) → f ≡ g → Reads g → Told
   same-line g e h = subst (λ (x : declared.Fault). Somewhere (LineAt cap s (x .line))) (sym e) (h (subst (λ (x : declared.Fault). 0 < x .line) e l))
+
+  -- told here, or by what comes next
+  at-or : (g h : declared.Fault) → f ≡ orNext g h → Reads g → (g .line ≡ 0 → f ≡ h → Told) → Told
+  at-or g h e here later = by (eqb (g .line) 0) refl e
+    where
+      by : (t : Bool) → eqb (g .line) 0 ≡ t → f ≡ cond t h g → Told
+      by true z e = later (eqb-true (g .line) 0 z) e
+      by false z e = same-line g e here
 
   module _ (lowest : f .number ≡ 6 → Lowest (planOf cap s) (f .stream)) where
     at-cycle : (n at : ℕ) → head cap s ≡ Head.Streams n at → (fs : List Fields) (end : ℕ) → streams s at n ≡ formed fs end → (t : Bool) → f ≡ cond t none (inStream 6 (f .stream) 0) → Told
@@ -176,15 +207,24 @@ module _ (cap : ℕ) (s : List ℕ) (f : declared.Fault) (l : 0 < f .line) where
     after-form n at h (formed fs end) q y z e = at-cycle n at h fs end q (acyclic cap (planOf cap s)) e
 
     at-streams : (n at : ℕ) → head cap s ≡ Head.Streams n at → f ≡ faultOfHead cap s (f .stream) (Head.Streams n at) → Told
-    at-streams n at h e = by-form (eqb (formFault s 0 at n .line) 0) refl e
+    at-streams n at h e =
+        at-or (formFault s 0 at n) rules e (form-read s cap n at h n 0 at (omega arith) first) (λ z e.
+        at-or (ruleFault s n at) windows e (read (fieldRule n) (broken-five n)) (λ y e.
+        at-or (windowFault s n at) cycle e
+        (or-read (widthFault s n at) (ninthFault s n at) (read widthRule (λ f. lit< tt)) (read ninthRule (λ f. lit< tt))) (λ x e.
+        after-form n at h (streams s at n) refl (form-says s n 0 at) z e)))
       where
-        by-rule : formFault s 0 at n .line ≡ 0 → (t : Bool) → f ≡ cond t (cycleFault cap (planOf cap s) (f .stream)) (ruleFault s n 0 at n) → Told
-        by-rule z true e = after-form n at h (streams s at n) refl (form-says s n 0 at) z e
-        by-rule z false e = same-line (ruleFault s n 0 at n) e (rule-read s cap n at h n 0 at (omega arith) first)
+        cycle : declared.Fault
+        cycle = cycleFault cap (planOf cap s) (f .stream)
 
-        by-form : (t : Bool) → eqb (formFault s 0 at n .line) 0 ≡ t → f ≡ cond t (orNext (ruleFault s n 0 at n) (cycleFault cap (planOf cap s) (f .stream))) (formFault s 0 at n) → Told
-        by-form true z e = by-rule (eqb-true (formFault s 0 at n .line) 0 z) (eqb (ruleFault s n 0 at n .line) 0) e
-        by-form false z e = same-line (formFault s 0 at n) e (form-read s cap n at h n 0 at (omega arith) first)
+        windows : declared.Fault
+        windows = orNext (windowFault s n at) cycle
+
+        rules : declared.Fault
+        rules = orNext (ruleFault s n at) windows
+
+        read : (r : Rule) → ((f : Fields) → r .line f < 5) → Reads (firstBroken r s 0 0 at n)
+        read r five = first-read s cap n at h r five n 0 0 at (omega arith) first
 
     at-head : (x : Head) → head cap s ≡ x → f ≡ faultOfHead cap s (f .stream) x → Told
     at-head (Head.Streams n at) h e = at-streams n at h e

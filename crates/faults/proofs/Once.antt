@@ -15,7 +15,7 @@ use Rattle.text.specs.declared.Head.{Head}
 use Rattle.text.specs.declared.Head.the-variants as Head
 use Rattle.text.specs.Grammar.{head}
 use Rattle.faults.specs.declared.Fault.{Fault}
-use Rattle.faults.specs.Faults.{fault, none, inStream, formFault, ruleFault, Lowest, planOf, faultOfHead, faultWith, Found}
+use Rattle.faults.specs.Faults.{fault, none, inStream, orNext, formFault, ruleFault, windowFault, Lowest, cycleFault, planOf, faultOfHead, faultWith, Found}
 use Rattle.faults.proofs.Number.{found-number}
 
 -- the lowest stream that leads to itself is one
@@ -28,17 +28,33 @@ lowest-once plan x y g h = by (decLt x y) (decLt y x)
     by (no l) (no m) = omega arith
 
 -- the stream of a cycle is asked for by 6 alone
+or-elsewhere : (f g h : Fault) → ((g .number ≡ 6 → ⊥) → g ≡ h) → (orNext f g .number ≡ 6 → ⊥) → orNext f g ≡ orNext f h
+or-elsewhere f g h k = by (eqb (f .line) 0)
+  where
+    by : (b : Bool) → (cond b g f .number ≡ 6 → ⊥) → cond b g f ≡ cond b h f
+    by true z = k z
+    by false z = refl
+
 module _ (cap : ℕ) (s : List ℕ) (c d : ℕ) where
+  abbrev cycles : ℕ → Fault
+  cycles x = cycleFault cap (planOf cap s) x
+
+  cycle-elsewhere : (cycles c .number ≡ 6 → ⊥) → cycles c ≡ cycles d
+  cycle-elsewhere = by (acyclic cap (planOf cap s))
+    where
+      by : (b : Bool) → (cond b none (inStream 6 c 0) .number ≡ 6 → ⊥) → cond b none (inStream 6 c 0) ≡ cond b none (inStream 6 d 0)
+      by true h = refl
+      by false h = absurd (h refl)
+
   elsewhere-head : (x : Head) → (faultOfHead cap s c x .number ≡ 6 → ⊥) → faultOfHead cap s c x ≡ faultOfHead cap s d x
   elsewhere-head (Head.Refused r) h = refl
-  elsewhere-head (Head.Streams n at) h = by (eqb (formFault s 0 at n .line) 0) (eqb (ruleFault s n 0 at n .line) 0) (acyclic cap (planOf cap s)) h
+  elsewhere-head (Head.Streams n at) h = or-elsewhere (formFault s 0 at n) (rules c) (rules d) (or-elsewhere (ruleFault s n at) (windows c) (windows d) (or-elsewhere (windowFault s n at) (cycles c) (cycles d) cycle-elsewhere)) h
     where
-      by : (x y z : Bool) → (cond x (cond y (cond z none (inStream 6 c 0)) (ruleFault s n 0 at n)) (formFault s 0 at n) .number ≡ 6 → ⊥)
-          → cond x (cond y (cond z none (inStream 6 c 0)) (ruleFault s n 0 at n)) (formFault s 0 at n) ≡ cond x (cond y (cond z none (inStream 6 d 0)) (ruleFault s n 0 at n)) (formFault s 0 at n)
-      by false y z h = refl
-      by true false z h = refl
-      by true true true h = refl
-      by true true false h = absurd (h refl)
+      windows : ℕ → Fault
+      windows x = orNext (windowFault s n at) (cycles x)
+
+      rules : ℕ → Fault
+      rules x = orNext (ruleFault s n at) (windows x)
 
   elsewhere : (faultWith cap s c .number ≡ 6 → ⊥) → faultWith cap s c ≡ faultWith cap s d
   unfolding faultWith

@@ -1,13 +1,21 @@
--- What the two walks over the lines say of the streams that were read.
+-- What the walks over the lines say of the streams that were read.
 use Prim.Native.Nat.{ℕ, zero, suc, _+_, _*_, _<_, _≤_}
-use mathlib.Core.Path.{_≡_, refl, subst}
+use mathlib.Core.Path.{_≡_, refl, sym, ap, _∙_, subst}
 use mathlib.Core.Bool.{Bool, true, false, cond, _&&_}
-use mathlib.Core.List.{List}
+use mathlib.Core.List.{List, [], _∷_}
 use native.Mathlib.Omega.{arith}
 use native.Mathlib.Decide.{ℕ-discrete}
-use lib.Dec.{eqb, lit≤}
+use native.Mathlib.Nat.{zero-add}
+use lib.Dec.{eqb, ltb, leb, lit≤, nltb→le}
 use lib.ListN.{length}
-use Rattle.operators.specs.Limits.{countFits}
+use borrow.Author.Tests.{eq-eqb, ne-eqb, ltb-true, le-leb, lt-leb}
+use mir.Syntax.{w64}
+use mir.Val.{toZ}
+use Rattle.meaning.proofs.Tests.{Is, yes!, no!, look}
+use Rattle.operators.specs.Operators.{groupOf, isWindow}
+use Rattle.operators.specs.Limits.{windowLimit, countFits}
+use Rattle.operators.specs.Windows.{widthOk, windows}
+use Rattle.operators.proofs.Laws.{window-by-number}
 use Rattle.lines.specs.declared.Word.{Word}
 use Rattle.lines.specs.declared.Word.the-variants.{Past, Absent}
 use Rattle.lines.specs.declared.Numeral.{Numeral}
@@ -22,9 +30,9 @@ use Rattle.text.specs.declared.Head.{Head}
 use Rattle.text.specs.declared.Head.the-variants as Head
 use Rattle.text.specs.Grammar.{planLine, streamsKey, firstKey, secondKey, opLine, next, fieldsAfter, streamAfter, stream, counts, headAfter, head}
 use Rattle.text.proofs.Heads.{no-bytes, some-bytes}
-use Rattle.plan.specs.Rules.{keeps, allKeep, Form, refused, formed, put, others, streams}
+use Rattle.plan.specs.Rules.{keeps, allKeep, Form, refused, formed, put, others, streams, planFrom, allWidths, windowsOk}
 use Rattle.faults.specs.declared.Fault as declared
-use Rattle.faults.specs.Faults.{fault, none, inStream, streamLine, streamOr, formFault, fieldBroken, ruleFault}
+use Rattle.faults.specs.Faults.{fault, none, inStream, orNext, streamLine, streamOr, formFault, Rule, firstBroken, fieldRule, ruleFault, widthRule, ninthRule, widthFault, ninthFault, windowFault}
 use Rattle.faults.specs.Search.{Kept}
 
 -- ## A faulty line is refused by 2, 3 or 4
@@ -77,6 +85,73 @@ head-low cap s r e = subst LowHead e (by (ℕ-discrete (length s) 0))
     by (yes z) = rw (no-bytes cap s z) tt
     by (no z) = rw (some-bytes cap s z) (by-word (skip s 0 planLine))
 
+-- ## A fault, or else what is found next
+
+pub or-here : (f g : declared.Fault) → (f .line ≡ 0 → ⊥) → orNext f g ≡ f
+or-here f g h = rw (ne-eqb (f .line) 0 h)
+
+pub or-next : (f g : declared.Fault) → f .line ≡ 0 → orNext f g ≡ g
+or-next f g h = rw (eq-eqb (f .line) 0 h)
+
+-- what the code tells first, and what it tells next
+module _ (f g h : declared.Fault) (e : f ≡ g) where
+  pub tells-here : (f .line ≡ 0 → ⊥) → f ≡ orNext g h
+  tells-here n = subst (λ (x : declared.Fault). f ≡ orNext x h) e (sym (or-here f h n))
+
+  pub tells-next : f .line ≡ 0 → (k : declared.Fault) → k ≡ h → k ≡ orNext g h
+  tells-next z k q = q ∙ sym (or-next g h (sym (ap (λ (x : declared.Fault). x .line) e) ∙ z))
+
+module _ (number : ℕ) where
+  or-told : (f g : declared.Fault) → (0 < f .line → f .number ≡ number) → (0 < g .line → g .number ≡ number) → 0 < orNext f g .line → orNext f g .number ≡ number
+  or-told f g p q = by (eqb (f .line) 0)
+    where
+      by : (b : Bool) → 0 < cond b g f .line → cond b g f .number ≡ number
+      by true = q
+      by false = p
+
+  -- a rule is kept by all, or broken
+  abbrev pub Judged : Bool → declared.Fault → Type 0
+  Judged true f = f ≡ none
+  Judged false f = (f .number ≡ number) × (0 < f .line)
+
+  or-judged : (a b : Bool) (f g : declared.Fault) → Judged a f → Judged b g → Judged (a && b) (orNext f g)
+  or-judged true b f g j k = subst (λ (x : declared.Fault). Judged b (orNext x g)) (sym j) k
+  or-judged false b f g j k = subst (Judged false) (sym (or-here f g (λ z. omega arith))) j
+
+-- ## All streams keep a rule, with so many counted before
+
+module _ (r : Rule) where
+  abbrev allBy : ℕ → List Fields → Bool
+  allBy w [] = true
+  allBy w (f ∷ fs) = r .kept w f && allBy (r .count w f) fs
+
+fields-by : (n w : ℕ) (fs : List Fields) → allBy (fieldRule n) w fs ≡ allKeep n fs
+unfolding allKeep
+fields-by n w [] = refl
+fields-by n w (f ∷ fs) = ap (λ (b : Bool). keeps n f && b) (fields-by n w fs)
+
+widths-by : (w : ℕ) (fs : List Fields) → allBy widthRule w fs ≡ allWidths fs
+unfolding allWidths
+widths-by w [] = refl
+widths-by w (f ∷ fs) = ap (λ (b : Bool). widthOk (f .op) (f .k) && b) (widths-by w fs)
+
+ninth-by : (w : ℕ) (fs : List Fields) → w ≤ windowLimit → allBy ninthRule w fs ≡ leb (w + windows (planFrom fs)) windowLimit
+unfolding windows planFrom
+ninth-by w [] h = sym (le-leb (w + 0) windowLimit (omega arith))
+ninth-by w (f ∷ fs) h =
+    rw (window-by-number (f .a) (f .b) (toZ w64 (f .k)) (f .op)) (by (isWindow (groupOf (f .op))) (look (ltb w windowLimit)) (λ v k. ninth-by v fs k))
+  where
+    more : ℕ
+    more = windows (planFrom fs)
+
+    by : (b : Bool) → Is (ltb w windowLimit) → ((v : ℕ) → v ≤ windowLimit → allBy ninthRule v fs ≡ leb (v + more) windowLimit)
+        → (cond b (ltb w windowLimit) true && allBy ninthRule (cond b (suc w) w) fs) ≡ leb (w + cond b (suc more) more) windowLimit
+    by false t ih = ih w h
+    by true (yes! e t) ih =
+        let q : w + suc more ≡ suc w + more = omega arith in
+        rw (e, q) (ih (suc w) (ltb-true w windowLimit e))
+    by true (no! e t) ih = let l = nltb→le w windowLimit t in rw (e, lt-leb (w + suc more) windowLimit (omega arith))
+
 module _ (s : List ℕ) where
   -- ## The first faulty line
 
@@ -110,56 +185,75 @@ module _ (s : List ℕ) where
       by (Lines.Stream f) ih = more f (streams s (f .next) n) (formFault s (i + 1) (f .next) n) (ih f)
       by (Lines.Refused r) ih = (refl, omega arith)
 
-  -- ## The first field against rule 5
+  -- ## The first stream that breaks a rule
 
-  module _ (n : ℕ) where
-    pub rule-low : (m i at : ℕ) → ruleFault s n i at m .number ≤ 5
-    unfolding ruleFault
-    rule-low zero i at = lit≤ tt
-    rule-low (suc m) i at = by (stream s at) (λ f. rule-low m (i + 1) (f .next))
+  module _ (r : Rule) where
+    pub first-told : (m w i at : ℕ) → 0 < firstBroken r s w i at m .line → firstBroken r s w i at m .number ≡ r .number
+    unfolding firstBroken
+    first-told zero w i at l = absurd (omega arith)
+    first-told (suc m) w i at l = by (stream s at) l (λ f. first-told m (r .count w f) (i + 1) (f .next))
       where
-        by-test : (b : Bool) (f : Fields) → ruleFault s n (i + 1) (f .next) m .number ≤ 5 → cond b (ruleFault s n (i + 1) (f .next) m) (inStream 5 i (fieldBroken n f)) .number ≤ 5
-        by-test true f h = h
-        by-test false f h = lit≤ tt
+        by-test : (b : Bool) (f : Fields) (g : declared.Fault) → (0 < g .line → g .number ≡ r .number) → 0 < cond b g (inStream (r .number) i (r .line f)) .line → cond b g (inStream (r .number) i (r .line f)) .number ≡ r .number
+        by-test true f g h l = h l
+        by-test false f g h l = refl
 
-        by : (l : Lines) → ((f : Fields) → ruleFault s n (i + 1) (f .next) m .number ≤ 5) → streamOr l (λ r. none) (λ f. cond (keeps n f) (ruleFault s n (i + 1) (f .next) m) (inStream 5 i (fieldBroken n f))) .number ≤ 5
-        by (Lines.Stream f) ih = by-test (keeps n f) f (ih f)
-        by (Lines.Refused r) ih = lit≤ tt
+        by : (x : Lines) → 0 < streamOr x (λ q. none) (λ f. cond (r .kept w f) (firstBroken r s (r .count w f) (i + 1) (f .next) m) (inStream (r .number) i (r .line f))) .line
+            → ((f : Fields) → 0 < firstBroken r s (r .count w f) (i + 1) (f .next) m .line → firstBroken r s (r .count w f) (i + 1) (f .next) m .number ≡ r .number)
+            → streamOr x (λ q. none) (λ f. cond (r .kept w f) (firstBroken r s (r .count w f) (i + 1) (f .next) m) (inStream (r .number) i (r .line f))) .number ≡ r .number
+        by (Lines.Stream f) l ih = by-test (r .kept w f) f (firstBroken r s (r .count w f) (i + 1) (f .next) m) (ih f) l
+        by (Lines.Refused q) l ih = absurd (omega arith)
 
-    -- kept by all, or broken
-    abbrev pub Judged : Bool → declared.Fault → Type 0
-    Judged true f = f ≡ none
-    Judged false f = (f .number ≡ 5) × (0 < f .line)
+    abbrev FirstSays : ℕ → Form → declared.Fault → Type 0
+    FirstSays w (refused q) f = Unit {0}
+    FirstSays w (formed fs end) f = Judged (r .number) (allBy r w fs) f
 
-    abbrev pub RuleSays : Form → declared.Fault → Type 0
-    RuleSays (refused r) f = Unit {0}
-    RuleSays (formed fs end) f = Judged (allKeep n fs) f
-
-    pub rule-says : (m i at : ℕ) → RuleSays (streams s at m) (ruleFault s n i at m)
-    unfolding streams ruleFault allKeep
-    rule-says zero i at = refl
-    rule-says (suc m) i at = by (stream s at) (λ f. rule-says m (i + 1) (f .next))
+    first-says : (m w i at : ℕ) → FirstSays w (streams s at m) (firstBroken r s w i at m)
+    unfolding streams firstBroken
+    first-says zero w i at = refl
+    first-says (suc m) w i at = by (stream s at) (λ f. first-says m (r .count w f) (i + 1) (f .next))
       where
-        judged : (a b : Bool) (r h : declared.Fault) → (h .number ≡ 5) → 0 < h .line → Judged b r → Judged (a && b) (cond a r h)
-        judged true b r h p q j = j
-        judged false b r h p q j = (p, q)
+        judged : (a b : Bool) (g h : declared.Fault) → h .number ≡ r .number → 0 < h .line → Judged (r .number) b g → Judged (r .number) (a && b) (cond a g h)
+        judged true b g h p q j = j
+        judged false b g h p q j = (p, q)
 
-        more : (f : Fields) (x : Form) (r : declared.Fault) → RuleSays x r → RuleSays (put f x) (cond (keeps n f) r (inStream 5 i (fieldBroken n f)))
-        more f (refused q) r h = tt
-        more f (formed fs end) r h = judged (keeps n f) (allKeep n fs) r (inStream 5 i (fieldBroken n f)) refl (omega arith) h
+        more : (f : Fields) (x : Form) (g : declared.Fault) → FirstSays (r .count w f) x g → FirstSays w (put f x) (cond (r .kept w f) g (inStream (r .number) i (r .line f)))
+        more f (refused q) g h = tt
+        more f (formed fs end) g h = judged (r .kept w f) (allBy r (r .count w f) fs) g (inStream (r .number) i (r .line f)) refl (omega arith) h
 
-        by : (l : Lines) → ((f : Fields) → RuleSays (streams s (f .next) m) (ruleFault s n (i + 1) (f .next) m)) → RuleSays (others l (λ f. streams s (f .next) m)) (streamOr l (λ r. none) (λ f. cond (keeps n f) (ruleFault s n (i + 1) (f .next) m) (inStream 5 i (fieldBroken n f))))
-        by (Lines.Stream f) ih = more f (streams s (f .next) m) (ruleFault s n (i + 1) (f .next) m) (ih f)
-        by (Lines.Refused r) ih = tt
+        by : (l : Lines) → ((f : Fields) → FirstSays (r .count w f) (streams s (f .next) m) (firstBroken r s (r .count w f) (i + 1) (f .next) m))
+            → FirstSays w (others l (λ f. streams s (f .next) m)) (streamOr l (λ q. none) (λ f. cond (r .kept w f) (firstBroken r s (r .count w f) (i + 1) (f .next) m) (inStream (r .number) i (r .line f))))
+        by (Lines.Stream f) ih = more f (streams s (f .next) m) (firstBroken r s (r .count w f) (i + 1) (f .next) m) (ih f)
+        by (Lines.Refused q) ih = tt
+
+    -- of streams that were read
+    first-judged : (n at : ℕ) (fs : List Fields) (end : ℕ) → streams s at n ≡ formed fs end → (b : Bool) → allBy r 0 fs ≡ b → Judged (r .number) b (firstBroken r s 0 0 at n)
+    first-judged n at fs end e b q = subst (λ (c : Bool). Judged (r .number) c (firstBroken r s 0 0 at n)) q (subst (λ (x : Form). FirstSays 0 x (firstBroken r s 0 0 at n)) e (first-says n 0 0 at))
+
+  -- ## Rules 5 and 18
+
+  module _ (n at : ℕ) where
+    pub window-told : 0 < windowFault s n at .line → windowFault s n at .number ≡ 18
+    window-told = or-told 18 (widthFault s n at) (ninthFault s n at) (first-told widthRule n 0 0 at) (first-told ninthRule n 0 0 at)
+
+    module _ (fs : List Fields) (end : ℕ) (e : streams s at n ≡ formed fs end) where
+      pub rule-judged : Judged 5 (allKeep n fs) (ruleFault s n at)
+      rule-judged = first-judged (fieldRule n) n at fs end e (allKeep n fs) (fields-by n 0 fs)
+
+      pub window-judged : Judged 18 (windowsOk fs) (windowFault s n at)
+      unfolding windowsOk
+      window-judged =
+          or-judged 18 (allWidths fs) (leb (windows (planFrom fs)) windowLimit) (widthFault s n at) (ninthFault s n at)
+          (first-judged widthRule n at fs end e (allWidths fs) (widths-by 0 fs))
+          (first-judged ninthRule n at fs end e (leb (windows (planFrom fs)) windowLimit) (ninth-by 0 fs (omega arith) ∙ ap (λ (m : ℕ). leb m windowLimit) (zero-add (windows (planFrom fs)))))
 
     -- where neither walk finds a fault, the streams were read and all keep rule 5
-    pub both-none : (at : ℕ) → formFault s 0 at n .line ≡ 0 → ruleFault s n 0 at n .line ≡ 0 → Kept n (streams s at n)
-    both-none at p q = by (streams s at n) (form-says n 0 at) (rule-says n 0 at)
+    pub both-none : formFault s 0 at n .line ≡ 0 → ruleFault s n at .line ≡ 0 → Kept n (streams s at n)
+    both-none p q = by (streams s at n) refl (form-says n 0 at)
       where
-        kept : (b : Bool) → Judged b (ruleFault s n 0 at n) → b ≡ true
+        kept : (b : Bool) → Judged 5 b (ruleFault s n at) → b ≡ true
         kept true j = refl
         kept false j = absurd (omega arith)
 
-        by : (x : Form) → FormSays (0 + n) x (formFault s 0 at n) → RuleSays x (ruleFault s n 0 at n) → Kept n x
-        by (refused r) f j = omega arith
-        by (formed fs end) f j = kept (allKeep n fs) j
+        by : (x : Form) → streams s at n ≡ x → FormSays (0 + n) x (formFault s 0 at n) → Kept n x
+        by (refused r) e f = omega arith
+        by (formed fs end) e f = kept (allKeep n fs) (rule-judged fs end e)

@@ -1,5 +1,5 @@
 -- Cases: plan texts, one for each way to be wrong, and the number, line and stream of each.
-use Prim.Native.Nat.{ℕ}
+use Prim.Native.Nat.{ℕ, zero, suc}
 use Prim.Native.Char.{code}
 use Prim.Native.String as string
 use mathlib.Core.List.{List, [], _∷_}
@@ -27,6 +27,15 @@ pair s = string._++_ "plan=1\nstreams=2\n" s
 
 abbrev three : string.String → string.String
 three s = string._++_ "plan=1\nstreams=3\n" s
+
+abbrev times : ℕ → string.String → string.String
+times zero s = ""
+times (suc n) s = string._++_ s (times n s)
+
+-- a plan of so many streams: an input, eight windows of it, and others
+abbrev eight : string.String → string.String → string.String
+eight n s =
+    string._++_ "plan=1\nstreams=" (string._++_ n (string._++_ "\nop=in\na=0\nb=0\nk=0\nout=0\n" (string._++_ (times 8 "op=wmax\na=0\nb=0\nk=1\nout=0\n") s)))
 
 -- stream 0 reads a cycle of streams 1 and 2 and is not on it
 abbrev pub besideCycle : string.String
@@ -62,6 +71,17 @@ cases =
     ∷ row (pair "op=in\na=0\nb=0\nk=0\nout=0\nop=neg\na=0\nb=0\nk=1\nout=0\n") 5 11 1
     ∷ row (alone "op=in\na=0\nb=0\nk=0\nout=1\n") 5 7 0
     ∷ row (pair "op=in\na=0\nb=0\nk=0\nout=1\nop=foo\n") 4 8 1
+    -- rule 18, between 5 and 6: the first width outside 1 to 64, or else the ninth window
+    ∷ row (pair "op=in\na=0\nb=0\nk=0\nout=0\nop=wsum\na=0\nb=0\nk=1\nout=0\n") 0 0 0
+    ∷ row (pair "op=in\na=0\nb=0\nk=0\nout=0\nop=wsum\na=0\nb=0\nk=0\nout=0\n") 18 11 1
+    ∷ row (pair "op=in\na=0\nb=0\nk=0\nout=0\nop=wmin\na=0\nb=0\nk=65\nout=0\n") 18 11 1
+    ∷ row (pair "op=in\na=0\nb=0\nk=0\nout=0\nop=wmax\na=0\nb=0\nk=-1\nout=0\n") 18 11 1
+    ∷ row (eight "9" "") 0 0 0
+    ∷ row (eight "10" "op=wmin\na=0\nb=0\nk=64\nout=0\n") 18 48 9
+    ∷ row (eight "11" "op=wmin\na=0\nb=0\nk=64\nout=0\nop=wsum\na=0\nb=0\nk=0\nout=0\n") 18 56 10
+    ∷ row (alone "op=wsum\na=0\nb=1\nk=65\nout=0\n") 5 5 0
+    ∷ row (alone "op=wsum\na=0\nb=0\nk=65\nout=0\n") 18 6 0
+    ∷ row (alone "op=wsum\na=0\nb=0\nk=64\nout=0\n") 6 3 0
     -- rule 6: the lowest stream on a cycle
     ∷ row (alone "op=merge\na=0\nb=0\nk=0\nout=0\n") 6 3 0
     ∷ row besideCycle 6 8 1

@@ -1,7 +1,7 @@
 -- Believe: where a plan text is wrong: its number, the line counted from 1, and the stream.
 use Prim.Native.Nat.{ℕ, zero, suc, _+_, _*_, _<_}
 use mathlib.Core.Path.{_≡_}
-use mathlib.Core.Bool.{cond}
+use mathlib.Core.Bool.{Bool, true, cond}
 use mathlib.Core.List.{List}
 use lib.Dec.{eqb, ltb}
 use lib.ListN.{length}
@@ -9,9 +9,10 @@ use Rattle.meaning.specs.Plan.{Plan}
 use Rattle.meaning.specs.Cycle.{Leads}
 use Rattle.meaning.specs.CycleTest.{acyclic}
 use Rattle.machine.specs.State.{declaredPlan}
-use Rattle.operators.specs.Operators.{usesA, usesB, usesK}
+use Rattle.operators.specs.Operators.{groupOf, isWindow, usesA, usesB, usesK}
 use Rattle.operators.specs.Rules.{argOk, valueOk}
-use Rattle.operators.specs.Limits.{textLimit}
+use Rattle.operators.specs.Limits.{windowLimit, textLimit}
+use Rattle.operators.specs.Windows.{widthOk}
 use Rattle.lines.specs.declared.Word.{Word}
 use Rattle.lines.specs.declared.Word.the-variants.{Past, Absent}
 use Rattle.lines.specs.declared.Numeral.{Numeral}
@@ -77,17 +78,60 @@ unfoldable pub formFault : List ℕ → ℕ → ℕ → ℕ → Fault
 formFault s i at zero = cond (eqb at (length s)) none (fault 2 (3 + 5 * i) 0)
 formFault s i at (suc n) = streamOr (stream s at) (λ r. inStream r i (streamLine s at)) (λ f. formFault s (i + 1) (f .next) n)
 
--- ## "Then 5": the first stream that breaks the rule, and of its fields the first that does
+-- ## A rule that is tested stream by stream: the first stream that breaks it
+
+pub record Rule : Type 0 where
+  pub number : ℕ
+  -- whether a stream keeps it, with so many counted before
+  pub kept : ℕ → Fields → Bool
+  -- how many are counted with it
+  pub count : ℕ → Fields → ℕ
+  -- the line at which a stream breaks it
+  pub line : Fields → ℕ
+
+-- with w counted and m streams left, the first of those stream i at a position
+unfoldable pub firstBroken : Rule → List ℕ → (w i at m : ℕ) → Fault
+firstBroken r s w i at zero = none
+firstBroken r s w i at (suc m) =
+    streamOr (stream s at) (λ q. none) (λ f. cond (r .kept w f) (firstBroken r s (r .count w f) (i + 1) (f .next) m) (inStream (r .number) i (r .line f)))
+
+-- ## "Then 5", and of the stream's fields the first that breaks it
 
 -- a, b, k, or else out
 abbrev pub fieldBroken : ℕ → Fields → ℕ
 fieldBroken n f = cond (argOk (usesA (f .op)) n (f .a)) (cond (argOk (usesB (f .op)) n (f .b)) (cond (valueOk (usesK (f .op)) (f .k)) 4 3) 2) 1
 
--- of a plan of n streams, m of them left, the first of those stream i at a position
-unfoldable pub ruleFault : List ℕ → ℕ → ℕ → ℕ → ℕ → Fault
-ruleFault s n i at zero = none
-ruleFault s n i at (suc m) =
-    streamOr (stream s at) (λ r. none) (λ f. cond (keeps n f) (ruleFault s n (i + 1) (f .next) m) (inStream 5 i (fieldBroken n f)))
+abbrev pub fieldRule : ℕ → Rule
+fieldRule n = record { number = 5; kept = λ w f. keeps n f; count = λ w f. w; line = fieldBroken n }
+
+-- of a plan of n streams, the first at a position
+abbrev pub ruleFault : List ℕ → (n at : ℕ) → Fault
+ruleFault s n at = firstBroken (fieldRule n) s 0 0 at n
+
+-- ## "18, a width outside 1 to 64 or a ninth window, tested after 5 and before 6": the first such width, at its line k, or
+-- else the ninth window, at its line op
+
+abbrev pub widthRule : Rule
+widthRule = record { number = 18; kept = λ w f. widthOk (f .op) (f .k); count = λ w f. w; line = λ f. 3 }
+
+-- windows are counted
+abbrev pub ninthRule : Rule
+ninthRule =
+    record {
+      number = 18;
+      kept = λ w f. cond (isWindow (groupOf (f .op))) (ltb w windowLimit) true;
+      count = λ w f. cond (isWindow (groupOf (f .op))) (suc w) w;
+      line = λ f. 0;
+    }
+
+abbrev pub widthFault : List ℕ → (n at : ℕ) → Fault
+widthFault s n at = firstBroken widthRule s 0 0 at n
+
+abbrev pub ninthFault : List ℕ → (n at : ℕ) → Fault
+ninthFault s n at = firstBroken ninthRule s 0 0 at n
+
+abbrev pub windowFault : List ℕ → (n at : ℕ) → Fault
+windowFault s n at = orNext (widthFault s n at) (ninthFault s n at)
 
 -- ## "Then 6": the lowest stream that undelayed arguments lead to itself
 
@@ -106,7 +150,7 @@ planOf cap s = declaredPlan (declared cap s)
 
 abbrev pub faultOfHead : ℕ → List ℕ → ℕ → Head → Fault
 faultOfHead cap s c (Head.Refused r) = fault r (headLine (skip s 0 planLine)) 0
-faultOfHead cap s c (Head.Streams n at) = orNext (formFault s 0 at n) (orNext (ruleFault s n 0 at n) (cycleFault cap (planOf cap s) c))
+faultOfHead cap s c (Head.Streams n at) = orNext (formFault s 0 at n) (orNext (ruleFault s n at) (orNext (windowFault s n at) (cycleFault cap (planOf cap s) c)))
 
 -- c is the stream that 6 tells; of a text that is too long no line is told
 unfoldable pub faultWith : ℕ → List ℕ → ℕ → Fault

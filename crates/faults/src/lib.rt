@@ -8,7 +8,7 @@ ghost use Rattle.text.specs.Grammar.{planLine, head};
 ghost use Rattle.operators.specs.Limits.{mostStreams};
 ghost use Rattle.operators.specs.Rules.{argOk};
 ghost use Rattle.plan.specs.Rules.{streams, number};
-ghost use Rattle.faults.specs.Faults.{inStream, headLine, fieldLine, streamLine, formFault, fieldBroken, ruleFault, Found};
+ghost use Rattle.faults.specs.Faults.{inStream, headLine, fieldLine, streamLine, formFault, fieldBroken, ruleFault, widthFault, ninthFault, windowFault, Found};
 ghost use Rattle.faults.specs.Search.{Kept, notedForm, LowestIn, FoundAfter};
 use cycle::GRAPH;
 use lines::Numeral;
@@ -135,7 +135,7 @@ fn field_broken(n: u64, f: Fields) -> usize
 // The first field that breaks rule 5, of n streams.
 fn rule_fault(text: &[u8], at: usize, n: usize) -> Fault
     requires { ⌜ n ≤ mostStreams ⌝ }
-    ensures { λ r. ⌜ r ≡ ruleFault (now (text .entry)) n 0 at n ⌝ }
+    ensures { λ r. ⌜ r ≡ ruleFault (now (text .entry)) n at ⌝ }
 {
     let mut p = at;
     let mut i = 0;
@@ -155,6 +155,70 @@ fn rule_fault(text: &[u8], at: usize, n: usize) -> Fault
         line: 0,
         stream: 0,
     }
+}
+
+// The first window of n streams whose width is outside 1 to 64.
+fn width_fault(text: &[u8], at: usize, n: usize) -> Fault
+    requires { ⌜ n ≤ mostStreams ⌝ }
+    ensures { λ r. ⌜ r ≡ widthFault (now (text .entry)) n at ⌝ }
+{
+    let mut p = at;
+    let mut i = 0;
+    while i < n {
+        let Lines::Stream(f) = text::read_stream(text, p) else {
+            break;
+        };
+        if !operators::width_ok(f.op as u64, f.k) {
+            return in_stream(18, i, 3);
+        }
+        p = f.next;
+        i += 1;
+    }
+    Fault {
+        number: 0,
+        line: 0,
+        stream: 0,
+    }
+}
+
+// The ninth window of n streams.
+fn ninth_fault(text: &[u8], at: usize, n: usize) -> Fault
+    requires { ⌜ n ≤ mostStreams ⌝ }
+    ensures { λ r. ⌜ r ≡ ninthFault (now (text .entry)) n at ⌝ }
+{
+    let mut p = at;
+    let mut i = 0;
+    let mut w: u64 = 0;
+    while i < n {
+        let Lines::Stream(f) = text::read_stream(text, p) else {
+            break;
+        };
+        if operators::is_window(f.op as u64) {
+            if Plan::WINDOWS <= w {
+                return in_stream(18, i, 0);
+            }
+            w += 1;
+        }
+        p = f.next;
+        i += 1;
+    }
+    Fault {
+        number: 0,
+        line: 0,
+        stream: 0,
+    }
+}
+
+// The first window of n streams that breaks rule 18: by its width, or else the ninth.
+fn window_fault(text: &[u8], at: usize, n: usize) -> Fault
+    requires { ⌜ n ≤ mostStreams ⌝ }
+    ensures { λ r. ⌜ r ≡ windowFault (now (text .entry)) n at ⌝ }
+{
+    let width = width_fault(text, at, n);
+    if width.line != 0 {
+        return width;
+    }
+    ninth_fault(text, at, n)
 }
 
 // Notes the undelayed arguments of n streams that keep rule 5.
@@ -196,6 +260,10 @@ fn plan_fault(text: &[u8], n: usize, at: usize, most: usize) -> Fault
     let rule = rule_fault(text, at, n);
     if rule.line != 0 {
         return rule;
+    }
+    let window = window_fault(text, at, n);
+    if window.line != 0 {
+        return window;
     }
     let c = on_cycle(text, at, n);
     if c == n {

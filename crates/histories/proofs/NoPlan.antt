@@ -51,7 +51,7 @@ module _ (size : ℕ) (l : 0 < capacity size) where
   unfolding loadReply
   loaded-zeros s e =
       let t = empty-taken (capacity size) in
-      rw (e, lt-ltb 0 (capacity size) l, t .0, t .1) (ap (plain 0) (ap (bytesOf size) no-loaded ∙ none-bytes size))
+      rw (e, lt-ltb 0 (capacity size) l, t .0, t .1) (ap (plain 0) (ap (bytesOf size) no-loaded ∙ none-bytes size l))
 
   one-text : (text s : List ℕ) → length s ≡ size → loadReply text s ≡ plain 0 (zeros size) → text ≡ []
   one-text text s e q =
@@ -59,7 +59,7 @@ module _ (size : ℕ) (l : 0 < capacity size) where
       let cap = capacity (length s) in
       let ds = declared cap text in
       let ok = loaded-sound (d .2) ds (taken-rendered cap text (d .0) .1) in
-      let left : bytesOf (length s) (loaded ds) ≡ bytesOf size [] = sym (d .1) ∙ ap (λ (r : Reply). r .buffer) q ∙ sym (none-bytes size) in
+      let left : bytesOf (length s) (loaded ds) ≡ bytesOf size [] = sym (d .1) ∙ ap (λ (r : Reply). r .buffer) q ∙ sym (none-bytes size l) in
       let none : length ds ≡ 0 = sym (many ds) ∙ sym (bytes-count (length s) (loaded ds) ok) ∙ ap count left ∙ bytes-count size [] (none-sound l) in
       empty-alone cap text (d .0) (nothing ds none)
     where
@@ -69,8 +69,8 @@ module _ (size : ℕ) (l : 0 < capacity size) where
 
   zeros-answer : (c : Call) → reply c (zeros size) ≡ plain (answer c) (zeros size)
   zeros-answer c =
-      reply-machine size c [] (zeros size) (none-sound l) (sym (none-bytes size))
-      ∙ ap (replyOf size) (answered c) ∙ ap (plain (answer c)) (none-bytes size)
+      reply-machine size c [] (zeros size) (none-sound l) (sym (none-bytes size l))
+      ∙ ap (replyOf size) (answered c) ∙ ap (plain (answer c)) (none-bytes size l)
 
   others-15 : (c : Call) (s : List ℕ) → length s ≡ size → getD s 0 0 ≡ 0 → (s ≡ zeros size → ⊥) → reply c s ≡ notState s
   others-15 c s e z n = reply-none c s (by (valid s) refl)

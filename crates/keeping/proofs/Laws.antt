@@ -7,9 +7,9 @@ use mathlib.Core.List.{List}
 use lib.IntN.{ℤ}
 use lib.ListN.{getD}
 use borrow.Author.Tests.{eq-eqb, ne-eqb}
-use Rattle.meaning.specs.Plan.{Calc, Eqn, input, nil, unit, one, two, last, delay, signal}
+use Rattle.meaning.specs.Plan.{Calc, Eqn, input, nil, unit, one, two, last, delay, signal, window}
 use Rattle.meaning.specs.Events.{Event}
-use Rattle.machine.specs.State.{Kept, Cell, withKept}
+use Rattle.machine.specs.State.{Kept, Passed, Cell, withKept}
 use Rattle.machine.specs.Reach.{valueAt}
 use Rattle.machine.specs.Step.{later, absorb}
 use Rattle.layout.specs.Record.{Raw, headWidths, withNum, flagF, priorFlagF, keptF, valueF, priorF}
@@ -42,6 +42,7 @@ absorb-near (two g _ _) o a b x y = refl
 absorb-near (last _ _) o a b x y = refl
 absorb-near (delay _ _) o a b x y = refl
 absorb-near (signal c _ _) o a b x y = refl
+absorb-near (window f k _) o a b x y = refl
 
 -- ---- the record
 
@@ -89,20 +90,22 @@ module _ (k : Kept) (r : Raw) where
   row-none (last a b) h = absurd (false≢true (sym h))
   row-none (delay a b) h = absurd (false≢true (sym h))
   row-none (signal c a b) h = absurd (false≢true (sym h))
+  row-none (window f n a) h = refl
 
 -- ---- a cell's record with other kept data is the record of the cell with them
 
-row-of : (k j : Kept) (e : Eqn) (out : Bool) (y : ℕ) (es : List Event) (n : ℕ) → keptRow e k (rawOf e out y es n (keptNums e j)) ≡ rawOf e out y es n (keptNums e k)
+row-of : (k j : Kept) (w : Passed) (e : Eqn) (out : Bool) (y : ℕ) (es : List Event) (n : ℕ) → keptRow e k (rawOf e out y es n (keptNums e j w)) ≡ rawOf e out y es n (keptNums e k w)
 unfolding keptRow
-row-of k j input out y es n = refl
-row-of k j nil out y es n = refl
-row-of k j unit out y es n = refl
-row-of k j (one f a) out y es n = refl
-row-of k j (two g a b) out y es n = refl
-row-of k j (last a b) out y es n = refl
-row-of k j (delay a b) out y es n = refl
-row-of k j (signal c a b) out y es n = refl
+row-of k j w input out y es n = refl
+row-of k j w nil out y es n = refl
+row-of k j w unit out y es n = refl
+row-of k j w (one f a) out y es n = refl
+row-of k j w (two g a b) out y es n = refl
+row-of k j w (last a b) out y es n = refl
+row-of k j w (delay a b) out y es n = refl
+row-of k j w (signal c a b) out y es n = refl
+row-of k j w (window f m a) out y es n = refl
 
 pub kept-cell : (k : Kept) (c : Cell) → keptRow (c .eqn) k (ofCell c) ≡ ofCell (withKept k c)
 unfolding ofCell
-kept-cell k c = row-of k (c .kept) (c .eqn) (c .out) (c .bound) (c .held) (c .next)
+kept-cell k c = row-of k (c .kept) (c .passed) (c .eqn) (c .out) (c .bound) (c .held) (c .next)

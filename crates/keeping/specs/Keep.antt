@@ -1,7 +1,7 @@
 -- How: what a last, a delay or a signal form keeps, in the numbers of its record.
 use Prim.Native.Nat.{ℕ}
 use mathlib.Core.List.{List}
-use Rattle.meaning.specs.Plan.{Eqn, input, nil, unit, one, two, last, delay, signal}
+use Rattle.meaning.specs.Plan.{Eqn, input, nil, unit, one, two, last, delay, signal, window}
 use Rattle.meaning.specs.Events.{Event}
 use Rattle.machine.specs.State.{Cell, Kept, absent, withBound, withHeld, withKept}
 use Rattle.layout.specs.Record.{Raw, decRaw, withNum, flagF, priorFlagF, keptF, valueF, priorF}
@@ -40,3 +40,4 @@ keptRow (two g a b) k r = r
 keptRow (last a b) k r = valueKept flagF keptF (flagOf (k .prev)) (bitsOf (k .prev)) r
 keptRow (delay a b) k r = delayKept k r
 keptRow (signal c a b) k r = signalKept k r
+keptRow (window f n a) k r = r

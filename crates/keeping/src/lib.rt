@@ -109,6 +109,7 @@ pub fn absorbed(op: Op, k: Kept, y: u64, o: &[u8], a: &[u8], b: &[u8]) -> Kept
         Op::Last(_, _) => absorb_last(k, y, a),
         Op::Delay(_, _) => absorb_delay(k, y, o, a, b),
         Op::Signal(_, _, _) => absorb_signal(k, y, a, b),
+        Op::Window(_, _, _) => k,
     }
 }
 
@@ -191,5 +192,6 @@ pub fn keep(r: &mut [u8], op: Op, k: Kept)
         }
         Op::Delay(_, _) => keep_delay(r, k),
         Op::Signal(_, _, _) => keep_signal(r, k),
+        Op::Window(_, _, _) => {}
     }
 }

@@ -1,10 +1,12 @@
 // Records in bytes: the only functions that know where a field lies.
 ghost use mathlib.Core.Path.{_≡_};
 ghost use Prim.Native.Nat.{_+_, _*_, _≤_, _<_, _^_};
-ghost use lib.ListN.{length};
+ghost use lib.ListN.{length, getD, set};
 ghost use Rattle.le.specs.Bytes.{part};
 ghost use Rattle.machine.specs.State.{room};
+ghost use Rattle.operators.specs.Limits.{widthLimit, windowLimit};
 ghost use Rattle.layout.specs.Record.{encRaw, decRaw, num, withNum, slotAt, withSlot, dropped};
+ghost use Rattle.layout.specs.Windows.{windowLength, areaLength, windowStart, encWindow, decWindow, pushedWord};
 
 // How many bytes a record has.
 pub const RECORD: usize = 256;
@@ -128,4 +130,45 @@ pub fn drop_slots(r: &mut [u8], k: usize, n: usize)
     let rest = n * SLOT - m;
     le::shift(r, HEAD, m, rest);
     le::clear(r, HEAD + rest, m);
+}
+
+// How many bytes a window has, and all windows together: they lie behind everything else.
+pub const WINDOW: usize = 512;
+
+pub const AREA: usize = 4096;
+// How many bytes each of its words has.
+const WORD: usize = 8;
+
+// Where window j begins, in a state of this many bytes.
+pub fn window_start(size: usize, j: usize) -> usize
+    requires { ⌜ (areaLength ≤ size) × (j < windowLimit) ⌝ }
+    ensures { λ x. ⌜ (x ≡ windowStart size j) × (x + windowLength ≤ size) ⌝ }
+{
+    size - AREA + j * WINDOW
+}
+
+// Word j of a window.
+pub fn window_word(w: &[u8], j: usize) -> u64
+    requires { ⌜ (length (now w) ≡ windowLength) × (j < widthLimit) ⌝ }
+    ensures { λ x. ⌜ x ≡ getD (decWindow (now (w .entry))) j 0 ⌝ }
+{
+    le::get(w, j * WORD, 8)
+}
+
+// Stores word j of a window.
+pub fn put_window_word(w: &mut [u8], j: usize, v: u64)
+    requires { ⌜ (length (now w) ≡ windowLength) × (j < widthLimit) ⌝ }
+    ensures { λ _. ⌜ now (w .exit) ≡ encWindow (set (decWindow (now (w .entry))) j v) ⌝ }
+{
+    le::put(w, j * WORD, 8, v);
+}
+
+// Drops the first of the first n words of a window: the rest of the n move down, and v comes behind them.
+pub fn push_window_word(w: &mut [u8], n: usize, v: u64)
+    requires { ⌜ (length (now w) ≡ windowLength) × (0 < n) × (n ≤ widthLimit) ⌝ }
+    ensures { λ _. ⌜ now (w .exit) ≡ encWindow (pushedWord n v (decWindow (now (w .entry)))) ⌝ }
+{
+    let rest = (n - 1) * WORD;
+    le::shift_many(w, 0, WORD, rest);
+    le::put(w, rest, 8, v);
 }

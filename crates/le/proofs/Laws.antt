@@ -165,6 +165,13 @@ shift-turns s t at by i w n h l k e =
     let d : at + by + i ≡ at + i + by = omega arith in
     rw (a, b, c, d, e) (shift-block s (at + i) by w (n - i) h (omega arith))
 
+pub shift-two : (w : ℕ) (s t u : List ℕ) (at by : ℕ) → at + by + (w + w) ≤ length s → t ≡ sets s at (part s (at + by) w) → u ≡ sets t (at + w) (part t (at + w + by) w)
+    → u ≡ sets s at (part s (at + by) (w + w))
+shift-two w s t u at by k e f =
+    let q : at + w + by ≡ at + by + w = omega arith in
+    let d : w ≡ w + w - w = omega arith in
+    f ∙ ap₂ (λ (j m : ℕ). sets t (at + w) (part t j m)) q d ∙ ap (λ (x : List ℕ). sets x (at + w) (part x (at + by + w) (w + w - w))) e ∙ shift-block s at by w (w + w) (omega arith) k
+
 pub shift-three : (s t u v : List ℕ) (at by : ℕ) → at + by + 12 ≤ length s → t ≡ sets s at (part s (at + by) 4)
     → u ≡ sets t (at + 4) (part t (at + 4 + by) 4) → v ≡ sets u (at + 8) (part u (at + 8 + by) 4) → v ≡ sets s at (part s (at + by) 12)
 shift-three s t u v at by k e f g =

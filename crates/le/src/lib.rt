@@ -93,6 +93,28 @@ pub fn shift(s: &mut [u8], at: usize, by: usize, n: usize)
     shift_singly(s, at + moved, by, n - moved);
 }
 
+// Moves 24 bytes down.
+fn shift24(s: &mut [u8], at: usize, by: usize)
+    requires { ⌜ at + by + 24 ≤ length (now s) ⌝ }
+    ensures { λ _. ⌜ now (s .exit) ≡ sets (now (s .entry)) at (part (now (s .entry)) (at + by) 24) ⌝ }
+{
+    shift12(s, at, by);
+    shift12(s, at + 12, by);
+}
+
+// The same as shift, for many bytes: 24 at a time, and what is left as shift does.
+pub fn shift_many(s: &mut [u8], at: usize, by: usize, n: usize)
+    requires { ⌜ at + by + n ≤ length (now s) ⌝ }
+    ensures { λ _. ⌜ now (s .exit) ≡ sets (now (s .entry)) at (part (now (s .entry)) (at + by) n) ⌝ }
+{
+    let mut moved = 0;
+    while 24 <= n - moved {
+        shift24(s, at + moved, by);
+        moved += 24;
+    }
+    shift(s, at + moved, by, n - moved);
+}
+
 // Sets n bytes from index at on to 0.
 pub fn clear(s: &mut [u8], at: usize, n: usize)
     requires { ⌜ at + n ≤ length (now s) ⌝ }

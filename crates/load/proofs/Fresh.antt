@@ -6,10 +6,10 @@ use mathlib.Core.List.{List, [], _∷_, map}
 use native.Mathlib.Omega.{arith}
 use lib.Dec.{T}
 use lib.ListN.{length}
-use Rattle.meaning.specs.Plan.{Eqn, input, nil, unit, one, two, last, delay, signal, isInput, Plan}
+use Rattle.meaning.specs.Plan.{Eqn, input, nil, unit, one, two, last, delay, signal, window, isInput, Plan}
 use Rattle.meaning.specs.Cycle.{Acyclic}
-use Rattle.machine.specs.State.{Declared, noKept, fresh, loaded, cellAt, planOf, declaredPlan}
-use Rattle.encoding.specs.Sound.{IsNext, IsKept, SoundCell, Own, Sound}
+use Rattle.machine.specs.State.{Declared, noKept, noPassed, fresh, loaded, cellAt, planOf, declaredPlan}
+use Rattle.encoding.specs.Sound.{IsNext, IsKept, IsPassed, SoundCell, Own, Sound}
 use Rattle.plan.specs.Taken.{StreamKeeps, Each, KeepsRules}
 use Rattle.load.proofs.Taken.{many}
 
@@ -26,6 +26,18 @@ kept-fresh (two g a b) = refl
 kept-fresh (last a b) = record { prev = tt; fresh = λ e. refl; prevB = refl; since = refl; value = refl; prior = refl }
 kept-fresh (delay a b) = record { prev = refl; prevB = refl; since = omega arith; value = tt; prior = tt; unset = λ e. refl; fresh = λ e. refl }
 kept-fresh (signal c a b) = record { prev = tt; prevB = tt; fresh = λ e. refl; freshB = λ e. refl; since = refl; value = refl; prior = refl }
+kept-fresh (window f k a) = refl
+
+passed-fresh : (e : Eqn) → IsPassed e 0 noPassed
+passed-fresh input = refl
+passed-fresh nil = refl
+passed-fresh unit = refl
+passed-fresh (one f a) = refl
+passed-fresh (two g a b) = refl
+passed-fresh (last a b) = refl
+passed-fresh (delay a b) = refl
+passed-fresh (signal c a b) = refl
+passed-fresh (window f k a) = record { few = omega arith; values = tt; fresh = λ e. refl }
 
 no-output : (x o : Bool) → (x && o) ≡ false → T x → o ≡ false
 no-output true o e t = e
@@ -35,12 +47,14 @@ cell-fresh : (n : ℕ) (d : Declared) → StreamKeeps n d → SoundCell n (fresh
 cell-fresh n d k = record {
   arguments = k .arguments;
   value = k .value;
+  width = k .width;
   out = no-output (isInput (d .eqn)) (d .out) (k .output);
   bound = omega arith;
   few = omega arith;
   held = omega arith;
   next = next-fresh (d .out);
   kept = kept-fresh (d .eqn);
+  passed = passed-fresh (d .eqn);
 }
 
 cell-at : (n : ℕ) (ds : List Declared) → Each n ds → (i : ℕ) → i < length ds → SoundCell n (cellAt (map fresh ds) i)
@@ -65,6 +79,7 @@ loaded-sound l ds k = record {
   few = rw (many ds) (k .few);
   each = λ i h. rw (many ds) (at i (subst (λ (n : ℕ). i < n) (many ds) h));
   own = λ i h. own-at i (subst (λ (n : ℕ). i < n) (many ds) h);
+  windows = rw (plan-loaded ds) (k .fewWindows);
   acyclic = subst Acyclic (sym (plan-loaded ds)) (k .clear);
 }
   where

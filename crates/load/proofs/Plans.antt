@@ -36,7 +36,7 @@ no-output true o h = h tt
 no-output false o h = refl
 
 stream-keeps : (n : ℕ) (c : Cell) → SoundCell n c → StreamKeeps n (declares c)
-stream-keeps n c h = record { arguments = h .arguments; value = h .value; output = no-output (isInput (c .eqn)) (c .out) (h .out) }
+stream-keeps n c h = record { arguments = h .arguments; value = h .value; output = no-output (isInput (c .eqn)) (c .out) (h .out); width = h .width }
 
 each-keeps : (n : ℕ) (M : State) → ((i : ℕ) → i < length M → SoundCell n (cellAt M i)) → Each n (declaredIn M)
 each-keeps n [] h = tt
@@ -53,6 +53,7 @@ sound-rules M ok =
     record {
       few = rw m (ok .few);
       each = rw m (each-keeps (length M) M (ok .each));
+      fewWindows = rw (same-plan M) (ok .windows);
       clear = subst Acyclic (sym (same-plan M)) (ok .acyclic);
     }
 

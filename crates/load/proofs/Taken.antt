@@ -1,11 +1,12 @@
 -- A taken text fills the state with the streams that it declares: a sound state, of a plan that keeps the rules.
-use Prim.Native.Nat.{ℕ, zero, suc, _+_, _*_, _-_, _≤_, _%_}
+use Prim.Native.Nat.{ℕ, zero, suc, _+_, _*_, _-_, _<_, _≤_, _%_}
 use mathlib.Core.Path.{_≡_, refl, sym, ap, ap₂, _∙_}
-use mathlib.Core.Bool.{true}
+use mathlib.Core.Bool.{Bool, true, false, cond}
 use mathlib.Core.List.{List, [], _∷_, _++_, map, append-assoc}
 use native.Mathlib.Omega.{arith}
 use native.Mathlib.Nat.{mod-eq-of-lt}
 use lib.Dec.{eqb}
+use lib.IntN.{ℤ}
 use lib.ListN.{length, getD, set, replicate, length-map, length-append, length-replicate, replicate-append-replicate}
 use mir.Syntax.{w64}
 use mir.Val.{ofZ, toZ}
@@ -14,16 +15,19 @@ use Rattle.le.specs.Bytes.{Bytes, le}
 use Rattle.le.specs.Layout.{encRows, decFields, decRows}
 use Rattle.le.proofs.RoundTrip.{All}
 use Rattle.layout.specs.Record.{Raw, Raws, noSlot, noRaw, change, encRaw, decRaw, decSlot, encode, decode}
+use Rattle.layout.specs.Windows.{windowLength, areaLength, encWindow, encWindows}
 use Rattle.layout.proofs.Laws.{RawOk, raw-ok, raw-dec, decode-encode}
-use Rattle.meaning.specs.Plan.{Eqn, input, nil, unit, one, two, last, delay, signal}
+use Rattle.meaning.specs.Plan.{Eqn, input, nil, unit, one, two, last, delay, signal, window}
 use Rattle.meaning.specs.Arguments.{argA, argB}
-use Rattle.machine.specs.State.{State, Declared, noKept, fresh, loaded}
+use Rattle.machine.specs.State.{State, Declared, noKept, noPassed, fresh, loaded}
 use Rattle.operators.specs.Operators.{numberOf, valueOf}
-use Rattle.operators.specs.Limits.{capacity}
-use Rattle.operators.proofs.Sizes.{capacity-fits, capacity-few}
+use Rattle.operators.specs.Limits.{windowLimit, capacity}
+use Rattle.operators.specs.Windows.{isWindowEqn}
+use Rattle.operators.proofs.Sizes.{capacity-fits, capacity-few, capacity-area}
 use Rattle.operators.proofs.Laws.{number-back}
 use Rattle.operators.proofs.Tests.{left, right}
-use Rattle.encoding.specs.View.{KeptNums, noNums, keptNums, flag, padTo, rawOf, ofCell, rawsOf, bytesOf}
+use Rattle.encoding.specs.View.{KeptNums, noNums, keptNums, flag, padTo, rawOf, ofCell, windowsOf, wordsOf, behind, rawsOf, bytesOf}
+use Rattle.roundtrip.proofs.Windows.{none-window, none-windows}
 use Rattle.text.specs.declared.Fields.{Fields}
 use Rattle.text.specs.declared.Lines.{Lines}
 use Rattle.text.specs.declared.Lines.the-variants as Lines
@@ -63,7 +67,7 @@ stored-plain : (f : Fields) → stored f blank ≡ plain (f .op) (f .a % 256) (f
 unfolding stored decRaw decFields decRows decSlot le
 stored-plain f = refl
 
-kept-fresh : (e : Eqn) → keptNums e noKept ≡ noNums
+kept-fresh : (e : Eqn) → keptNums e noKept noPassed ≡ noNums
 kept-fresh input = refl
 kept-fresh nil = refl
 kept-fresh unit = refl
@@ -72,6 +76,7 @@ kept-fresh (two g a b) = refl
 kept-fresh (last a b) = refl
 kept-fresh (delay a b) = refl
 kept-fresh (signal c a b) = refl
+kept-fresh (window f k a) = refl
 
 fresh-plain : (d : Declared) → ofCell (fresh d) ≡ plain (numberOf (d .eqn)) (argA (d .eqn)) (argB (d .eqn)) (flag (d .out)) (ofZ w64 (valueOf (d .eqn)))
 unfolding ofCell padTo
@@ -159,10 +164,33 @@ pub many : (ds : List Declared) → length (loaded ds) ≡ length ds
 unfolding loaded
 many ds = length-map ds fresh
 
+-- a fresh state's windows keep nothing, so behind its records every byte is 0
+windows-fresh : (m : ℕ) (ds : List Declared) → encRows encWindow [] m (map wordsOf (windowsOf (map fresh ds))) ≡ replicate (m * windowLength) 0
+unfolding encRows
+windows-fresh m [] = none-windows m
+windows-fresh m (d ∷ ds) = go (isWindowEqn (d .eqn)) m (λ j. windows-fresh j ds)
+  where
+    rest : List (List ℤ)
+    rest = windowsOf (map fresh ds)
+
+    go : (w : Bool) (m : ℕ) → ((j : ℕ) → encRows encWindow [] j (map wordsOf rest) ≡ replicate (j * windowLength) 0) → encRows encWindow [] m (map wordsOf (cond w ([] ∷ rest) rest)) ≡ replicate (m * windowLength) 0
+    go false m ih = ih m
+    go true zero ih = refl
+    go true (suc m) ih =
+        let q : windowLength + m * windowLength ≡ suc m * windowLength = omega arith in
+        ap₂ _++_ none-window (ih m) ∙ replicate-append-replicate {A = ℕ} windowLength (m * windowLength) 0 ∙ ap (λ (j : ℕ). replicate {A = ℕ} j 0) q
+
+behind-fresh : (size : ℕ) (ds : List Declared) → length (loaded ds) * 256 + areaLength ≤ size → behind size (loaded ds) ≡ replicate (size - length (loaded ds) * 256) 0
+unfolding behind encWindows loaded
+behind-fresh size ds h =
+    let k = size - areaLength - length (map fresh ds) * 256 in
+    let q : k + areaLength ≡ size - length (map fresh ds) * 256 = omega arith in
+    ap (λ (l : List ℕ). replicate k 0 ++ l) (windows-fresh windowLimit ds) ∙ replicate-append-replicate {A = ℕ} k areaLength 0 ∙ ap (λ (j : ℕ). replicate {A = ℕ} j 0) q
+
 -- Load "fills a fresh state, all bounds 0": the bytes of the fresh state of the streams declared
-pub taken-filled : (text s : List ℕ) → number (capacity (length s)) text ≡ 0 → filled (capacity (length s)) text s ≡ bytesOf (length s) (loaded (declared (capacity (length s)) text))
+pub taken-filled : (text s : List ℕ) → 0 < capacity (length s) → number (capacity (length s)) text ≡ 0 → filled (capacity (length s)) text s ≡ bytesOf (length s) (loaded (declared (capacity (length s)) text))
 unfolding filled bytesOf rawsOf
-taken-filled text s e =
+taken-filled text s l e =
     let size = length s in
     let most = capacity size in
     let p = taken-parts most text e in
@@ -171,10 +199,12 @@ taken-filled text s e =
     let t = taken-stored most (capacity-few size) text p in
     let h = head-fits most text n (p .start) (p .opens) in
     let z = replicate {A = ℕ} (size - n * 256) 0 in
-    let M : State = loaded (map declaredFrom fs) in
-    let m : length M ≡ n = many (map declaredFrom fs) ∙ length-map fs declaredFrom ∙ t .1 in
+    let ds = map declaredFrom fs in
+    let M : State = loaded ds in
+    let m : length M ≡ n = many ds ∙ length-map fs declaredFrom ∙ t .1 in
     ap (λ (x : Head). filledHead text x s) (p .opens)
     ∙ ap (λ (st : Raws). encode n (written text (p .start) n 0 st)) (cleared size n (omega (arith, h, capacity-fits size)))
     ∙ ap (encode n) (pass-rows text z n (p .start) 0 (length text) fs [] refl (p .lists) ∙ ap (λ (l : List Raw). rows text z l) (all-fresh n fs (p .kept) (t .0)))
     ∙ ap (λ (j : ℕ). encode j (record { rows = map ofCell M; spare = replicate (size - j * 256) 0 })) (sym m)
+    ∙ ap (λ (b : List ℕ). encode (length M) (record { rows = map ofCell M; spare = b })) (sym (behind-fresh size ds (omega (arith, h, m, capacity-area size l))))
     ∙ ap (λ (ds : List Declared). bytesOf size (loaded ds)) (sym (parts-declared most text p))

@@ -9,21 +9,21 @@ use lib.IntN.{ℤ, pos, negsuc}
 use Rattle.meaning.specs.Plan.{sub, input, delay, signal}
 use Rattle.meaning.specs.Events.{Event, ev}
 use Rattle.meaning.specs.Table.{latest, delay-at, signal-at}
-use Rattle.machine.specs.State.{Kept, Cell, State, noKept, cellAt}
+use Rattle.machine.specs.State.{Kept, Cell, State, noKept, noPassed, cellAt}
 use Rattle.machine.specs.Calls.{Call, reading, progress, moving}
 use Rattle.machine.proofs.Worked.{Result, said, results, bounds, afterAll}
 
 abbrev inputTo : ℕ → List Event → Cell
-inputTo y es = record { eqn = input; out = false; bound = y; held = es; next = 0; kept = noKept }
+inputTo y es = record { eqn = input; out = false; bound = y; held = es; next = 0; kept = noKept; passed = noPassed }
 
 abbrev delayTo : ℕ → List Event → Kept → Cell
-delayTo y es k = record { eqn = delay 0 1; out = true; bound = y; held = es; next = 0; kept = k }
+delayTo y es k = record { eqn = delay 0 1; out = true; bound = y; held = es; next = 0; kept = k; passed = noPassed }
 
 abbrev kept : ℕ → (value prior : Option ℤ) → Kept
 kept z v p = record { prev = none; prevB = none; since = z; value = v; prior = p }
 
 abbrev signalTo : ℕ → Kept → Cell
-signalTo y k = record { eqn = signal sub 0 1; out = true; bound = y; held = []; next = 0; kept = k }
+signalTo y k = record { eqn = signal sub 0 1; out = true; bound = y; held = []; next = 0; kept = k; passed = noPassed }
 
 abbrev signalKept : (a b : Option ℤ) → Kept
 signalKept a b = record { prev = a; prevB = b; since = 0; value = none; prior = none }

@@ -10,7 +10,7 @@ use Rattle.meaning.specs.Plan.{isInput}
 use Rattle.meaning.specs.Arguments.{reads, argA, argB}
 use Rattle.meaning.specs.Events.{Event}
 use Rattle.machine.specs.State.{Cell, State, cellAt, withKept}
-use Rattle.machine.specs.Step.{advance, absorb, absorbed, write, told, tell, raise}
+use Rattle.machine.specs.Step.{passes, advance, absorb, absorbed, write, told, tell, raise}
 use Rattle.machine.proofs.Cells.{set-cases, told-at, beyond}
 use Rattle.machine.proofs.Release.{Frame, looser-frame, releases-looser}
 
@@ -49,7 +49,7 @@ tell-frame s (e ∷ es) M = record {
 
 module _ (s y : ℕ) (new : List Event) (M : State) (there : s < length M) where
   abbrev pub up : Cell
-  up = advance y new (cellAt M s)
+  up = advance y new (passes s y M) (cellAt M s)
 
   -- the step, but for held events and kept data, is the write of the bound
   pub raise-frame : Frame (set M s up) (raise s y new M)

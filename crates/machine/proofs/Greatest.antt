@@ -8,7 +8,7 @@ use Prim.Native.Nat.{ℕ, suc, pred, _+_, _-_, _≤_, _<_, min, max}
 use native.Mathlib.Omega.{arith}
 use native.Mathlib.Decide.{decLt, decLe}
 use lib.Dec.{T, ltb, lt→ltb, ltb→lt, nltb→le}
-use Rattle.meaning.specs.Plan.{Eqn, input, nil, unit, one, two, last, delay, signal}
+use Rattle.meaning.specs.Plan.{Eqn, input, nil, unit, one, two, last, delay, signal, window}
 use Rattle.meaning.specs.Events.{has, horizon}
 use Rattle.meaning.proofs.Tests.{T-and, T-and-l, T-and-r}
 use Rattle.machine.specs.State.{Cell}
@@ -39,6 +39,7 @@ own-kept-none (two g x z) o q = tt
 own-kept-none (last x z) o q = tt
 own-kept-none (delay x z) o q = λ p h. absurd (rw q at h)
 own-kept-none (signal c x z) o q = tt
+own-kept-none (window f n x) o q = tt
 
 -- one past a set point below t is counted
 point-counts : (o b : Cell) → ((p : ℕ) → T (has (view o p)) → p < o .kept .since) → (p t : ℕ) → HeldPoint o b p → p < t → p < point o b t
@@ -69,6 +70,7 @@ reach-fixed unit o a b own h = search-within (λ t. false) (o .bound) horizon h
 reach-fixed (one f x) o a b own h = search-within (λ t. false) (o .bound) (a .bound) h
 reach-fixed (two g x z) o a b own h = let k = search-within (λ t. false) (o .bound) (min (a .bound) (b .bound)) h in (omega arith, omega arith)
 reach-fixed (signal c x z) o a b own h = let k = search-within (λ t. false) (o .bound) (min (a .bound) (b .bound)) h in (omega arith, omega arith)
+reach-fixed (window f n x) o a b own h = search-within (λ t. false) (o .bound) (a .bound) h
 reach-fixed (last x z) o a b own h = (
   search-within (stops (last x z) o a b) (o .bound) (b .bound) h,
   λ t i l m. least-min (stops (last x z) o a b) (o .bound) (b .bound - o .bound) t l (T-and (has (view b t)) (ltb (a .bound) t) i (lt→ltb (a .bound) t m)),
@@ -95,6 +97,7 @@ reach-greatest unit o a b s k h = search-le (λ t. false) (o .bound) horizon k h
 reach-greatest (one f x) o a b s k h = search-le (λ t. false) (o .bound) (a .bound) k h (λ t l i. absurd i)
 reach-greatest (two g x z) o a b s k h = let u = h .0 in let v = h .1 in search-le (λ t. false) (o .bound) (min (a .bound) (b .bound)) k (omega arith) (λ t l i. absurd i)
 reach-greatest (signal c x z) o a b s k h = let u = h .0 in let v = h .1 in search-le (λ t. false) (o .bound) (min (a .bound) (b .bound)) k (omega arith) (λ t l i. absurd i)
+reach-greatest (window f n x) o a b s k h = search-le (λ t. false) (o .bound) (a .bound) k h (λ t l i. absurd i)
 reach-greatest (last x z) o a b s k h =
     search-le (stops (last x z) o a b) (o .bound) (b .bound) k (h .0) (λ t l i.
     h .1 t (T-and-l (has (view b t)) (ltb (a .bound) t) i) l (ltb→lt (a .bound) t (T-and-r (has (view b t)) (ltb (a .bound) t) i)))

@@ -10,7 +10,7 @@ use Rattle.meaning.specs.Arguments.{reads}
 use Rattle.meaning.specs.Events.{Event, ev, horizon}
 use Rattle.meaning.proofs.Tests.{Is, yes!, no!, look}
 use Rattle.machine.specs.State.{State, cellAt, room, withBound, withNext}
-use Rattle.machine.specs.Step.{advance, absorbed, write, told, tell, release, releases, raise, newBound, ahead, canMove, comesIn, move}
+use Rattle.machine.specs.Step.{passes, advance, absorbed, write, told, tell, release, releases, raise, newBound, ahead, canMove, comesIn, move}
 use Rattle.machine.specs.Calls.{Call, reading, progress, moving, running, collecting, Outcome, done, unless, arrivals, noInput, offerReading, offerProgress, noEquation, moveOne, lowest, run, oldest, handOut, collect, call}
 use Rattle.machine.proofs.Outcomes.{run-more, run-ends}
 
@@ -30,7 +30,7 @@ tell-length i (x ∷ new) M = length-map M (told i (x .stamp) (x .value))
 
 write-length : (i y : ℕ) (new : List Event) (M : State) → length (write i y new M) ≡ length M
 unfolding write absorbed
-write-length i y new M = length-set (set M i (advance y new (cellAt M i))) i _ ∙ length-set M i (advance y new (cellAt M i))
+write-length i y new M = length-set (set M i (advance y new (passes i y M) (cellAt M i))) i _ ∙ length-set M i (advance y new (passes i y M) (cellAt M i))
 
 pub raise-length : (i y : ℕ) (new : List Event) (M : State) → length (raise i y new M) ≡ length M
 unfolding raise

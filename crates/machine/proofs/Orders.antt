@@ -7,7 +7,7 @@ use lib.IntN.{ℤ, pos}
 use Rattle.meaning.specs.Plan.{time, neg, Eqn, input, one}
 use Rattle.meaning.specs.Events.{Event, ev}
 use Rattle.meaning.specs.Table.{one-at}
-use Rattle.machine.specs.State.{Cell, State, noKept}
+use Rattle.machine.specs.State.{Cell, State, noKept, noPassed}
 use Rattle.machine.specs.Calls.{Call, reading, progress, moving, running, collecting, call}
 
 -- ---- states, written out
@@ -17,7 +17,7 @@ abbrev pub at : List ℕ → List Event
 at ts = map {A = ℕ} (λ t. ev t (pos (t + 1))) ts
 
 abbrev pub cell : Eqn → Bool → (bound next : ℕ) → List ℕ → Cell
-cell e o y n ts = record { eqn = e; out = o; bound = y; held = at ts; next = n; kept = noKept }
+cell e o y n ts = record { eqn = e; out = o; bound = y; held = at ts; next = n; kept = noKept; passed = noPassed }
 
 abbrev pub fifteen : List ℕ
 fifteen = 1 ∷ 2 ∷ 3 ∷ 4 ∷ 5 ∷ 6 ∷ 7 ∷ 8 ∷ 9 ∷ 10 ∷ 11 ∷ 12 ∷ 13 ∷ 14 ∷ 15 ∷ []

@@ -9,7 +9,7 @@ use native.Mathlib.Decide.{decLt}
 use lib.Dec.{T, eqb, eqb→eq, eqb-refl}
 use lib.ListN.{length, set, length-set}
 use lib.Seq.{set-out, getD-set-same, getD-set-other}
-use Rattle.meaning.specs.Plan.{Eqn, input, nil, unit, one, two, last, delay, signal}
+use Rattle.meaning.specs.Plan.{Eqn, input, nil, unit, one, two, last, delay, signal, window}
 use Rattle.meaning.specs.Arguments.{reads, Each}
 use Rattle.meaning.specs.Events.{Event, horizon}
 use Rattle.meaning.proofs.Tests.{Is, yes!, no!, look, true-is, T-or, T-or-l, T-or-r}
@@ -32,6 +32,7 @@ each-read (two g a b) = pair-read a b
 each-read (last a b) = pair-read a b
 each-read (delay a b) = pair-read a b
 each-read (signal c a b) = pair-read a b
+each-read (window f k a) = (eqb-refl a, tt)
 
 -- the number is one of the list
 abbrev pub among : ℕ → List ℕ → Bool
@@ -58,6 +59,7 @@ read-among s (two g a b) h = pair-among s a b h
 read-among s (last a b) h = pair-among s a b h
 read-among s (delay a b) h = pair-among s a b h
 read-among s (signal c a b) h = pair-among s a b h
+read-among s (window f k a) h = T-or-l (eqb s a) false (flip a s h)
 
 -- ---- the least reader
 

@@ -13,7 +13,7 @@ use Rattle.meaning.specs.Events.{Event, ev, horizon}
 use Rattle.meaning.proofs.Tests.{Is, yes!, no!, look, not-twice}
 use Rattle.machine.specs.State.{Cell, State, cellAt, room, withKept, withBound, withNext}
 use Rattle.machine.specs.Reach.{Next, event, silent}
-use Rattle.machine.specs.Step.{advance, absorb, absorbed, write, told, tell, dropBelow, leastWaiting, releases, raise, ahead, newBound, added, canMove, comesIn, move}
+use Rattle.machine.specs.Step.{passes, advance, absorb, absorbed, write, told, tell, dropBelow, leastWaiting, releases, raise, ahead, newBound, added, canMove, comesIn, move}
 use Rattle.machine.specs.Calls.{Call, reading, progress, moving, running, collecting, noInput, noEquation, offerReading, offerProgress, moveOne, lowest, run, oldest, handOut, collect, call}
 use Rattle.machine.proofs.Cells.{set-cases, told-at}
 use Rattle.machine.proofs.Rising.{drop-shorter}
@@ -36,17 +36,17 @@ tell-held s (e ∷ es) M i = ap (λ c. c .held) (told-at s (e .stamp) (e .value)
 write-small : (s y : ℕ) (new : List Event) (M : State) → s < length M → Small M → length (cellAt M s .held) + length new ≤ room → Small (write s y new M)
 unfolding write absorbed
 write-small s y new M l h k =
-    set-cases (λ i c. length (c .held) ≤ room) M₁ s (withKept (absorb (o .eqn) o (cellAt M₁ (argA (o .eqn))) (cellAt M₁ (argB (o .eqn)))) o) (let e = length-set M s (advance y new (cellAt M s)) in omega arith)
+    set-cases (λ i c. length (c .held) ≤ room) M₁ s (withKept (absorb (o .eqn) o (cellAt M₁ (argA (o .eqn))) (cellAt M₁ (argB (o .eqn)))) o) (let e = length-set M s (advance y new (passes s y M) (cellAt M s)) in omega arith)
     (λ i n. up i) (up s)
   where
     M₁ : State
-    M₁ = set M s (advance y new (cellAt M s))
+    M₁ = set M s (advance y new (passes s y M) (cellAt M s))
 
     o : Cell
     o = cellAt M₁ s
 
     up : (i : ℕ) → length (cellAt M₁ i .held) ≤ room
-    up = set-cases (λ i c. length (c .held) ≤ room) M s (advance y new (cellAt M s)) l (λ i n. h i) (rw length-append k)
+    up = set-cases (λ i c. length (c .held) ≤ room) M s (advance y new (passes s y M) (cellAt M s)) l (λ i n. h i) (rw length-append k)
 
 releases-small : (ss : List ℕ) (M : State) → Small M → Small (releases ss M)
 releases-small ss M h i =

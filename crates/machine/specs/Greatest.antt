@@ -3,7 +3,7 @@ use Prim.Native.Nat.{ℕ, suc, _+_, _≤_, _<_}
 use mathlib.Core.Path.{_≡_}
 use mathlib.Core.Logic.{_⊎_}
 use lib.Dec.{T}
-use Rattle.meaning.specs.Plan.{Eqn, input, nil, unit, one, two, last, delay, signal}
+use Rattle.meaning.specs.Plan.{Eqn, input, nil, unit, one, two, last, delay, signal, window}
 use Rattle.meaning.specs.Events.{has, horizon}
 use Rattle.machine.specs.State.{Cell}
 use Rattle.machine.specs.Reach.{view}
@@ -25,6 +25,7 @@ HeldFixes (two g _ _) o a b k = (k ≤ a .bound) × (k ≤ b .bound)
 HeldFixes (last _ _) o a b k = (k ≤ b .bound) × ((t : ℕ) → T (has (view b t)) → o .bound ≤ t → a .bound < t → k ≤ t)
 HeldFixes (delay _ _) o a b k = (k ≤ suc (b .bound)) × (k ≤ horizon) × ((p : ℕ) → HeldPoint o b p → p + 1 < k → p < a .bound)
 HeldFixes (signal c _ _) o a b k = (k ≤ a .bound) × (k ≤ b .bound)
+HeldFixes (window f n _) o a b k = k ≤ a .bound
 
 -- a delay's own held events lie below one past its latest kept set point: so in every state that is not refused 15
 abbrev pub OwnKept : Eqn → Cell → Type 0
@@ -36,3 +37,4 @@ OwnKept (two g _ _) o = Unit {0}
 OwnKept (last _ _) o = Unit {0}
 OwnKept (delay _ _) o = (p : ℕ) → T (has (view o p)) → p < o .kept .since
 OwnKept (signal c _ _) o = Unit {0}
+OwnKept (window f n _) o = Unit {0}

@@ -3,11 +3,12 @@
 use Prim.Native.Nat.{ℕ, zero, suc, pred, _-_, min, max}
 use mathlib.Core.Bool.{Bool, true, false, cond, _&&_}
 use mathlib.Core.Option.{Option, none, some}
+use mathlib.Core.List.{List, _++_}
 use lib.Dec.{ltb, eqb}
 use lib.IntN.{ℤ}
-use Rattle.meaning.specs.Plan.{Eqn, input, nil, unit, one, two, last, delay, signal}
-use Rattle.meaning.specs.Events.{Stream, found, has, orElse, horizon}
-use Rattle.meaning.specs.Table.{one-at, two-at, unit-at, latest, last-at, signal-at, is, delay-at}
+use Rattle.meaning.specs.Plan.{Eqn, input, nil, unit, one, two, last, delay, signal, window}
+use Rattle.meaning.specs.Events.{Stream, found, events, has, orElse, horizon}
+use Rattle.meaning.specs.Table.{one-at, two-at, unit-at, latest, last-at, signal-at, latestOf, values, width, window-at, is, delay-at}
 use Rattle.machine.specs.State.{Cell}
 
 -- the held events, as a stream
@@ -35,6 +36,7 @@ limit (two g _ _) o a b = min (a .bound) (b .bound)
 limit (last _ _) o a b = b .bound
 limit (delay _ _) o a b = min (suc (b .bound)) horizon
 limit (signal c _ _) o a b = min (a .bound) (b .bound)
+limit (window f k _) o a b = a .bound
 
 -- one past a delay's latest set point below t, if the delay itself has no event from its bound on. Its own held events
 -- are counted in `since`: `point-own` in crates/encoding/proofs/Points.antt.
@@ -54,6 +56,7 @@ stops (two g _ _) o a b t = false
 stops (last _ _) o a b t = has (view b t) && ltb (a .bound) t
 stops (delay _ _) o a b t = ltb (a .bound) (point o b t)
 stops (signal c _ _) o a b t = false
+stops (window f k _) o a b t = false
 
 -- the reach, from the bound y on: "a reach below y counts as y"
 unfoldable pub reach : Eqn → (o a b : Cell) → ℕ
@@ -72,6 +75,14 @@ due o a z t = ltb 0 z && is (t - pred z) (valueAt o a z)
 abbrev pub heldLatest : Cell → ℕ → Option ℤ → Option ℤ
 heldLatest x t kept = orElse (latest (view x) t) kept
 
+-- a stream from stamp y on
+abbrev pub from : ℕ → Stream → Stream
+from y f p = cond (ltb p y) none (f p)
+
+-- the latest k of the values w and of those that f has from y on and below x
+abbrev pub slid : (k y x : ℕ) → List ℤ → Stream → List ℤ
+slid k y x w f = latestOf k (w ++ values (events (from y f) x))
+
 -- what the equation has at t, from its bound on and below its reach, if it has no event between
 abbrev pub gives : Eqn → (o a b : Cell) → ℕ → Option ℤ
 gives input o a b t = none
@@ -82,6 +93,7 @@ gives (two g _ _) o a b t = two-at g (view a t) (view b t)
 gives (last _ _) o a b t = last-at (view b t) (heldLatest a t (o .kept .prev))
 gives (delay _ _) o a b t = delay-at (due o a (point o b t) t)
 gives (signal c _ _) o a b t = signal-at c (view a t) (view b t) (heldLatest a (suc t) (o .kept .prev)) (heldLatest b (suc t) (o .kept .prevB))
+gives (window f k _) o a b t = window-at f (view a t) (slid (width k) (o .bound) (suc t) (o .passed .window) (view a))
 
 -- the stamp of the first event at or above the bound and below the reach, or the reach
 unfoldable pub first : Eqn → (o a b : Cell) → ℕ

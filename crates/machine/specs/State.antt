@@ -25,6 +25,11 @@ pub record Kept : Type 0 where
   -- of a delay: a's event just below the bound, if known
   pub prior : Option ℤ
 
+-- What a window keeps of the stamps that its own moves have passed
+pub record Passed : Type 0 where
+  -- the values of a's latest events below the bound, k at most, oldest first
+  pub window : List ℤ
+
 -- A stream of the state
 pub record Cell : Type 0 where
   pub eqn : Eqn
@@ -37,12 +42,16 @@ pub record Cell : Type 0 where
   -- of an output: one past the last collected stamp, 0 before the first
   pub next : ℕ
   pub kept : Kept
+  pub passed : Passed
 
 abbrev pub State : Type 0
 State = List Cell
 
 abbrev pub noKept : Kept
 noKept = record { prev = none; prevB = none; since = 0; value = none; prior = none }
+
+abbrev pub noPassed : Passed
+noPassed = record { window = [] }
 
 -- what is kept with another field
 abbrev pub withPrev : Option ℤ → Kept → Kept
@@ -70,7 +79,7 @@ declaredPlan ds = map (λ d. d .eqn) ds
 
 -- a stream as load leaves it: "a fresh state, all bounds 0"
 abbrev pub fresh : Declared → Cell
-fresh d = record { eqn = d .eqn; out = d .out; bound = 0; held = []; next = 0; kept = noKept }
+fresh d = record { eqn = d .eqn; out = d .out; bound = 0; held = []; next = 0; kept = noKept; passed = noPassed }
 
 unfoldable pub loaded : List Declared → State
 loaded ds = map fresh ds
@@ -85,15 +94,18 @@ cellAt M s = getD M s absent
 abbrev pub planOf : State → Plan
 planOf M = map (λ c. c .eqn) M
 
--- the cell with another bound, other held events, another mark of collection, other kept data
+-- the cell with another bound, other held events, another mark of collection, other kept data, another window
 abbrev pub withBound : ℕ → Cell → Cell
-withBound y c = record { eqn = c .eqn; out = c .out; bound = y; held = c .held; next = c .next; kept = c .kept }
+withBound y c = record { eqn = c .eqn; out = c .out; bound = y; held = c .held; next = c .next; kept = c .kept; passed = c .passed }
 
 abbrev pub withHeld : List Event → Cell → Cell
-withHeld es c = record { eqn = c .eqn; out = c .out; bound = c .bound; held = es; next = c .next; kept = c .kept }
+withHeld es c = record { eqn = c .eqn; out = c .out; bound = c .bound; held = es; next = c .next; kept = c .kept; passed = c .passed }
 
 abbrev pub withNext : ℕ → Cell → Cell
-withNext n c = record { eqn = c .eqn; out = c .out; bound = c .bound; held = c .held; next = n; kept = c .kept }
+withNext n c = record { eqn = c .eqn; out = c .out; bound = c .bound; held = c .held; next = n; kept = c .kept; passed = c .passed }
 
 abbrev pub withKept : Kept → Cell → Cell
-withKept k c = record { eqn = c .eqn; out = c .out; bound = c .bound; held = c .held; next = c .next; kept = k }
+withKept k c = record { eqn = c .eqn; out = c .out; bound = c .bound; held = c .held; next = c .next; kept = k; passed = c .passed }
+
+abbrev pub withPassed : Passed → Cell → Cell
+withPassed w c = record { eqn = c .eqn; out = c .out; bound = c .bound; held = c .held; next = c .next; kept = c .kept; passed = w }

@@ -6,16 +6,33 @@ use mathlib.Core.List.{List, [], _∷_, _++_, map}
 use lib.Dec.{leb, ltb, eqb}
 use lib.ListN.{length, set}
 use lib.IntN.{ℤ}
-use Rattle.meaning.specs.Plan.{Eqn, input, nil, unit, one, two, last, delay, signal, isInput}
+use Rattle.meaning.specs.Plan.{Eqn, input, nil, unit, one, two, last, delay, signal, window, isInput}
 use Rattle.meaning.specs.Arguments.{reads, argA, argB}
 use Rattle.meaning.specs.Events.{Event, ev, horizon}
-use Rattle.machine.specs.State.{Kept, Cell, State, cellAt, room, withBound, withHeld, withKept, withPrev, withPrevB, withSince, withValue, withPrior}
-use Rattle.machine.specs.Reach.{view, pastLatest, valueAt, heldLatest, Next, event, silent, decide}
+use Rattle.meaning.specs.Table.{width}
+use Rattle.machine.specs.State.{Kept, Passed, Cell, State, cellAt, room, withBound, withHeld, withKept, withPassed, withPrev, withPrevB, withSince, withValue, withPrior}
+use Rattle.machine.specs.Reach.{view, pastLatest, valueAt, heldLatest, slid, Next, event, silent, decide}
 
 -- ---- Write: the bound goes to y, with the new events below it; own kept data follows
 
-abbrev pub advance : ℕ → List Event → Cell → Cell
-advance y new c = withHeld (c .held ++ new) (withBound y c)
+-- what a window keeps once its bound goes on to y: a's events from its bound on and below y come to what it kept. This
+-- looks at the cell as it was, with the bound before the step.
+abbrev pub pass : Eqn → ℕ → (o a : Cell) → Passed
+pass input y o a = o .passed
+pass nil y o a = o .passed
+pass unit y o a = o .passed
+pass (one f _) y o a = o .passed
+pass (two g _ _) y o a = o .passed
+pass (last _ _) y o a = o .passed
+pass (delay _ _) y o a = o .passed
+pass (signal c _ _) y o a = o .passed
+pass (window f k _) y o a = record { window = slid (width k) (o .bound) y (o .passed .window) (view a) }
+
+abbrev pub passes : ℕ → ℕ → State → Passed
+passes s y M = let o = cellAt M s in pass (o .eqn) y o (cellAt M (argA (o .eqn)))
+
+abbrev pub advance : ℕ → List Event → Passed → Cell → Cell
+advance y new w c = withPassed w (withHeld (c .held ++ new) (withBound y c))
 
 -- one past the latest known set point below the bound
 abbrev pub later : (o b : Cell) → ℕ
@@ -34,6 +51,7 @@ absorb (delay _ _) o a b =
     (withValue (cond (eqb (later o b) 0) none (valueAt o a (later o b)))
     (withPrior (view a (pred (o .bound))) (o .kept)))
 absorb (signal c _ _) o a b = withPrev (heldLatest a (o .bound) (o .kept .prev)) (withPrevB (heldLatest b (o .bound) (o .kept .prevB)) (o .kept))
+absorb (window f k _) o a b = o .kept
 
 unfoldable pub absorbed : ℕ → State → State
 absorbed s M =
@@ -42,7 +60,7 @@ absorbed s M =
 
 unfoldable pub write : ℕ → ℕ → List Event → State → State
 unfolding absorbed
-write s y new M = absorbed s (set M s (advance y new (cellAt M s)))
+write s y new M = absorbed s (set M s (advance y new (passes s y M) (cellAt M s)))
 
 -- ---- Tell: every reader of s whose bound is above the new event's stamp takes what it needs of it
 
@@ -70,8 +88,8 @@ priorTold isA y t v k = withPrior (cond (isA && eqb y (t + 1)) (some v) (k .prio
 abbrev pub sinceTold : Bool → (y t : ℕ) → Kept → Kept
 sinceTold isB y t k = cond (isB && leb (k .since) t) (withSince (t + 1) (withValue (cond (eqb y (t + 1)) (k .prior) none) k)) k
 
--- what an equation with bound y keeps when the event (t, v) of stream s comes in below its bound. A signal form is never told:
--- its bound is never above an argument's, so in a run no event of an argument comes in below it (`Ahead` in
+-- what an equation with bound y keeps when the event (t, v) of stream s comes in below its bound. A signal form and a window are never
+-- told: their bounds are never above an argument's, so in a run no event of an argument comes in below them (`Ahead` in
 -- crates/runs/proofs/Tracks.antt).
 abbrev pub keptTold : Eqn → (s y t : ℕ) → ℤ → Kept → Kept
 keptTold input s y t v k = k
@@ -82,6 +100,7 @@ keptTold (two g a b) s y t v k = k
 keptTold (last a b) s y t v k = withPrev (cond (eqb a s) (some v) (k .prev)) k
 keptTold (delay a b) s y t v k = sinceTold (eqb b s) y t (priorTold (eqb a s) y t v (valueTold (eqb a s) t v k))
 keptTold (signal c a b) s y t v k = k
+keptTold (window f n a) s y t v k = k
 
 unfoldable pub told : (s t : ℕ) → ℤ → Cell → Cell
 told s t v c = withKept (cond (ltb t (c .bound)) (keptTold (c .eqn) s (c .bound) t v (c .kept)) (c .kept)) c

@@ -5,7 +5,7 @@ use Prim.Native.Nat.{ℕ, zero, suc, _<_}
 use native.Mathlib.Nat.{lt-suc-self}
 use native.Mathlib.Omega.{arith}
 use lib.Dec.{T, ltb}
-use Rattle.meaning.specs.Plan.{Eqn, input, nil, unit, one, two, last, delay, signal, isInput}
+use Rattle.meaning.specs.Plan.{Eqn, input, nil, unit, one, two, last, delay, signal, window, isInput}
 use Rattle.meaning.specs.Arguments.{undelayed, Each}
 use Rattle.meaning.specs.Events.{Stream, Streams, has, events}
 use Rattle.meaning.specs.Table.{latest, any-below, fires, delay-at, at}
@@ -23,6 +23,11 @@ pub any-cong : (t : ℕ) (f g : ℕ → Bool) → ((p : ℕ) → p < t → f p �
 unfolding any-below
 any-cong zero f g h = refl
 any-cong (suc t) f g h = rw (h t (lt-suc-self t), any-cong t f g (λ p l. h p (omega arith)))
+
+-- streams that agree below t have the same events there
+pub events-cong : (f g : Stream) (t : ℕ) → SameBelow t f g → events f t ≡ events g t
+events-cong f g zero h = refl
+events-cong f g (suc t) h = rw (h t (lt-suc-self t), events-cong f g t (λ p l. h p (omega arith)))
 
 pub fires-cong : (a b d a′ b′ d′ : Stream) (t : ℕ) → SameBelow t a a′ → SameBelow t b b′ → SameBelow t d d′
     → fires a b d t ≡ fires a′ b′ d′ t
@@ -44,8 +49,4 @@ at-cong (delay a b) rd rd′ S S′ s t r now past =
     ap delay-at (fires-cong (S a) (S b) (S s) (S′ a) (S′ b) (S′ s) t (past a) (past b) (past s))
 at-cong (signal c a b) rd rd′ S S′ s t r now past =
     rw (now .0, now .1 .0, latest-cong (S a) (S′ a) t (past a), latest-cong (S b) (S′ b) t (past b))
-
--- streams that agree below t have the same events there
-pub events-cong : (f g : Stream) (t : ℕ) → SameBelow t f g → events f t ≡ events g t
-events-cong f g zero h = refl
-events-cong f g (suc t) h = rw (h t (lt-suc-self t), events-cong f g t (λ p l. h p (omega arith)))
+at-cong (window f k a) rd rd′ S S′ s t r now past = rw (now .0, events-cong (S a) (S′ a) t (past a))

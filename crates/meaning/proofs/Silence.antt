@@ -9,10 +9,10 @@ use native.Mathlib.Decide.{decLt}
 use lib.Dec.{T, T-not, not-T, ltb, ltb→lt, eqb→eq}
 use lib.IntN.{ℤ, pos, negsuc}
 use borrow.Author.Tests.{lt-ltb, le-ltb}
-use Rattle.meaning.specs.Plan.{Eqn, input, nil, unit, one, two, calc, keep, merge, last, delay, signal, Plan, eqnAt}
+use Rattle.meaning.specs.Plan.{Eqn, input, nil, unit, one, two, calc, keep, merge, last, delay, signal, window, Plan, eqnAt}
 use Rattle.meaning.specs.Arguments.{undelayed}
 use Rattle.meaning.specs.Events.{Stream, Streams, has, events}
-use Rattle.meaning.specs.Table.{one-at, two-at, unit-at, last-at, any-below, is, fires, delay-at, signal-at, at, Solves}
+use Rattle.meaning.specs.Table.{one-at, two-at, unit-at, last-at, any-below, is, fires, delay-at, signal-at, window-at, at, Solves}
 use Rattle.meaning.specs.Cycle.{Acyclic}
 use Rattle.meaning.proofs.Tests.{false-is, T-and, T-and-l, T-and-r}
 use Rattle.meaning.proofs.Each.{each-all}
@@ -43,6 +43,7 @@ settled (two g a b) S s u = true
 settled (last a b) S s u = true
 settled (delay a b) S s u = not (pending (S a) (S b) (S s) u)
 settled (signal c a b) S s u = true
+settled (window f k a) S s u = true
 
 -- nothing comes in from u on, and nothing is left to fire
 pub record Quiet (plan : Plan) (rd S : Streams) (u : ℕ) : Type 0 where
@@ -116,6 +117,7 @@ module _ (plan : Plan) (rd S : Streams) (u h : ℕ) (ok : Acyclic plan) (sol : S
   none-at s t l (last a b) q = rw (cut-after u (S b) t l, last-at)
   none-at s t l (delay a b) q = rw (never-fires u (S a) (S b) (S s) q t l, delay-at)
   none-at s t l (signal c a b) q = rw (cut-after u (S a) t l, cut-after u (S b) t l, signal-at)
+  none-at s t l (window f k a) q = rw (cut-after u (S a) t l, window-at)
 
   ended-solves : Solves plan rd ended h
   ended-solves = record { each = λ s t l. go s t l (decLt t u) }

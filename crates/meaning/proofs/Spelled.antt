@@ -14,7 +14,7 @@ use lib.Dec.{T, ltb, eqb, eqb→eq, eqb-refl, lt→ltb, ltb→lt, not-T, T-not}
 use lib.ListN.{length, getD, set, length-set, List·getD-append, List·getD-eq-default}
 use lib.Seq.{getD-set-same, getD-set-other, getD-append-add}
 use lib.IntN.{ℤ}
-use Rattle.meaning.specs.Plan.{Calc, calc, Eqn, input, nil, unit, one, two, last, delay, signal, Plan, eqnAt}
+use Rattle.meaning.specs.Plan.{Calc, calc, Eqn, input, nil, unit, one, two, last, delay, signal, window, Plan, eqnAt}
 use Rattle.meaning.specs.Arguments.{reads, undelayed, Each, AllBelow}
 use Rattle.meaning.specs.Events.{Stream, Streams, orElse}
 use Rattle.meaning.specs.Table.{two-at, latest, last-at, signal-at, delay-at, at, Solves}
@@ -22,7 +22,7 @@ use Rattle.meaning.specs.Cycle.{Leads, Acyclic}
 use Rattle.meaning.specs.Spelled.{four, operation, spelled, merged, extra, appended, firstOnly, MeansSpelled}
 use Rattle.meaning.proofs.Tests.{Is, yes!, no!, look, true-is, false-is}
 use Rattle.meaning.proofs.Each.{each-map, each-of, each-at, each-all}
-use Rattle.meaning.proofs.Causal.{SameBelow, latest-cong, fires-cong, at-cong}
+use Rattle.meaning.proofs.Causal.{SameBelow, latest-cong, events-cong, fires-cong, at-cong}
 use Rattle.meaning.proofs.Within.{undelayed-read}
 use Rattle.meaning.proofs.Clear.{clear, clear-args, args-clear, clear-suc, clear-beyond, clear-acyclic}
 use Rattle.meaning.proofs.Ways.{acyclic-clear}
@@ -51,6 +51,7 @@ at-reads (delay a b) rd S S′ s t h o =
     ap delay-at (fires-cong (S a) (S b) (S s) (S′ a) (S′ b) (S′ s) t (λ p l. h .0 p (omega arith)) (λ p l. h .1 .0 p (omega arith)) o)
 at-reads (signal c a b) rd S S′ s t h o =
     rw (h .0 t (lt-suc-self t), h .1 .0 t (lt-suc-self t), latest-cong (S a) (S′ a) t (λ p l. h .0 p (omega arith)), latest-cong (S b) (S′ b) t (λ p l. h .1 .0 p (omega arith)))
+at-reads (window f k a) rd S S′ s t h o = rw (h .0 t (lt-suc-self t), events-cong (S a) (S′ a) t (λ p l. h .0 p (omega arith)))
 
 -- ---- S with four streams appended
 module _ (n a b : ℕ) (S : Streams) where

@@ -3,7 +3,7 @@ use Prim.Native.Nat.{ℕ, _<_}
 use mathlib.Core.Bool.{Bool, true, false, cond}
 use mathlib.Core.List.{List, [], _∷_, map}
 use lib.ListN.{getD}
-use Rattle.meaning.specs.Plan.{Eqn, input, nil, unit, one, two, last, delay, signal}
+use Rattle.meaning.specs.Plan.{Eqn, input, nil, unit, one, two, last, delay, signal, window}
 
 -- an argument: its stream, and whether it is delayed
 pub record Argument : Type 0 where
@@ -26,6 +26,7 @@ arguments (two g a b) = prompt a ∷ prompt b ∷ []
 arguments (last a b) = late a ∷ prompt b ∷ []
 arguments (delay a b) = late a ∷ prompt b ∷ []
 arguments (signal c a b) = prompt a ∷ prompt b ∷ []
+arguments (window f k a) = prompt a ∷ []
 
 -- the streams that an equation reads
 abbrev pub reads : Eqn → List ℕ

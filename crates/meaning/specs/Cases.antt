@@ -4,7 +4,7 @@ use mathlib.Core.Bool.{Bool, true, false}
 use mathlib.Core.List.{List, [], _∷_}
 use lib.ListN.{getD}
 use lib.IntN.{ℤ, pos, negsuc}
-use Rattle.meaning.specs.Plan.{Unary, time, neg, set, plus, Calc, add, sub, mul, div, rem, lt, le, eq, Binary, calc, keep, merge, input, nil, unit, one, two, last, delay, signal, Plan}
+use Rattle.meaning.specs.Plan.{Unary, time, neg, set, plus, Calc, add, sub, mul, div, rem, lt, le, eq, Binary, calc, keep, merge, input, nil, unit, one, two, last, delay, signal, window, Fold, wsum, wmin, wmax, Plan}
 use Rattle.meaning.specs.Events.{Event, ev, Streams, found}
 
 pub record Case : Type 0 where
@@ -46,6 +46,9 @@ delayed a b e = case (input ∷ input ∷ delay 0 1 ∷ []) (a ∷ b ∷ []) 2 1
 
 abbrev pub signaled : Calc → List Event → List Event → List Event → Case
 signaled c a b e = case (input ∷ input ∷ signal c 0 1 ∷ []) (a ∷ b ∷ []) 2 6 e
+
+abbrev pub windowed : Fold → ℕ → List Event → List Event → Case
+windowed f k a e = case (input ∷ window f (pos k) 0 ∷ []) (a ∷ []) 1 12 e
 
 -- a signal form as stream 2, and the same spelled out as stream 7
 abbrev pub besideSpelled : Plan
@@ -126,6 +129,17 @@ cases =
     -- a signal form, and the same spelled out
     ∷ spelledOut 2
     ∷ spelledOut 7
+    -- a window: all so far while fewer than k, then the latest k, this one included
+    ∷ windowed wsum 3 (ev 0 (pos 1) ∷ ev 1 (pos 2) ∷ ev 2 (pos 3) ∷ ev 3 (pos 4) ∷ ev 4 (pos 5) ∷ []) (ev 0 (pos 1) ∷ ev 1 (pos 3) ∷ ev 2 (pos 6) ∷ ev 3 (pos 9) ∷ ev 4 (pos 12) ∷ [])
+    ∷ windowed wmin 2 (ev 1 (pos 5) ∷ ev 2 (negsuc 2) ∷ ev 9 (pos 4) ∷ ev 10 (pos 4) ∷ []) (ev 1 (pos 5) ∷ ev 2 (negsuc 2) ∷ ev 9 (negsuc 2) ∷ ev 10 (pos 4) ∷ [])
+    ∷ windowed wmax 2 (ev 1 (pos 5) ∷ ev 2 (negsuc 2) ∷ ev 9 (pos 4) ∷ ev 10 (pos 4) ∷ []) (ev 1 (pos 5) ∷ ev 2 (pos 5) ∷ ev 9 (pos 4) ∷ ev 10 (pos 4) ∷ [])
+    -- a sum outside the range gives none, and the window goes on over a's events
+    ∷ windowed wsum 2 (ev 1 greatest ∷ ev 2 (pos 1) ∷ ev 3 (negsuc 4) ∷ []) (ev 1 greatest ∷ ev 3 (negsuc 3) ∷ [])
+    -- the sum is over whole numbers: 2^63 − 1 twice, then −2^63 twice
+    ∷ windowed wsum 4 (ev 1 greatest ∷ ev 2 greatest ∷ ev 3 least ∷ ev 4 least ∷ []) (ev 1 greatest ∷ ev 3 (pos 9223372036854775806) ∷ ev 4 (negsuc 1) ∷ [])
+    ∷ windowed wsum 1 (ev 1 greatest ∷ ev 2 least ∷ []) (ev 1 greatest ∷ ev 2 least ∷ [])
+    -- an event that a does not have is none of its latest
+    ∷ case (input ∷ one (plus (pos 1)) 0 ∷ window wmax (pos 2) 1 ∷ []) ((ev 1 (pos 7) ∷ ev 2 greatest ∷ ev 3 (pos 5) ∷ []) ∷ []) 2 5 (ev 1 (pos 8) ∷ ev 3 (pos 8) ∷ [])
     -- nil has no event, unit one of value 0 at stamp 0
     ∷ case (nil ∷ []) [] 0 4 []
     ∷ case (unit ∷ []) [] 0 4 (ev 0 (pos 0) ∷ [])
@@ -162,4 +176,7 @@ verdicts =
     ∷ verdict (input ∷ signal add 1 0 ∷ []) false
     ∷ verdict (input ∷ signal add 0 1 ∷ []) false
     ∷ verdict (input ∷ last 2 0 ∷ signal add 0 1 ∷ []) true
+    -- nor that of a window
+    ∷ verdict (window wsum (pos 1) 0 ∷ []) false
+    ∷ verdict (input ∷ window wmin (pos 2) 0 ∷ []) true
     ∷ []

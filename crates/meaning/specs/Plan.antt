@@ -18,6 +18,10 @@ pub data Binary : Type 0 where
   calc : Calc → Binary
   keep merge : Binary
 
+-- what is told of the latest events of a stream
+pub data Fold : Type 0 where
+  wsum wmin wmax : Fold
+
 -- document 01's `in` is `input` here; arguments are stream numbers
 pub data Eqn : Type 0 where
   input nil unit : Eqn
@@ -26,6 +30,8 @@ pub data Eqn : Type 0 where
   last delay : ℕ → ℕ → Eqn
   -- sadd ssub smul sdiv srem slt sle seq: the signal form of the arithmetic
   signal : Calc → ℕ → ℕ → Eqn
+  -- wsum wmin wmax: a window of k events of a
+  window : Fold → ℤ → ℕ → Eqn
 
 abbrev pub Plan : Type 0
 Plan = List Eqn
@@ -43,3 +49,4 @@ isInput (two g a b) = false
 isInput (last a b) = false
 isInput (delay a b) = false
 isInput (signal c a b) = false
+isInput (window f k a) = false

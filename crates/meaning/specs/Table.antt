@@ -2,14 +2,17 @@
 use Prim.Native.Nat.{ℕ, zero, suc, _-_, _<_}
 use mathlib.Core.Path.{_≡_}
 use mathlib.Core.Bool.{Bool, true, false, not, cond, _&&_, _||_}
+use mathlib.Core.List.{List, [], _∷_, map}
 use mathlib.Core.Option.{Option, none, some}
 use lib.Dec.{ltb, eqb}
-use lib.IntN.{ℤ, pos, negsuc}
+use lib.IntN.{ℤ, pos, negsuc, _+ℤ_}
+use lib.Signed.{leZ}
+use lib.ListN.{length, drop}
 use Rattle.num.specs.declared.Answer.{Answer}
 use Rattle.num.specs.declared.Answer.the-variants.{Value, Outside, ZeroDivisor}
-use Rattle.num.specs.Arithmetic.{isZero, negated, added, subtracted, multiplied, divided, remainder, less, atMost, equal}
-use Rattle.meaning.specs.Plan.{Unary, time, neg, set, plus, Calc, add, sub, mul, div, rem, lt, le, eq, Binary, calc, keep, merge, Eqn, input, nil, unit, one, two, last, delay, signal, Plan, eqnAt}
-use Rattle.meaning.specs.Events.{Stream, Streams, has, orElse}
+use Rattle.num.specs.Arithmetic.{isZero, fit, negated, added, subtracted, multiplied, divided, remainder, less, atMost, equal}
+use Rattle.meaning.specs.Plan.{Unary, time, neg, set, plus, Calc, add, sub, mul, div, rem, lt, le, eq, Binary, calc, keep, merge, Eqn, input, nil, unit, one, two, last, delay, signal, window, Fold, wsum, wmin, wmax, Plan, eqnAt}
+use Rattle.meaning.specs.Events.{Event, Stream, Streams, events, has, orElse}
 
 -- "A result outside the value range, or a zero divisor, gives no event."
 unfoldable pub valueOf : Answer → Option ℤ
@@ -71,6 +74,49 @@ unfoldable pub signal-at : Calc → (a b x y : Option ℤ) → Option ℤ
 unfolding two-at
 signal-at c a b x y = cond (has a || has b) (two-at (calc c) x y) none
 
+-- ---- windows: "at each event of a, the sum, least or greatest of the latest k events, this one included, or of all so far
+-- while fewer. A sum out of range gives no event."
+
+-- the latest k of a list, all of it while it has fewer
+unfoldable pub latestOf : {A : Type 0} → ℕ → List A → List A
+latestOf k xs = drop (length xs - k) xs
+
+abbrev pub values : List Event → List ℤ
+values es = map (λ e. e .value) es
+
+-- how many events a window of k has: rule 18 keeps k from 1 to 64
+abbrev pub width : ℤ → ℕ
+width (pos k) = k
+width (negsuc k) = 0
+
+abbrev pub total : List ℤ → ℤ
+total [] = pos 0
+total (x ∷ xs) = x +ℤ total xs
+
+-- the least and the greatest of x and the others
+abbrev pub leastOf : ℤ → List ℤ → ℤ
+leastOf x [] = x
+leastOf x (y ∷ ys) = leastOf (cond (leZ x y) x y) ys
+
+abbrev pub greatestOf : ℤ → List ℤ → ℤ
+greatestOf x [] = x
+greatestOf x (y ∷ ys) = greatestOf (cond (leZ x y) y x) ys
+
+-- the sum is over whole numbers, and tested for the range once. No window that gives an event is of no events.
+unfoldable pub folded : Fold → List ℤ → Answer
+unfolding fit
+folded wsum xs = fit (total xs)
+folded wmin [] = Outside
+folded wmin (x ∷ xs) = Value (leastOf x xs)
+folded wmax [] = Outside
+folded wmax (x ∷ xs) = Value (greatestOf x xs)
+
+-- wsum, wmin, wmax: where a has an event, what is told of these values
+unfoldable pub window-at : Fold → Option ℤ → List ℤ → Option ℤ
+unfolding valueOf folded
+window-at f none xs = none
+window-at f (some x) xs = valueOf (folded f xs)
+
 -- some stamp below t passes the test
 unfoldable pub any-below : ℕ → (ℕ → Bool) → Bool
 any-below zero f = false
@@ -96,7 +142,7 @@ delay-at false = none
 
 -- the table: what stream s with this equation has at stamp t, of the readings rd and all streams S
 unfoldable pub at : Eqn → (rd S : Streams) → (s t : ℕ) → Option ℤ
-unfolding one-at two-at unit-at last-at latest delay-at fires signal-at
+unfolding one-at two-at unit-at last-at latest delay-at fires signal-at window-at latestOf
 at input rd S s t = rd s t
 at nil rd S s t = none
 at unit rd S s t = unit-at t
@@ -105,6 +151,7 @@ at (two g a b) rd S s t = two-at g (S a t) (S b t)
 at (last a b) rd S s t = last-at (S b t) (latest (S a) t)
 at (delay a b) rd S s t = delay-at (fires (S a) (S b) (S s) t)
 at (signal c a b) rd S s t = signal-at c (S a t) (S b t) (latest (S a) (suc t)) (latest (S b) (suc t))
+at (window f k a) rd S s t = window-at f (S a t) (latestOf (width k) (values (events (S a) (suc t))))
 
 -- S solves the plan for the readings rd below the stamp h: each stream has at each stamp what its row says
 pub record Solves (plan : Plan) (rd S : Streams) (h : ℕ) : Type 0 where

@@ -10,7 +10,7 @@ use lib.ListN.{take}
 use mir.Syntax.{w64}
 use mir.Val.{toZ}
 use mir.Facts.{sfits-toZ}
-use Rattle.meaning.specs.Plan.{Eqn, input, nil, unit, one, two, last, delay, signal}
+use Rattle.meaning.specs.Plan.{Eqn, input, nil, unit, one, two, last, delay, signal, window}
 use Rattle.meaning.specs.Events.{found, horizon}
 use Rattle.machine.specs.State.{Cell, Kept, room, noKept}
 use Rattle.machine.specs.Reach.{view, valueAt}
@@ -81,6 +81,7 @@ absorb-fits nil o a b h k ha hb = k
 absorb-fits unit o a b h k ha hb = k
 absorb-fits (one f _) o a b h k ha hb = k
 absorb-fits (two g _ _) o a b h k ha hb = k
+absorb-fits (window f n _) o a b h k ha hb = k
 absorb-fits (last _ _) o a b h k ha hb =
     record { prev = held-latest a (o .bound) (o .kept .prev) ha (k .prev); prevB = k .prevB; since = k .since; value = k .value; prior = k .prior }
 absorb-fits (delay _ _) o a b h k ha hb =
@@ -121,6 +122,7 @@ kept-ok nil k r f ok = ok
 kept-ok unit k r f ok = ok
 kept-ok (one g _) k r f ok = ok
 kept-ok (two g _ _) k r f ok = ok
+kept-ok (window h n _) k r f ok = ok
 kept-ok (last _ _) k r f ok = value-ok flagF keptF (flagOf (k .prev)) (bitsOf (k .prev)) r (flag-below (k .prev)) (bits-small (k .prev) (f .prev)) ok
 kept-ok (delay _ _) k r f ok =
     let s = f .since in

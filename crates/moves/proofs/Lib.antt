@@ -1,3 +1,4 @@
+pub mod Arms
 pub mod Decides
 pub mod Fits
 pub mod Steps

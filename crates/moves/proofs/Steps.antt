@@ -1,34 +1,44 @@
 -- The steps of a move on the whole buffer, one after the other.
 use Prim.Native.Nat.{ℕ, zero, suc, _+_, _-_, _*_, _^_, _<_, _≤_, min}
 use mathlib.Core.Path.{_≡_, refl, sym, ap, _∙_}
-use mathlib.Core.Bool.{Bool, true, false, cond}
-use mathlib.Core.List.{List, [], _∷_}
+use mathlib.Core.Bool.{Bool, true, false, cond, true≢false}
+use mathlib.Core.List.{List, [], _∷_, _++_, map}
 use native.Mathlib.Omega.{arith}
 use lib.Dec.{leb, ltb, lit<}
-use lib.ListN.{length, set}
-use lib.Seq.{set-getD}
+use lib.ListN.{length, set, drop, length-map, length-drop}
+use mir.Syntax.{w64}
+use mir.Val.{toZ, ofZ}
+use lib.Seq.{set-getD, getD-set-same, getD-set-other}
 use borrow.Author.Tests.{ltb-true}
-use Rattle.meaning.specs.Plan.{Eqn}
+use Rattle.meaning.specs.Plan.{Eqn, input, nil, unit, one, two, last, delay, signal, window}
 use Rattle.meaning.specs.Arguments.{reads}
-use Rattle.meaning.specs.Events.{horizon}
+use Rattle.meaning.specs.Events.{Event, horizon}
+use Rattle.meaning.specs.Table.{latestOf, values}
 use Rattle.machine.specs.State.{room, Kept}
 use Rattle.machine.specs.Reach.{Next, event, silent}
-use Rattle.machine.specs.Step.{absorb}
+use Rattle.machine.specs.Step.{dropBelow, absorb}
+use Rattle.machine.specs.Windows.{takeBelow}
+use Rattle.operators.specs.Operators.{valueOf, eqnOf}
+use Rattle.operators.specs.Limits.{widthLimit}
+use Rattle.operators.specs.Windows.{isWindowEqn}
 use Rattle.meaning.specs.Arguments.{argA, argB}
 use Rattle.le.specs.Bytes.{Bytes}
-use Rattle.layout.specs.Record.{Slot, Raw, Raws, noRaw, num, withNum, dropped, encode, decode, rowAt, change, changeAll, countF, boundF}
-use Rattle.layout.proofs.Laws.{RawOk, RawsOk, raws-ok, row-ok, change-ok, changeAll-ok, num-ok, num-small, whole-then, encode-decode}
+use Rattle.layout.specs.Record.{Slot, Raw, Raws, noRaw, num, withNum, dropped, encode, decode, rowAt, change, changeAll, opF, aF, bF, countF, flagF, kF, boundF}
+use Rattle.layout.specs.Windows.{windowAt, withWindow}
+use Rattle.layout.proofs.Laws.{RawOk, RawsOk, rows-many, decode-encode, raws-ok, row-ok, change-ok, changeAll-ok, num-ok, num-small, whole-then, encode-decode}
 use Rattle.layout.proofs.Slots.{shift-ok}
 use Rattle.encoding.specs.Back.{heldOf}
+use Rattle.streams.specs.Look.{lookOf}
 use Rattle.preserve.proofs.Values.{Holds}
-use Rattle.streams.proofs.Laws.{keeps}
+use Rattle.streams.proofs.Laws.{keeps, look-eqn, kept-none}
 use Rattle.keeping.specs.Keep.{movedCell, keptRow}
 use Rattle.keeping.proofs.Laws.{row-none}
 use Rattle.queue.specs.Queue.{pushed, below, released}
 use Rattle.readers.specs.Step.{toldRow, leastRow, waitingRow, releasedRow}
 use Rattle.queue.proofs.Drops.{push-ok}
 use Rattle.readers.proofs.Leaves.{told-ok}
-use Rattle.moves.specs.Move.{argIn, ownIn, otherIn, keptRaw, absorbedRaw, releasedArgs, boundRaw, releasedAll, silentRaw, eventRaw, stepRaw}
+use Rattle.sliding.specs.Slide.{widthIn, placeOf, wordsIn, slidWords, slidRow}
+use Rattle.moves.specs.Move.{argIn, ownIn, otherIn, slidRaw, keptRaw, absorbedRaw, releasedArgs, aheadRaw, boundRaw, releasedAll, silentRaw, eventRaw, stepRaw}
 use Rattle.moves.proofs.Fits.{KeptFits, look-holds, look-kept, absorb-fits, kept-ok}
 
 -- ---- an equation that keeps nothing
@@ -86,6 +96,33 @@ module _ (n : ℕ) (i : ℕ) (hi : i < n) where
   bound-ok : (y : ℕ) → y ≤ horizon → (st : Raws) → RawsOk n st → RawsOk n (change i (withNum boundF y) st)
   bound-ok y h st ok = change-ok n st i (withNum boundF y) ok (num-ok (rowAt st i) boundF y (row-ok n st i ok hi) (omega arith))
 
+  -- a window has slid
+  pub slid-ok : (e : Eqn) (y x : ℕ) (st : Raws) → RawsOk n st → RawsOk n (slidRaw n i e y x st)
+  unfolding slidRaw slidRow withWindow
+  slid-ok e y x st ok = go (isWindowEqn e)
+    where
+      k : ℕ
+      k = widthIn (valueOf e)
+
+      es : List Event
+      es = otherIn n (argA e) st .held
+
+      wide : k ≤ widthLimit
+      wide = omega arith
+
+      few : length (slidWords k i y x es st) ≤ k
+      few = unfold latestOf in rw (length-map (latestOf k (map (toZ w64) (wordsIn k i st) ++ values (takeBelow x (dropBelow y es)))) (ofZ w64), length-drop _ (map (toZ w64) (wordsIn k i st) ++ values (takeBelow x (dropBelow y es)))) (omega arith)
+
+      go : (b : Bool) → RawsOk n (cond b (slidRow k i y x es st) st)
+      go false = ok
+      go true =
+          let w = slidWords k i y x es st in
+          let f = few in
+          let h = wide in
+          let st₁ = withWindow (placeOf i st) (w ++ drop (length w) (windowAt (placeOf i st) st)) st in
+          let ok₁ : RawsOk n st₁ = record { many = ok .many; good = ok .good } in
+          change-ok n st₁ i (withNum flagF (length w)) ok₁ (num-ok (rowAt st i) flagF (length w) (row-ok n st i ok hi) (omega arith))
+
   -- ---- let go: nothing, one argument, two
 
   module _ (s : List ℕ) (b : Bytes s) where
@@ -140,3 +177,58 @@ module _ (n : ℕ) (i : ℕ) (hi : i < n) where
 pub step-full : (n i : ℕ) (e : Eqn) (k : Kept) (x : Next) (held : ℕ) (st : Raws) → leb room held ≡ true → silentRaw n i e k (boundRaw x held) st ≡ stepRaw n i e k x held st
 step-full n i e k (silent r) held st h = refl
 step-full n i e k (event t v) held st h = rw h
+
+-- ---- a window has slid before the step
+
+window-keeps : (e : Eqn) → isWindowEqn e ≡ true → keeps e ≡ false
+window-keeps input q = refl
+window-keeps nil q = refl
+window-keeps unit q = refl
+window-keeps (one f a) q = refl
+window-keeps (two g a b) q = refl
+window-keeps (last a b) q = absurd (true≢false (sym q))
+window-keeps (delay a b) q = absurd (true≢false (sym q))
+window-keeps (signal c a b) q = absurd (true≢false (sym q))
+window-keeps (window f k a) q = refl
+
+-- a record with another fill has the same equation
+fill-eqn : (v : ℕ) (r : Raw) → lookOf (withNum flagF v r) .eqn ≡ lookOf r .eqn
+fill-eqn v r =
+    let other : (j : ℕ) → (j ≡ flagF → ⊥) → num j (withNum flagF v r) ≡ num j r = λ j n. getD-set-other (r .nums) flagF j v 0 n in
+    look-eqn (withNum flagF v r)
+    ∙ (λ z. eqnOf (other opF (λ q. omega arith) z) (other aF (λ q. omega arith) z) (other bF (λ q. omega arith) z) (toZ w64 (other kF (λ q. omega arith) z)))
+    ∙ sym (look-eqn r)
+
+-- what a stream keeps in its record stays: a window keeps nothing there
+slid-same : (n i : ℕ) (e : Eqn) (y x : ℕ) (st : Raws) → i < length (st .rows) → e ≡ ownIn i st .eqn → ownIn i st .kept ≡ ownIn i (slidRaw n i e y x st) .kept
+unfolding slidRaw slidRow withWindow
+slid-same n i e y x st l q = go (isWindowEqn e) refl
+  where
+    v : ℕ
+    v = length (slidWords (widthIn (valueOf e)) i y x (otherIn n (argA e) st .held) st)
+
+    r : Raw
+    r = rowAt st i
+
+    go : (b : Bool) → isWindowEqn e ≡ b → ownIn i st .kept ≡ ownIn i (cond b (slidRow (widthIn (valueOf e)) i y x (otherIn n (argA e) st .held) st) st) .kept
+    go false w = refl
+    go true w =
+        let k = window-keeps e w in
+        kept-none r e q k
+        ∙ sym (ap (λ (u : Raw). lookOf u .kept) (getD-set-same (st .rows) i (withNum flagF v r) noRaw l) ∙ kept-none (withNum flagF v r) e (q ∙ sym (fill-eqn v r)) k)
+
+module _ (n i : ℕ) (hi : i < n) where
+  pub slid-kept : (s₁ s : List ℕ) → Bytes s → (x : ℕ) → s₁ ≡ encode n (slidRaw n i (ownIn i (decode n s) .eqn) (ownIn i (decode n s) .bound) x (decode n s)) → ownIn i (decode n s) .kept ≡ ownIn i (decode n s₁) .kept
+  slid-kept s₁ s b x e =
+      let st = decode n s in
+      let o = ownIn i st in
+      let back : decode n s₁ ≡ slidRaw n i (o .eqn) (o .bound) x st = ap (decode n) e ∙ decode-encode n (slidRaw n i (o .eqn) (o .bound) x st) (slid-ok n i hi (o .eqn) (o .bound) x st (raws-ok n s b)) in
+      slid-same n i (o .eqn) (o .bound) x st (rw (rows-many n s) hi) refl ∙ ap (λ (z : Raws). ownIn i z .kept) (sym back)
+
+  pub made-is : (s : List ℕ) → Bytes s → (s₁ s₂ : List ℕ) (x : ℕ) → s₁ ≡ encode n (slidRaw n i (ownIn i (decode n s) .eqn) (ownIn i (decode n s) .bound) x (decode n s))
+      → (let o = ownIn i (decode n s) in s₂ ≡ encode n (stepRaw n i (o .eqn) (o .kept) (aheadRaw n i (decode n s)) (num countF (rowAt (decode n s) i)) (decode n s₁)))
+      → (let o = ownIn i (decode n s) in s₂ ≡ encode n (stepRaw n i (o .eqn) (o .kept) (aheadRaw n i (decode n s)) (num countF (rowAt (decode n s) i)) (slidRaw n i (o .eqn) (o .bound) x (decode n s))))
+  made-is s b s₁ s₂ x e₁ e₂ =
+      let st = decode n s in
+      let o = ownIn i st in
+      whole-then n s s₁ s₂ (λ z. slidRaw n i (o .eqn) (o .bound) x z) (stepRaw n i (o .eqn) (o .kept) (aheadRaw n i st) (num countF (rowAt st i))) e₁ (slid-ok n i hi (o .eqn) (o .bound) x st (raws-ok n s b)) e₂

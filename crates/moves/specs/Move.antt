@@ -1,22 +1,25 @@
 -- How: a move and a run on raw records: total functions of n records.
-use Prim.Native.Nat.{ℕ, _+_}
+use Prim.Native.Nat.{ℕ, _+_, max}
 use mathlib.Core.Bool.{Bool, not, cond, _&&_}
 use mathlib.Core.List.{List, [], _∷_}
 use lib.Dec.{ltb, leb, eqb}
 use mir.Syntax.{w64}
 use mir.Val.{ofZ}
-use Rattle.meaning.specs.Plan.{Eqn, isInput}
+use Rattle.meaning.specs.Plan.{Fold, wsum, Eqn, input, nil, unit, one, two, last, delay, signal, window, isInput}
 use Rattle.meaning.specs.Arguments.{reads}
 use Rattle.machine.specs.State.{Cell, Kept, room, noKept}
 use Rattle.machine.specs.Reach.{Next, event, silent, limit, decide}
 use Rattle.machine.specs.Step.{absorb}
 use Rattle.meaning.specs.Arguments.{argA, argB}
+use Rattle.operators.specs.Operators.{valueOf}
+use Rattle.operators.specs.Windows.{isWindowEqn}
 use Rattle.layout.specs.Record.{Raws, num, withNum, rowAt, change, changeAll, countF, boundF}
 use Rattle.encoding.specs.Back.{heldOf}
 use Rattle.streams.specs.Look.{lookOf, ownCell}
 use Rattle.keeping.specs.Keep.{movedCell, keptRow}
 use Rattle.queue.specs.Queue.{pushed}
 use Rattle.readers.specs.Step.{toldRow, releasedRow}
+use Rattle.sliding.specs.Slide.{widthIn, fitRow, slidRow}
 
 -- an argument's record, of n; one that is not there is read as the first
 abbrev pub argIn : ℕ → ℕ → ℕ
@@ -33,9 +36,27 @@ otherIn n a st = lookOf (rowAt st (argIn n a))
 abbrev pub limitRaw : ℕ → Eqn → ℕ → Raws → ℕ
 limitRaw n e y st = limit e (ownCell e y noKept) (otherIn n (argA e) st) (otherIn n (argB e) st)
 
--- what a move of stream i finds
+-- the fold of a window's equation
+abbrev pub foldOf : Eqn → Fold
+foldOf input = wsum
+foldOf nil = wsum
+foldOf unit = wsum
+foldOf (one f a) = wsum
+foldOf (two g a b) = wsum
+foldOf (last a b) = wsum
+foldOf (delay a b) = wsum
+foldOf (signal c a b) = wsum
+foldOf (window f k a) = f
+
+-- what a move of stream i, with this equation and cell, finds: a window by itself, any other over its candidate stamps
+abbrev pub foundRaw : ℕ → ℕ → Eqn → Cell → Raws → Next
+foundRaw n i e o st =
+    let a = otherIn n (argA e) st in
+    cond (isWindowEqn e) (fitRow (foldOf e) (widthIn (valueOf e)) i (o .bound) (max (o .bound) (a .bound)) (a .held) st) (decide e o a (otherIn n (argB e) st))
+
 unfoldable pub aheadRaw : ℕ → ℕ → Raws → Next
-aheadRaw n i st = decide (ownIn i st .eqn) (ownIn i st) (otherIn n (argA (ownIn i st .eqn)) st) (otherIn n (argB (ownIn i st .eqn)) st)
+unfolding fitRow
+aheadRaw n i st = foundRaw n i (ownIn i st .eqn) (ownIn i st) st
 
 -- where its bound goes: a full stream stops at the event
 abbrev pub boundRaw : Next → ℕ → ℕ
@@ -45,6 +66,11 @@ boundRaw (event t v) held = cond (leb room held) t (t + 1)
 unfoldable pub canRaw : ℕ → ℕ → Raws → Bool
 unfolding aheadRaw
 canRaw n i st = not (isInput (ownIn i st .eqn)) && not (eqb (boundRaw (aheadRaw n i st) (num countF (rowAt st i))) (ownIn i st .bound))
+
+-- a window slides as its bound goes from y to x; nothing else does
+unfoldable pub slidRaw : ℕ → ℕ → Eqn → (y x : ℕ) → Raws → Raws
+unfolding slidRow
+slidRaw n i e y x st = cond (isWindowEqn e) (slidRow (widthIn (valueOf e)) i y x (otherIn n (argA e) st .held) st) st
 
 -- Below, e is the equation of stream i and k what it kept, both as looked at before the move.
 
@@ -80,5 +106,8 @@ stepRaw n i e k (silent r) held st = silentRaw n i e k r st
 stepRaw n i e k (event t v) held st = cond (leb room held) (silentRaw n i e k t st) (eventRaw n i e k t (ofZ w64 v) st)
 
 unfoldable pub movedRaw : ℕ → ℕ → Raws → Raws
-unfolding silentRaw eventRaw aheadRaw
-movedRaw n i st = stepRaw n i (ownIn i st .eqn) (ownIn i st .kept) (aheadRaw n i st) (num countF (rowAt st i)) st
+unfolding silentRaw eventRaw aheadRaw slidRaw
+movedRaw n i st =
+    let o = ownIn i st in
+    let held = num countF (rowAt st i) in
+    stepRaw n i (o .eqn) (o .kept) (aheadRaw n i st) held (slidRaw n i (o .eqn) (o .bound) (boundRaw (aheadRaw n i st) held) st)

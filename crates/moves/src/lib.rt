@@ -2,22 +2,27 @@
 ghost use mathlib.Core.Path.{_≡_};
 ghost use mathlib.Core.Bool.{true, cond};
 ghost use mathlib.Core.List.{[], _∷_};
-ghost use Prim.Native.Nat.{_*_, _+_, _≤_, _<_, min};
+ghost use Prim.Native.Nat.{_*_, _+_, _≤_, _<_, min, max};
 ghost use lib.ListN.{length};
 ghost use Rattle.meaning.specs.Arguments.{reads};
 ghost use Rattle.meaning.specs.Events.{horizon};
-ghost use Rattle.machine.specs.Reach.{decide};
-ghost use Rattle.meaning.specs.Arguments.{argA, argB};
+ghost use Rattle.operators.specs.Limits.{widthLimit};
 ghost use Rattle.layout.specs.Record.{num, encode, decode, rowAt, boundF};
-ghost use Rattle.streams.specs.Look.{equation, keptIn, ownOf, Bounded};
+ghost use Rattle.layout.specs.Windows.{areaLength};
+ghost use Rattle.encoding.specs.Back.{heldOf};
+ghost use Rattle.apply.specs.Named.{folding};
+ghost use Rattle.sliding.specs.Slide.{fitRow};
+ghost use Rattle.streams.specs.Look.{lookOf, equation, keptIn, ownOf, Bounded};
 ghost use Rattle.decide.specs.Near.{toNext, knownTo};
-ghost use Rattle.moves.specs.Move.{argIn, ownIn, otherIn, limitRaw, boundRaw, canRaw, keptRaw, absorbedRaw, releasedArgs, releasedAll, silentRaw, eventRaw, stepRaw, movedRaw};
+ghost use Rattle.moves.specs.Move.{argIn, ownIn, otherIn, limitRaw, foundRaw, boundRaw, canRaw, slidRaw, keptRaw, absorbedRaw, releasedArgs, releasedAll, silentRaw, eventRaw, stepRaw, movedRaw};
+use apply::Fold;
 use decide::Next;
 use limits::Bound;
 use limits::Queue;
 use streams::Kept;
 use streams::Op;
 use streams::Stream;
+use windows::Fit;
 
 // The number of an argument's record; the first one where there is none such.
 fn argument(n: usize, a: u8) -> usize
@@ -67,16 +72,42 @@ fn stuck(state: &[u8], n: usize, op: Op, bound: u64) -> bool
         Op::Last(_, b) => bound_of(state, n, b) <= bound,
         Op::Delay(_, b) => bound_of(state, n, b) < bound,
         Op::Signal(_, a, b) => not_ahead(state, n, a, b, bound),
+        Op::Window(_, _, a) => bound_of(state, n, a) <= bound,
     }
 }
 
-// What a move of the stream s finds.
-fn ahead(state: &[u8], n: usize, s: Stream) -> Next
-    requires { ⌜ (n * 256 ≤ length (now state)) × (0 < n) × Bounded s ⌝ }
-    ensures next { λ r. ⌜ toNext r ≡ decide (equation (s .op)) (ownOf s) (otherIn n (argA (equation (s .op))) (decode n (now (state .entry)))) (otherIn n (argB (equation (s .op))) (decode n (now (state .entry)))) ⌝ }
+// What a move of stream i, a window of width k with bound y, finds: where it first gives a value, or silence as far as its argument
+// a is known.
+fn window_ahead(state: &[u8], n: usize, i: usize, f: Fold, k: usize, a: usize, y: u64) -> Next
+    requires { ⌜ (n * 256 + areaLength ≤ length (now state)) × (i < n) × (a < n) × (1 ≤ k) × (k ≤ widthLimit) × (y ≤ horizon) ⌝ }
+    ensures next { λ r. ⌜ toNext r ≡ fitRow (folding f) k i y (max y (lookOf (rowAt (decode n (now (state .entry))) a) .bound)) (heldOf (rowAt (decode n (now (state .entry))) a)) (decode n (now (state .entry))) ⌝ }
+    ensures known { λ r. ⌜ knownTo r ≤ horizon ⌝ }
+{
+    let hi = streams::larger(y, streams::bound_of(layout::row_at(state, a)));
+    match sliding::fit(state, n, i, f, k, a, y, hi) {
+        Fit::At(t, v) => Next::Event(t, v),
+        Fit::Nothing => Next::Silent(hi),
+    }
+}
+
+// What a move of stream i, which is s, finds: a window by itself, any other over its candidate stamps.
+fn ahead(state: &[u8], n: usize, i: usize, s: Stream) -> Next
+    requires { ⌜ (n * 256 + areaLength ≤ length (now state)) × (i < n) × Bounded s ⌝ }
+    ensures next { λ r. ⌜ toNext r ≡ foundRaw n i (equation (s .op)) (ownOf s) (decode n (now (state .entry))) ⌝ }
     ensures known { λ r. ⌜ knownTo r ≤ horizon ⌝ }
 {
     let op = s.op;
+    if let Op::Window(f, k, a) = op {
+        return window_ahead(
+            state,
+            n,
+            i,
+            f,
+            sliding::width_of(k),
+            argument(n, a),
+            s.bound,
+        );
+    }
     let a = layout::row_at(state, argument(n, streams::first(op)));
     let b = layout::row_at(state, argument(n, streams::second(op)));
     decide::find_next(s, a, b)
@@ -104,7 +135,7 @@ fn keep_row(state: &mut [u8], n: usize, i: usize, op: Op, k: Kept, y: u64)
     keeping::keep(&mut state[at..end], op, new);
 }
 
-// Brings what stream i keeps up to date: a last, a delay or a signal form, the others keep nothing.
+// Brings what stream i keeps in its record up to date: a last, a delay or a signal form, the others keep nothing there.
 // The operator is made anew in its arm: so the others do not store it for the call.
 fn absorb_row(state: &mut [u8], n: usize, i: usize, op: Op, k: Kept, y: u64)
     requires { ⌜ (n * 256 ≤ length (now state)) × (i < n) ⌝ }
@@ -119,6 +150,7 @@ fn absorb_row(state: &mut [u8], n: usize, i: usize, op: Op, k: Kept, y: u64)
         Op::Last(a, b) => keep_row(state, n, i, Op::Last(a, b), k, y),
         Op::Delay(a, b) => keep_row(state, n, i, Op::Delay(a, b), k, y),
         Op::Signal(g, a, b) => keep_row(state, n, i, Op::Signal(g, a, b), k, y),
+        Op::Window(_, _, _) => {}
     }
 }
 
@@ -154,6 +186,7 @@ fn release_args(state: &mut [u8], n: usize, op: Op)
         Op::Last(a, b) => release_two(state, n, a, b),
         Op::Delay(a, b) => release_two(state, n, a, b),
         Op::Signal(_, a, b) => release_two(state, n, a, b),
+        Op::Window(_, _, a) => release_one(state, n, a),
     }
 }
 
@@ -223,10 +256,21 @@ fn make(state: &mut [u8], n: usize, i: usize, op: Op, k: Kept, next: Next, held:
     move_silent(state, n, i, op, k, y);
 }
 
+// A window slides as its bound goes from y to x, before the bound is stored.
+fn slide(state: &mut [u8], n: usize, i: usize, op: Op, y: u64, x: u64)
+    requires { ⌜ (n * 256 + areaLength ≤ length (now state)) × (i < n) ⌝ }
+    ensures { λ _. ⌜ now (state .exit) ≡ encode n (slidRaw n i (equation op) y x (decode n (now (state .entry)))) ⌝ }
+{
+    let Op::Window(_, k, a) = op else {
+        return;
+    };
+    sliding::slide(state, n, i, sliding::width_of(k), argument(n, a), y, x);
+}
+
 // Moves stream i, if it can: an input cannot, and no equation whose bound would stay.
 // The stream is rebuilt once: its bound is cut to the horizon, and what it keeps is read, only where the bounds let it move.
 pub fn move_one(state: &mut [u8], n: usize, i: usize) -> bool
-    requires { ⌜ (n * 256 ≤ length (now state)) × (i < n) ⌝ }
+    requires { ⌜ (n * 256 + areaLength ≤ length (now state)) × (i < n) ⌝ }
     ensures can { λ r. ⌜ r ≡ canRaw n i (decode n (now (state .entry))) ⌝ }
     ensures moved { λ _. ⌜ now (state .exit) ≡ cond (canRaw n i (decode n (now (state .entry)))) (encode n (movedRaw n i (decode n (now (state .entry))))) (now (state .entry)) ⌝ }
 {
@@ -239,11 +283,13 @@ pub fn move_one(state: &mut [u8], n: usize, i: usize) -> bool
     let bound = streams::smaller(stored, Bound::HORIZON);
     let s = streams::complete(row, op, bound);
     let held = layout::byte_at(row, layout::COUNT);
-    let next = ahead(state, n, s);
-    if bound_after(next, held) == bound {
+    let next = ahead(state, n, i, s);
+    let y = bound_after(next, held);
+    if y == bound {
         return false;
     }
     let k = s.kept;
+    slide(state, n, i, op, bound, y);
     make(state, n, i, op, k, next, held);
     true
 }

@@ -1,18 +1,18 @@
 -- The operator table read both ways, each law proved once by computing over the table.
 use Prim.Native.Nat.{ℕ, _+_, _≤_, _<_}
 use mathlib.Core.Path.{_≡_, refl, sym, ap, _∙_}
-use mathlib.Core.Bool.{Bool, true, false, not, cond, _&&_}
+use mathlib.Core.Bool.{Bool, true, false, not, cond, _&&_, _||_}
 use mathlib.Core.List.{map}
 use native.Mathlib.Omega.{arith}
 use borrow.Author.Tests.{leb-true, leb-false, lt-leb, ne-eqb}
 use lib.Dec.{leb, eqb, lit≤}
 use lib.ListN.{getD, List·getD-eq-default}
 use lib.IntN.{ℤ, pos}
-use Rattle.meaning.specs.Plan.{Unary, time, neg, set, plus, Calc, add, sub, mul, div, rem, lt, le, eq, Binary, calc, keep, merge, Eqn, input, nil, unit, one, two, last, delay, signal, isInput}
+use Rattle.meaning.specs.Plan.{Unary, time, neg, set, plus, Calc, add, sub, mul, div, rem, lt, le, eq, Binary, calc, keep, merge, Eqn, input, nil, unit, one, two, last, delay, signal, window, Fold, wsum, wmin, wmax, isInput}
 use Rattle.meaning.specs.Arguments.{arguments, argA, argB}
-use Rattle.operators.specs.Operators.{Operator, noOperator, operators, operatorCount, calcs, calcPlace, unaryNumber, binaryNumber, groupOf, eqnOf, numberOf, valueOf, isPresent, isIn, isLast, isDelay, isSignal, takesFirst, takesSecond, isOperator, usesA, usesB, usesK, argumentsOf, eqnGroup}
+use Rattle.operators.specs.Operators.{Operator, noOperator, operators, operatorCount, calcs, calcPlace, folds, foldPlace, unaryNumber, binaryNumber, groupOf, eqnOf, numberOf, valueOf, isPresent, isIn, isLast, isDelay, isSignal, isWindow, takesFirst, takesSecond, isOperator, usesA, usesB, usesK, argumentsOf, eqnGroup}
 use Rattle.operators.specs.declared.Group.{Group}
-use Rattle.operators.specs.declared.Group.the-variants.{Absent, One, Two, Signal}
+use Rattle.operators.specs.declared.Group.the-variants.{Absent, One, Two, Signal, Window}
 use Rattle.operators.proofs.Tests.{left, right}
 use Rattle.operators.proofs.Numbers.{listed, agree, agreeing}
 
@@ -41,6 +41,18 @@ calc-place rem = lit≤ tt
 calc-place lt = lit≤ tt
 calc-place le = lit≤ tt
 calc-place eq = lit≤ tt
+
+-- ---- the windows
+
+pub fold-placed : (f : Fold) → getD folds (foldPlace f) wsum ≡ f
+fold-placed wsum = refl
+fold-placed wmin = refl
+fold-placed wmax = refl
+
+pub fold-place : (f : Fold) → foldPlace f ≤ 2
+fold-place wsum = lit≤ tt
+fold-place wmin = lit≤ tt
+fold-place wmax = lit≤ tt
 
 -- ---- laws by computing over the table
 
@@ -97,6 +109,18 @@ pub signal-value : (g : Calc) → usesK (20 + calcPlace g) ≡ false
 unfolding usesK
 signal-value = every-calc (λ p. usesK (20 + p)) (λ p. false) refl
 
+pub window-group : (f : Fold) → groupOf (28 + foldPlace f) ≡ Window
+unfolding groupOf
+window-group wsum = refl
+window-group wmin = refl
+window-group wmax = refl
+
+pub window-value : (f : Fold) → usesK (28 + foldPlace f) ≡ true
+unfolding usesK
+window-value wsum = refl
+window-value wmin = refl
+window-value wmax = refl
+
 -- the group of an equation's number, by the shape of the equation
 pub group-of : (e : Eqn) → groupOf (numberOf e) ≡ eqnGroup e
 unfolding groupOf numberOf
@@ -108,6 +132,7 @@ group-of (two g a b) = two-group g
 group-of (last a b) = refl
 group-of (delay a b) = refl
 group-of (signal g a b) = signal-group g
+group-of (window f k a) = window-group f
 
 pub in-of : (e : Eqn) → isIn (groupOf (numberOf e)) ≡ isInput e
 in-of e = ap isIn (group-of e) ∙ shape e
@@ -121,6 +146,7 @@ in-of e = ap isIn (group-of e) ∙ shape e
     shape (last a b) = refl
     shape (delay a b) = refl
     shape (signal g a b) = refl
+    shape (window f k a) = refl
 
 -- and its arguments
 pub arguments-of : (e : Eqn) → argumentsOf (groupOf (numberOf e)) (argA e) (argB e) ≡ arguments e
@@ -135,6 +161,7 @@ arguments-of e = ap (λ g. argumentsOf g (argA e) (argB e)) (group-of e) ∙ sha
     shape (last a b) = refl
     shape (delay a b) = refl
     shape (signal g a b) = refl
+    shape (window f k a) = refl
 
 -- ---- from an equation to its row
 
@@ -154,6 +181,7 @@ number-range (two merge a b) = (lit≤ tt, lit≤ tt)
 number-range (last a b) = (lit≤ tt, lit≤ tt)
 number-range (delay a b) = (lit≤ tt, lit≤ tt)
 number-range (signal g a b) = let r = calc-place g in (omega arith, omega arith)
+number-range (window f k a) = let r = fold-place f in (omega arith, omega arith)
 
 -- the rows of the calculations, and of their signal forms, by the calculation's place
 module _ (a b : ℕ) (k : ℤ) (p : ℕ) (h : p ≤ 7) where
@@ -164,6 +192,11 @@ module _ (a b : ℕ) (k : ℤ) (p : ℕ) (h : p ≤ 7) where
   pub signal-row : eqnOf (20 + p) a b k ≡ signal (getD calcs p add) a b
   unfolding eqnOf
   signal-row = agree (λ p. eqnOf (20 + p) a b k) (λ p. signal (getD calcs p add) a b) 0 8 refl p (omega arith) (omega arith)
+
+-- the rows of the windows, by their place
+pub window-row : (a b : ℕ) (k : ℤ) (p : ℕ) → p ≤ 2 → eqnOf (28 + p) a b k ≡ window (getD folds p wsum) k a
+unfolding eqnOf
+window-row a b k p h = agree (λ p. eqnOf (28 + p) a b k) (λ p. window (getD folds p wsum) k a) 0 3 refl p (omega arith) (omega arith)
 
 -- every equation is its number with its fields: the row of its number makes it again
 pub eqn-back : (e : Eqn) → eqnOf (numberOf e) (argA e) (argB e) (valueOf e) ≡ e
@@ -181,16 +214,17 @@ eqn-back (two merge a b) = refl
 eqn-back (last a b) = refl
 eqn-back (delay a b) = refl
 eqn-back (signal g a b) = signal-row a b (pos 0) (calcPlace g) (calc-place g) ∙ ap (λ c. signal c a b) (calc-placed g)
+eqn-back (window f k a) = window-row a 0 k (foldPlace f) (fold-place f) ∙ ap (λ g. window g k a) (fold-placed f)
 
 -- ---- from a row to its equation
 
 -- a test of rows that just the numbers from lo to hi pass
-by-range : (f : Operator → Bool) (lo hi : ℕ) → hi ≤ operatorCount → f noOperator ≡ false → listed (λ n. f (getD operators n noOperator)) 0 28 ≡ listed (λ n. leb lo n && leb n hi) 0 28
+by-range : (f : Operator → Bool) (lo hi : ℕ) → hi ≤ operatorCount → f noOperator ≡ false → listed (λ n. f (getD operators n noOperator)) 0 31 ≡ listed (λ n. leb lo n && leb n hi) 0 31
     → (n : ℕ) → f (getD operators n noOperator) ≡ (leb lo n && leb n hi)
 by-range f lo hi t d e n = go (leb n operatorCount) refl
   where
     go : (b : Bool) → leb n operatorCount ≡ b → f (getD operators n noOperator) ≡ (leb lo n && leb n hi)
-    go true q = let h = leb-true n operatorCount q in agree (λ m. f (getD operators m noOperator)) (λ m. leb lo m && leb m hi) 0 28 e n (omega arith) (omega arith)
+    go true q = let h = leb-true n operatorCount q in agree (λ m. f (getD operators m noOperator)) (λ m. leb lo m && leb m hi) 0 31 e n (omega arith) (omega arith)
     go false q = let h = leb-false n operatorCount q in rw (none-above n h, d, lt-leb n hi (omega arith)) (sym (and-false (leb lo n)))
 
 -- a number is an operator's just where it is not above the table
@@ -206,11 +240,11 @@ pub operator-high : (n : ℕ) → isOperator n ≡ true → n ≤ operatorCount
 operator-high n e = leb-true n operatorCount (right (leb 1 n) (leb n operatorCount) (sym (operator-range n) ∙ e))
 
 -- one number alone passes a test of groups
-by-number : (f : Group → Bool) (m : ℕ) → m ≤ operatorCount → f Absent ≡ false → listed (λ n. f (groupOf n)) 0 28 ≡ listed (λ n. eqb n m) 0 28 → (n : ℕ) → f (groupOf n) ≡ eqb n m
+by-number : (f : Group → Bool) (m : ℕ) → m ≤ operatorCount → f Absent ≡ false → listed (λ n. f (groupOf n)) 0 31 ≡ listed (λ n. eqb n m) 0 31 → (n : ℕ) → f (groupOf n) ≡ eqb n m
 by-number f m t d e n = go (leb n operatorCount) refl
   where
     go : (b : Bool) → leb n operatorCount ≡ b → f (groupOf n) ≡ eqb n m
-    go true q = let h = leb-true n operatorCount q in agree (λ x. f (groupOf x)) (λ x. eqb x m) 0 28 e n (omega arith) (omega arith)
+    go true q = let h = leb-true n operatorCount q in agree (λ x. f (groupOf x)) (λ x. eqb x m) 0 31 e n (omega arith) (omega arith)
     go false q = let h = leb-false n operatorCount q in ap f (absent-above n h) ∙ d ∙ sym (ne-eqb n m (λ z. omega arith))
 
 pub in-number : (n : ℕ) → isIn (groupOf n) ≡ eqb n 1
@@ -221,10 +255,31 @@ in-number = by-number isIn 1 (lit≤ tt) refl refl
 abbrev pub hasOne : Group → Bool
 hasOne g = takesFirst g && not (takesSecond g)
 
--- set and plus
-pub value-range : (n : ℕ) → usesK n ≡ (leb 5 n && leb n 6)
+pub window-range : (n : ℕ) → isWindow (groupOf n) ≡ (leb 28 n && leb n 30)
+unfolding groupOf
+window-range = by-range (λ o. isWindow (o .group)) 28 30 (lit≤ tt) refl refl
+
+-- set and plus, and the windows
+pub value-range : (n : ℕ) → (usesK n && not (isWindow (groupOf n))) ≡ (leb 5 n && leb n 6)
+unfolding usesK groupOf
+value-range = by-range (λ o. o .value && not (isWindow (o .group))) 5 6 (lit≤ tt) refl refl
+
+pub window-uses : (n : ℕ) → (usesK n || isWindow (groupOf n)) ≡ usesK n
+unfolding usesK groupOf
+window-uses = by-row (λ o. o .value || isWindow (o .group)) (λ o. o .value) refl refl
+
+pub value-set : (n : ℕ) → 5 ≤ n → n ≤ 6 → true ≡ usesK n
 unfolding usesK
-value-range = by-range (λ o. o .value) 5 6 (lit≤ tt) refl refl
+value-set n l h = sym (agree usesK (λ m. true) 5 2 refl n l (omega arith))
+
+pub value-else : (n : ℕ) → (leb 5 n && leb n 6) ≡ false → isWindow (groupOf n) ≡ usesK n
+value-else n h = go (usesK n) (isWindow (groupOf n)) (value-range n ∙ h) (window-uses n)
+  where
+    go : (u w : Bool) → (u && not w) ≡ false → (u || w) ≡ u → w ≡ u
+    go true true e f = refl
+    go true false e f = sym e
+    go false true e f = f
+    go false false e f = refl
 
 -- only an operator with one argument uses a value
 pub value-by-group : (n : ℕ) → usesK n ≡ (hasOne (groupOf n) && usesK n)
@@ -269,3 +324,7 @@ module _ (a b : ℕ) (k : ℤ) where
   pub signal-by-number : (n : ℕ) → isSignal (eqnGroup (eqnOf n a b k)) ≡ isSignal (groupOf n)
   unfolding eqnOf groupOf
   signal-by-number = by-row (λ o. isSignal (eqnGroup (o .eqn a b k))) (λ o. isSignal (o .group)) refl refl
+
+  pub window-by-number : (n : ℕ) → isWindow (eqnGroup (eqnOf n a b k)) ≡ isWindow (groupOf n)
+  unfolding eqnOf groupOf
+  window-by-number = by-row (λ o. isWindow (eqnGroup (o .eqn a b k))) (λ o. isWindow (o .group)) refl refl

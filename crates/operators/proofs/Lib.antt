@@ -4,3 +4,4 @@ pub mod Laws
 pub mod Sizes
 pub mod Rules
 pub mod Arms
+pub mod Widths

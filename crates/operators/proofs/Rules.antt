@@ -9,15 +9,15 @@ use lib.IntN.{ℤ, pos}
 use borrow.Author.Tests.{eqb-true, ltb-true, lt-ltb, eq-eqb}
 use mir.Syntax.{w64}
 use mir.Val.{toZ}
-use Rattle.meaning.specs.Plan.{time, neg, set, plus, Eqn, input, nil, unit, one, two, last, delay, signal, isInput}
+use Rattle.meaning.specs.Plan.{time, neg, set, plus, Eqn, input, nil, unit, one, two, last, delay, signal, window, isInput}
 use Rattle.meaning.specs.Arguments.{Argument, reads, undelayed, argA, argB, AllBelow}
 use Rattle.meaning.proofs.Within.{undelayed-read}
 use Rattle.operators.specs.Operators.{groupOf, isIn, takesFirst, takesSecond, argumentsOf, usesA, usesB, usesK, eqnGroup, eqnOf, numberOf, valueOf}
 use Rattle.operators.specs.Rules.{argOk, valueOk, outOk, fieldsOk}
 use Rattle.operators.specs.declared.Group.{Group}
-use Rattle.operators.specs.declared.Group.the-variants.{Absent, Input, Plain, One, Two, Last, Delay, Signal}
+use Rattle.operators.specs.declared.Group.the-variants.{Absent, Input, Plain, One, Two, Last, Delay, Signal, Window}
 use Rattle.operators.proofs.Tests.{left, right}
-use Rattle.operators.proofs.Laws.{two-value, signal-value, group-of, first-back, second-back, value-back, arguments-by-number, input-by-number}
+use Rattle.operators.proofs.Laws.{two-value, signal-value, window-value, group-of, first-back, second-back, value-back, arguments-by-number, input-by-number}
 
 -- ---- one field
 
@@ -47,6 +47,7 @@ in-only Two out e = refl
 in-only Last out e = refl
 in-only Delay out e = refl
 in-only Signal out e = refl
+in-only Window out e = refl
 
 -- the arguments of a group, each below n
 below-in : (n a b : ℕ) (g : Group) → argOk (takesFirst g) n a ≡ true → argOk (takesSecond g) n b ≡ true → AllBelow n (map (λ x. x .stream) (argumentsOf g a b))
@@ -58,6 +59,7 @@ below-in n a b Two p q = (ltb-true a n p, (ltb-true b n q, tt))
 below-in n a b Last p q = (ltb-true a n p, (ltb-true b n q, tt))
 below-in n a b Delay p q = (ltb-true a n p, (ltb-true b n q, tt))
 below-in n a b Signal p q = (ltb-true a n p, (ltb-true b n q, tt))
+below-in n a b Window p q = (ltb-true a n p, tt)
 
 -- ---- fields that keep the rules
 
@@ -113,6 +115,7 @@ args-pass n (two g a b) h = (lt-ltb a n (h .0), lt-ltb b n (h .1 .0))
 args-pass n (last a b) h = (lt-ltb a n (h .0), lt-ltb b n (h .1 .0))
 args-pass n (delay a b) h = (lt-ltb a n (h .0), lt-ltb b n (h .1 .0))
 args-pass n (signal g a b) h = (lt-ltb a n (h .0), lt-ltb b n (h .1 .0))
+args-pass n (window f k a) h = (lt-ltb a n (h .0), refl)
 
 -- out is 0 or 1, and 0 of an input
 pub out-pass : (e : Eqn) (x : ℕ) → x < 2 → (T (isInput e) → x ≡ 0) → outOk (eqnGroup e) x ≡ true
@@ -124,6 +127,7 @@ out-pass (two g a b) x h z = lt-ltb x 2 h
 out-pass (last a b) x h z = lt-ltb x 2 h
 out-pass (delay a b) x h z = lt-ltb x 2 h
 out-pass (signal g a b) x h z = lt-ltb x 2 h
+out-pass (window f k a) x h z = lt-ltb x 2 h
 
 -- with the value written as a number by f
 module _ (f : ℤ → ℕ) (z : f (pos 0) ≡ 0) where
@@ -144,6 +148,7 @@ module _ (f : ℤ → ℕ) (z : f (pos 0) ≡ 0) where
   value-pass (last a b) = none-pass false
   value-pass (delay a b) = none-pass false
   value-pass (signal g a b) = rw (signal-value g) (none-pass false)
+  value-pass (window f k a) = rw (window-value f)
 
   pub fields-pass : (n : ℕ) (e : Eqn) (out : ℕ) → AllBelow n (reads e) → outOk (eqnGroup e) out ≡ true → fieldsOk n (numberOf e) (argA e) (argB e) (f (valueOf e)) out ≡ true
   unfolding fieldsOk

@@ -1,11 +1,11 @@
 -- What holds of a state of any size: its streams lie within it, and no size has more than the greatest capacity.
-use Prim.Native.Nat.{ℕ, _*_, _≤_}
+use Prim.Native.Nat.{ℕ, _+_, _*_, _<_, _≤_}
 use mathlib.Core.Path.{_≡_, refl}
 use mathlib.Core.Bool.{Bool, true, false, cond}
 use native.Mathlib.Omega.{arith}
 use lib.Dec.{eqb}
 use borrow.Author.Tests.{eqb-true}
-use Rattle.operators.specs.Limits.{stateLength, streamLimit, mostStreams, capacity}
+use Rattle.operators.specs.Limits.{stateLength, streamLimit, mostStreams, widthLimit, windowLimit, capacity}
 
 -- what holds of every size with its capacity holds of 0, and of each size that a state may have
 by-size : (P : ℕ → Type 0) → (size : ℕ) → P 0 → (size ≡ stateLength → P streamLimit) → P (capacity size)
@@ -21,3 +21,7 @@ capacity-fits size = by-size (λ (n : ℕ). n * 256 ≤ size) size (omega arith)
 
 pub capacity-few : (size : ℕ) → capacity size ≤ mostStreams
 capacity-few size = by-size (λ (n : ℕ). n ≤ mostStreams) size (omega arith) (λ e. omega arith)
+
+-- behind the records of a state lies room for the windows, 8 bytes for each value
+pub capacity-area : (size : ℕ) → 0 < capacity size → capacity size * 256 + windowLimit * widthLimit * 8 ≡ size
+capacity-area size = by-size (λ (n : ℕ). 0 < n → n * 256 + windowLimit * widthLimit * 8 ≡ size) size (λ h. absurd (omega arith)) (λ e h. omega arith)

@@ -19,6 +19,13 @@ capacity size = cond (eqb size stateLength) streamLimit 0
 abbrev pub mostStreams : ℕ
 mostStreams = streamLimit
 
+-- "a width outside 1 to 64 or a ninth window"
+abbrev pub widthLimit : ℕ
+widthLimit = 64
+
+abbrev pub windowLimit : ℕ
+windowLimit = 8
+
 -- "text longer than 2,048 bytes" is refused
 abbrev pub textLimit : ℕ
 textLimit = 2048

@@ -5,10 +5,10 @@ use mathlib.Core.Bool.{Bool, true, false}
 use mathlib.Core.List.{List, [], _∷_, _++_, map}
 use lib.ListN.{getD}
 use lib.IntN.{ℤ, pos}
-use Rattle.meaning.specs.Plan.{Unary, time, neg, set, plus, Calc, add, sub, mul, div, rem, lt, le, eq, Binary, calc, keep, merge, Eqn, input, nil, unit, one, two, last, delay, signal}
+use Rattle.meaning.specs.Plan.{Unary, time, neg, set, plus, Calc, add, sub, mul, div, rem, lt, le, eq, Binary, calc, keep, merge, Eqn, input, nil, unit, one, two, last, delay, signal, window, Fold, wsum, wmin, wmax}
 use Rattle.meaning.specs.Arguments.{Argument, prompt, late}
 use Rattle.operators.specs.declared.Group.{Group}
-use Rattle.operators.specs.declared.Group.the-variants.{Absent, Input, Plain, One, Two, Last, Delay, Signal}
+use Rattle.operators.specs.declared.Group.the-variants.{Absent, Input, Plain, One, Two, Last, Delay, Signal, Window}
 
 -- An operator: its name in bytes, its group, whether it uses a value k, and its equation with the arguments a and b and the value k.
 -- "In the engine a stream is its operator with just the arguments which that operator uses."
@@ -58,10 +58,30 @@ calcRow g = operator (calcName g) Two false (λ a b k. two (calc g) a b)
 abbrev pub signalRow : Calc → Operator
 signalRow g = operator (115 ∷ calcName g) Signal false (λ a b k. signal g a b)
 
+-- ---- the windows, in the order of their numbers
+
+abbrev pub folds : List Fold
+folds = wsum ∷ wmin ∷ wmax ∷ []
+
+abbrev pub foldName : Fold → List ℕ
+foldName wsum = 119 ∷ 115 ∷ 117 ∷ 109 ∷ []
+foldName wmin = 119 ∷ 109 ∷ 105 ∷ 110 ∷ []
+foldName wmax = 119 ∷ 109 ∷ 97 ∷ 120 ∷ []
+
+-- the place of a window's operator in that list
+abbrev pub foldPlace : Fold → ℕ
+foldPlace wsum = 0
+foldPlace wmin = 1
+foldPlace wmax = 2
+
+-- "wsum, wmin and wmax with a and k"
+abbrev pub windowRow : Fold → Operator
+windowRow f = operator (foldName f) Window true (λ a b k. window f k a)
+
 -- ---- the table
 
--- "The op line names one of nineteen operators", and eight signal forms come to them. The stored number is the place in this
--- list; place 0 is no operator.
+-- "The op line names one of nineteen operators", and eight signal forms and three windows come to them. The stored number is
+-- the place in this list; place 0 is no operator.
 abbrev pub operators : List Operator
 operators =
     noOperator
@@ -77,11 +97,12 @@ operators =
     ∷ operator (109 ∷ 101 ∷ 114 ∷ 103 ∷ 101 ∷ []) Two false (λ a b k. two merge a b)  -- 17 merge
     ∷ operator (108 ∷ 97 ∷ 115 ∷ 116 ∷ []) Last false (λ a b k. last a b)  -- 18 last
     ∷ operator (100 ∷ 101 ∷ 108 ∷ 97 ∷ 121 ∷ []) Delay false (λ a b k. delay a b)  -- 19 delay
-    ∷ map signalRow calcs))  -- 20 sadd to 27 seq
+    ∷ (map signalRow calcs  -- 20 sadd to 27 seq
+    ++ map windowRow folds)))  -- 28 wsum to 30 wmax
 
 -- how many operators there are, and so the greatest stored number
 abbrev pub operatorCount : ℕ
-operatorCount = 27
+operatorCount = 30
 
 unfoldable pub nameOf : ℕ → List ℕ
 nameOf n = getD operators n noOperator .name
@@ -89,7 +110,7 @@ nameOf n = getD operators n noOperator .name
 unfoldable pub groupOf : ℕ → Group
 groupOf n = getD operators n noOperator .group
 
--- set and plus
+-- set, plus and the windows
 unfoldable pub usesK : ℕ → Bool
 usesK n = getD operators n noOperator .value
 
@@ -108,6 +129,7 @@ isPresent Two = true
 isPresent Last = true
 isPresent Delay = true
 isPresent Signal = true
+isPresent Window = true
 
 abbrev pub isIn : Group → Bool
 isIn Absent = false
@@ -118,6 +140,7 @@ isIn Two = false
 isIn Last = false
 isIn Delay = false
 isIn Signal = false
+isIn Window = false
 
 abbrev pub isLast : Group → Bool
 isLast Absent = false
@@ -128,6 +151,7 @@ isLast Two = false
 isLast Last = true
 isLast Delay = false
 isLast Signal = false
+isLast Window = false
 
 abbrev pub isDelay : Group → Bool
 isDelay Absent = false
@@ -138,6 +162,7 @@ isDelay Two = false
 isDelay Last = false
 isDelay Delay = true
 isDelay Signal = false
+isDelay Window = false
 
 abbrev pub isSignal : Group → Bool
 isSignal Absent = false
@@ -148,6 +173,18 @@ isSignal Two = false
 isSignal Last = false
 isSignal Delay = false
 isSignal Signal = true
+isSignal Window = false
+
+abbrev pub isWindow : Group → Bool
+isWindow Absent = false
+isWindow Input = false
+isWindow Plain = false
+isWindow One = false
+isWindow Two = false
+isWindow Last = false
+isWindow Delay = false
+isWindow Signal = false
+isWindow Window = true
 
 abbrev pub takesFirst : Group → Bool
 takesFirst Absent = false
@@ -158,6 +195,7 @@ takesFirst Two = true
 takesFirst Last = true
 takesFirst Delay = true
 takesFirst Signal = true
+takesFirst Window = true
 
 abbrev pub takesSecond : Group → Bool
 takesSecond Absent = false
@@ -168,6 +206,7 @@ takesSecond Two = true
 takesSecond Last = true
 takesSecond Delay = true
 takesSecond Signal = true
+takesSecond Window = false
 
 -- the first argument of a last or a delay is delayed
 abbrev pub delaysFirst : Group → Bool
@@ -179,6 +218,7 @@ delaysFirst Two = false
 delaysFirst Last = true
 delaysFirst Delay = true
 delaysFirst Signal = false
+delaysFirst Window = false
 
 -- the arguments that an operator of the group makes of a and b
 abbrev pub argumentsOf : Group → ℕ → ℕ → List Argument
@@ -190,6 +230,7 @@ argumentsOf Two a b = prompt a ∷ prompt b ∷ []
 argumentsOf Last a b = late a ∷ prompt b ∷ []
 argumentsOf Delay a b = late a ∷ prompt b ∷ []
 argumentsOf Signal a b = prompt a ∷ prompt b ∷ []
+argumentsOf Window a b = prompt a ∷ []
 
 abbrev pub isOperator : ℕ → Bool
 isOperator n = isPresent (groupOf n)
@@ -214,6 +255,7 @@ eqnGroup (two g a b) = Two
 eqnGroup (last a b) = Last
 eqnGroup (delay a b) = Delay
 eqnGroup (signal c a b) = Signal
+eqnGroup (window f k a) = Window
 
 abbrev pub unaryNumber : Unary → ℕ
 unaryNumber time = 4
@@ -235,6 +277,7 @@ numberOf (two g a b) = binaryNumber g
 numberOf (last a b) = 18
 numberOf (delay a b) = 19
 numberOf (signal c a b) = 20 + calcPlace c
+numberOf (window f k a) = 28 + foldPlace f
 
 abbrev pub unaryValue : Unary → ℤ
 unaryValue time = pos 0
@@ -251,3 +294,4 @@ valueOf (two g a b) = pos 0
 valueOf (last a b) = pos 0
 valueOf (delay a b) = pos 0
 valueOf (signal c a b) = pos 0
+valueOf (window f k a) = k

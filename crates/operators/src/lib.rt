@@ -2,9 +2,10 @@
 ghost use mathlib.Core.Path.{_≡_};
 ghost use mathlib.Core.Bool.{_&&_};
 ghost use lib.Dec.{eqb, ltb};
-ghost use Rattle.operators.specs.Limits.{stateLength, streamLimit, mostStreams, textLimit, capacity, countFits};
-ghost use Rattle.operators.specs.Operators.{groupOf, usesK, isPresent, isIn, takesFirst, takesSecond, delaysFirst};
+ghost use Rattle.operators.specs.Limits.{stateLength, streamLimit, mostStreams, widthLimit, windowLimit, textLimit, capacity, countFits};
+ghost use Rattle.operators.specs.Operators.{groupOf, usesK, isPresent, isIn, isWindow, takesFirst, takesSecond, delaysFirst};
 ghost use Rattle.operators.specs.Rules.{valueOk, fieldsOk};
+ghost use Rattle.operators.specs.Windows.{widthOk};
 
 // What the stored number of an operator says of its arguments.
 pub enum Group {
@@ -24,6 +25,8 @@ pub enum Group {
     Delay,
     // sadd to seq: two arguments.
     Signal,
+    // wsum to wmax: one argument, and a value.
+    Window,
 }
 
 // The group of a stored number: the code's one table of operators.
@@ -43,18 +46,42 @@ pub fn group_of(number: u64) -> Group
             _ => Group::Delay,
         },
         20..=27 => Group::Signal,
+        28..=30 => Group::Window,
         _ => Group::Absent,
     }
 }
 
-// set, plus
+// wsum, wmin, wmax
+pub fn is_window(number: u64) -> bool
+    ensures { λ r. ⌜ r ≡ isWindow (groupOf number) ⌝ }
+{
+    match number {
+        28..=30 => true,
+        _ => false,
+    }
+}
+
+// set, plus, and the windows
 pub fn takes_value(number: u64) -> bool
     ensures { λ r. ⌜ r ≡ usesK number ⌝ }
 {
     match number {
         5..=6 => true,
-        _ => false,
+        _ => is_window(number),
     }
+}
+
+// Whether the width k of a window keeps its rule; of any other operator there is none.
+pub fn width_ok(number: u64, k: u64) -> bool
+    ensures { λ r. ⌜ r ≡ widthOk number k ⌝ }
+{
+    if !is_window(number) {
+        return true;
+    }
+    if k == 0 {
+        return false;
+    }
+    k <= Plan::WIDTH
 }
 
 pub fn is_present(g: Group) -> bool
@@ -69,6 +96,7 @@ pub fn is_present(g: Group) -> bool
         Group::Last => true,
         Group::Delay => true,
         Group::Signal => true,
+        Group::Window => true,
     }
 }
 
@@ -84,6 +112,7 @@ pub fn is_in(g: Group) -> bool
         Group::Last => false,
         Group::Delay => false,
         Group::Signal => false,
+        Group::Window => false,
     }
 }
 
@@ -99,6 +128,7 @@ pub fn takes_first(g: Group) -> bool
         Group::Last => true,
         Group::Delay => true,
         Group::Signal => true,
+        Group::Window => true,
     }
 }
 
@@ -114,6 +144,7 @@ pub fn takes_second(g: Group) -> bool
         Group::Last => true,
         Group::Delay => true,
         Group::Signal => true,
+        Group::Window => false,
     }
 }
 
@@ -129,6 +160,7 @@ pub fn delays_first(g: Group) -> bool
         Group::Last => true,
         Group::Delay => true,
         Group::Signal => false,
+        Group::Window => false,
     }
 }
 
@@ -194,7 +226,7 @@ pub fn fields_ok(n: u64, op: u64, a: u64, b: u64, k: u64, out: u64) -> bool
     match group_of(op) {
         Group::Input => none_ok(a, b, k, out == 0),
         Group::Absent | Group::Plain => none_ok(a, b, k, out < 2),
-        Group::One => one_ok(n, op, a, b, k, out < 2),
+        Group::One | Group::Window => one_ok(n, op, a, b, k, out < 2),
         Group::Two | Group::Last | Group::Delay | Group::Signal => two_ok(n, a, b, k, out < 2),
     }
 }
@@ -211,6 +243,10 @@ impl Plan {
     pub const STREAMS: usize = 32;
     // The most streams a plan of any state has.
     pub const MOST: usize = Self::STREAMS;
+    // The greatest width of a window, and the most windows a plan has.
+    pub const WIDTH: u64 = 64;
+
+    pub const WINDOWS: u64 = 8;
     // The most bytes a plan's text has.
     pub const TEXT: usize = 2048;
 
@@ -241,6 +277,7 @@ impl Plan {
     // The limits are those of the definitions.
     pub fn limit() -> Self
         ensures { λ r. do ⌜ (r .streams ≡ mostStreams) × ((← ⟦Plan::STATE⟧ .entry) ≡ stateLength) × ((← ⟦Plan::STREAMS⟧ .entry) ≡ streamLimit) × ((← ⟦Plan::MOST⟧ .entry) ≡ mostStreams) × ((← ⟦Plan::TEXT⟧ .entry) ≡ textLimit) ⌝ }
+        ensures { λ r. do ⌜ ((← ⟦Plan::WIDTH⟧ .entry) ≡ widthLimit) × ((← ⟦Plan::WINDOWS⟧ .entry) ≡ windowLimit) ⌝ }
     {
         Self::new(Self::MOST)
     }

@@ -10,7 +10,8 @@ use Rattle.operators.specs.Operators.{groupOf, usesK, eqnOf}
 use Rattle.operators.specs.Rules.{fieldsOk}
 use Rattle.lines.specs.Form.{skip, field, ended, whole, scan, valueLine, signed, outLine}
 use Rattle.text.specs.Grammar.{head, stream, opLine, named, nameAt, numberNamed, place, fieldsAfter}
-use Rattle.plan.specs.Rules.{allKeep, streams, planFrom, numberAfter, number, declared}
+use Rattle.operators.specs.Windows.{widthOk, windows}
+use Rattle.plan.specs.Rules.{allKeep, streams, planFrom, numberAfter, number, declared, allWidths, windowsOk}
 use Rattle.machine.specs.State.{Declared}
 use Rattle.runs.specs.Demand3.{IsInput}
 use Rattle.engine.specs.Load.{loadReply}
@@ -58,7 +59,7 @@ too-far o = let z = o .3 .2 1 input-1 in omega arith
 -- ## The texts
 
 case-number : number 32 Cases.plan ≡ 0
-unfolding number head skip field ended whole scan numberAfter streams stream opLine named nameAt numberNamed place fieldsAfter valueLine signed outLine allKeep planFrom acyclic fieldsOk groupOf usesK eqnOf
+unfolding number head skip field ended whole scan numberAfter streams stream opLine named nameAt numberNamed place fieldsAfter valueLine signed outLine allKeep allWidths windowsOk widthOk windows planFrom acyclic fieldsOk groupOf usesK eqnOf
 case-number = refl
 
 case-declared : declared 32 Cases.plan ≡ Cases.streams

@@ -1,4 +1,5 @@
 pub mod Forms
+pub mod Weights
 pub mod Pass
 pub mod Noted
 pub mod Decide

@@ -8,20 +8,22 @@ use lib.Dec.{T, eqb, lit<, lit≤}
 use lib.IntN.{ℤ, pos, negsuc}
 use lib.Signed.{mag}
 use lib.ListN.{length, drop, length-map, length-append, length-drop}
-use borrow.Author.Tests.{le-ltb, eq-eqb}
+use borrow.Author.Tests.{le-leb, le-ltb, eq-eqb}
 use mir.Syntax.{w64}
-use mir.Val.{toZ}
+use mir.Val.{toZ, ofZ}
 use mir.Facts.{toZ-pos, toZ-neg}
-use Rattle.meaning.specs.Plan.{Eqn, input, nil, unit, one, two, last, delay, signal, eqnAt, isInput}
+use Rattle.meaning.specs.Plan.{Eqn, input, nil, unit, one, two, last, delay, signal, window, eqnAt, isInput}
 use Rattle.meaning.specs.Arguments.{reads, argA, argB, AllBelow}
 use Rattle.meaning.specs.CycleTest.{acyclic}
 use Rattle.meaning.proofs.Within.{reads-within}
 use Rattle.meaning.proofs.CycleTest.{test-complete}
 use Rattle.machine.specs.State.{Declared, declaredPlan}
 use Rattle.operators.specs.Operators.{nameOf, eqnOf, numberOf, valueOf}
-use Rattle.operators.specs.Limits.{mostStreams, textLimit}
+use Rattle.operators.specs.Limits.{mostStreams, windowLimit, textLimit}
+use Rattle.operators.specs.Windows.{widthOk, IsWidth, windows}
 use Rattle.operators.proofs.Rules.{out-pass, fields-pass}
 use Rattle.operators.proofs.Laws.{eqn-back, number-range}
+use Rattle.operators.proofs.Widths.{width-pass}
 use Rattle.text.specs.declared.Fields.{Fields}
 use Rattle.text.specs.declared.Lines.the-variants as Lines
 use Rattle.text.specs.declared.Head.{Head}
@@ -33,7 +35,7 @@ use Rattle.render.specs.Render.{bitText, line, streamText, declaredText, allTex
 use Rattle.decimal.proofs.Digits.{digits-few}
 use Rattle.render.proofs.Streams.{bitsOf, outOf, name-short, stream-written}
 use Rattle.render.proofs.Heads.{head-written}
-use Rattle.plan.specs.Rules.{keeps, allKeep, formed, streams, declaredFrom, planFrom, numberAfter, number, declared}
+use Rattle.plan.specs.Rules.{keeps, allKeep, formed, streams, declaredFrom, planFrom, allWidths, windowsOk, numberAfter, number, declared}
 use Rattle.plan.specs.Taken.{StreamKeeps, Each, KeepsRules}
 use Rattle.plan.proofs.Pass.{put-streams}
 
@@ -48,6 +50,7 @@ first-small n (two g a c) b h = omega arith
 first-small n (last a c) b h = omega arith
 first-small n (delay a c) b h = omega arith
 first-small n (signal g a c) b h = omega arith
+first-small n (window f k a) b h = omega arith
 
 second-small : (n : ℕ) (e : Eqn) → AllBelow n (reads e) → n ≤ mostStreams → argB e < 10 ^ 3
 second-small n input b h = lit< tt
@@ -58,6 +61,7 @@ second-small n (two g a c) b h = omega arith
 second-small n (last a c) b h = omega arith
 second-small n (delay a c) b h = omega arith
 second-small n (signal g a c) b h = omega arith
+second-small n (window f k a) b h = lit< tt
 
 -- the fields that a stream is written with
 abbrev fieldsOf : Declared → ℕ → Fields
@@ -90,9 +94,17 @@ no-bit false o e t = absurd t
 keeps-written : (n : ℕ) (e : Eqn) (o : Bool) (p : ℕ) → AllBelow n (reads e) → (isInput e && o) ≡ false → keeps n (fieldsOf (record { eqn = e; out = o }) p) ≡ true
 keeps-written n e o p b h = fields-pass bitsOf refl n e (outOf o) b (out-pass e (outOf o) (bit-below o) (no-bit (isInput e) o h))
 
+-- and a window's width is one
+bits-are : (k : ℤ) → ofZ w64 k ≡ bitsOf k
+bits-are (pos n) = refl
+bits-are (negsuc n) = refl
+
+width-written : (e : Eqn) → IsWidth e → widthOk (numberOf e) (bitsOf (valueOf e)) ≡ true
+width-written e h = ap (widthOk (numberOf e)) (sym (bits-are (valueOf e))) ∙ width-pass e h
+
 -- ## All streams
 
--- what reading the streams' text gives: fields that declare the plan and keep rule 5
+-- what reading the streams' text gives: fields that declare the plan, keep rule 5 and have good widths
 pub record Read (s : List ℕ) (at n : ℕ) (ds : List Declared) (r : List ℕ) : Type 0 where
   pub fields : List Fields
   pub end : ℕ
@@ -101,6 +113,7 @@ pub record Read (s : List ℕ) (at n : ℕ) (ds : List Declared) (r : List ℕ) 
   pub within : end ≤ length s
   pub declare : map declaredFrom fields ≡ ds
   pub kept : allKeep n fields ≡ true
+  pub widths : allWidths fields ≡ true
 
 append-middle : (d : Declared) (ds : List Declared) (r : List ℕ) → allText (d ∷ ds) ++ r ≡ declaredText d ++ (allText ds ++ r)
 unfolding allText
@@ -122,6 +135,14 @@ more-keep : (n : ℕ) (f : Fields) (fs : List Fields) → keeps n f ≡ true →
 unfolding allKeep
 more-keep n f fs e g = rw (e, g)
 
+no-widths : allWidths [] ≡ true
+unfolding allWidths
+no-widths = refl
+
+more-widths : (f : Fields) (fs : List Fields) → widthOk (f .op) (f .k) ≡ true → allWidths fs ≡ true → allWidths (f ∷ fs) ≡ true
+unfolding allWidths
+more-widths f fs e g = rw (e, g)
+
 stream-text : (s : List ℕ) (at : ℕ) (d : Declared) (r : List ℕ) (n : ℕ) → StreamKeeps n d → n ≤ mostStreams → drop at s ≡ declaredText d ++ r → (p : ℕ) × (stream s at ≡ Lines.Stream (fieldsOf d p)) × (drop p s ≡ r) × (p ≤ length s)
 unfolding declaredText
 stream-text s at d r n k h e =
@@ -129,7 +150,7 @@ stream-text s at d r n k h e =
     (number-range (d .eqn) .0) (number-range (d .eqn) .1) (first-small n (d .eqn) (k .arguments) h) (second-small n (d .eqn) (k .arguments) h) (k .value) e
 
 pub streams-written : (s : List ℕ) (n : ℕ) → n ≤ mostStreams → (ds : List Declared) → Each n ds → (at : ℕ) (r : List ℕ) → at ≤ length s → drop at s ≡ allText ds ++ r → Read s at n ds r
-streams-written s n h [] k at r l e = record { fields = []; end = at; found = no-streams s at; behind = e ∙ no-text r; within = l; declare = refl; kept = none-keep n }
+streams-written s n h [] k at r l e = record { fields = []; end = at; found = no-streams s at; behind = e ∙ no-text r; within = l; declare = refl; kept = none-keep n; widths = no-widths }
 streams-written s n h (d ∷ ds) k at r l e =
     let t = stream-text s at d (allText ds ++ r) n (k .0) h (e ∙ append-middle d ds r) in
     let f = fieldsOf d (t .0) in
@@ -142,6 +163,7 @@ streams-written s n h (d ∷ ds) k at r l e =
       within = w .within;
       declare = λ i. fields-declare d (t .0) (k .0 .value) i ∷ w .declare i;
       kept = more-keep n f (w .fields) (keeps-written n (d .eqn) (d .out) (t .0) (k .0 .arguments) (k .0 .output)) (w .kept);
+      widths = more-widths f (w .fields) (width-written (d .eqn) (k .0 .width)) (w .widths);
     }
 
 -- ## The length
@@ -206,6 +228,12 @@ test-passes cap ds k =
     (reads-within (declaredPlan ds) (λ s l. rw (plan-length ds) (arguments-at (length ds) ds s (k .each))))
     (rw (plan-length ds) (k .few))
 
+-- ## Rule 18
+
+pub windows-pass : (fs : List Fields) → allWidths fs ≡ true → windows (planFrom fs) ≤ windowLimit → windowsOk fs ≡ true
+unfolding windowsOk
+windows-pass fs e h = rw (e, le-leb (windows (planFrom fs)) windowLimit h)
+
 -- ## The whole text
 
 pub same-plan : (fs : List Fields) → planFrom fs ≡ declaredPlan (map declaredFrom fs)
@@ -213,9 +241,9 @@ unfolding planFrom
 same-plan [] = refl
 same-plan (f ∷ fs) = ap (λ (l : List Eqn). (declaredFrom f .eqn) ∷ l) (same-plan fs)
 
-numbered : (cap : ℕ) (s : List ℕ) (n at : ℕ) (fs : List Fields) (end : ℕ) → length s ≤ textLimit → head cap s ≡ Head.Streams n at → streams s at n ≡ formed fs end → end ≡ length s → allKeep n fs ≡ true → acyclic cap (planFrom fs) ≡ true → number cap s ≡ 0
+numbered : (cap : ℕ) (s : List ℕ) (n at : ℕ) (fs : List Fields) (end : ℕ) → length s ≤ textLimit → head cap s ≡ Head.Streams n at → streams s at n ≡ formed fs end → end ≡ length s → allKeep n fs ≡ true → windowsOk fs ≡ true → acyclic cap (planFrom fs) ≡ true → number cap s ≡ 0
 unfolding number numberAfter
-numbered cap s n at fs end l h e q k c = rw (le-ltb textLimit (length s) l, h, e, eq-eqb end (length s) q, k, c)
+numbered cap s n at fs end l h e q k w c = rw (le-ltb textLimit (length s) l, h, e, eq-eqb end (length s) q, k, w, c)
 
 read-back : (cap : ℕ) (s : List ℕ) (n at : ℕ) (fs : List Fields) (end : ℕ) → head cap s ≡ Head.Streams n at → streams s at n ≡ formed fs end → declared cap s ≡ map declaredFrom fs
 unfolding declared
@@ -239,7 +267,8 @@ render-taken cap c ds k =
     let h = head-written cap s n (allText ds) (k .few) (omega arith) (no-lines ds) (rendered ds) in
     let w = streams-written s n few ds (k .each) (h .0) [] (h .3) (h .2 ∙ sym (append-nil (allText ds))) in
     let z : length s - w .end ≡ 0 = sym (length-drop (w .end) s) ∙ ap length (w .behind) in
-    let end : w .end ≡ length s = omega (arith, w .within) in (
-      numbered cap s n (h .0) (w .fields) (w .end) (render-short cap c ds k) (h .1) (w .found) end (w .kept) (ap (acyclic cap) (same-plan (w .fields) ∙ ap declaredPlan (w .declare)) ∙ test-passes cap ds k),
+    let end : w .end ≡ length s = omega (arith, w .within) in
+    let plan : planFrom (w .fields) ≡ declaredPlan ds = same-plan (w .fields) ∙ ap declaredPlan (w .declare) in (
+      numbered cap s n (h .0) (w .fields) (w .end) (render-short cap c ds k) (h .1) (w .found) end (w .kept) (windows-pass (w .fields) (w .widths) (rw plan (k .fewWindows))) (ap (acyclic cap) plan ∙ test-passes cap ds k),
       read-back cap s n (h .0) (w .fields) (w .end) (h .1) (w .found) ∙ w .declare,
     )

@@ -5,21 +5,24 @@ use mathlib.Core.Logic.{_↔_}
 use mathlib.Core.Bool.{Bool, true, false, cond}
 use mathlib.Core.List.{List, [], _∷_, _++_, append-assoc, append-nil, map}
 use native.Mathlib.Omega.{arith}
-use lib.Dec.{eqb, ltb}
+use lib.Dec.{eqb, ltb, leb}
 use lib.ListN.{length, drop, length-map}
 use lib.Seq.{drop-length}
-use borrow.Author.Tests.{eqb-true}
+use borrow.Author.Tests.{eqb-true, leb-true}
 use mir.Syntax.{w64}
 use mir.Val.{toZ}
 use mir.Facts.{sfits-toZ}
+use Rattle.meaning.specs.Plan.{Plan}
 use Rattle.meaning.specs.Arguments.{argA, argB}
 use Rattle.meaning.specs.Cycle.{Acyclic}
 use Rattle.meaning.specs.CycleTest.{acyclic}
 use Rattle.meaning.proofs.CycleTest.{test-sound}
 use Rattle.machine.specs.State.{Declared}
 use Rattle.operators.specs.Operators.{valueOf}
-use Rattle.operators.specs.Limits.{mostStreams, textLimit}
+use Rattle.operators.specs.Limits.{mostStreams, windowLimit, textLimit}
+use Rattle.operators.specs.Windows.{widthOk, windows}
 use Rattle.operators.proofs.Laws.{number-back}
+use Rattle.operators.proofs.Widths.{width-is}
 use Rattle.operators.proofs.Rules.{fields-first, fields-second, fields-value, fields-reads, fields-out}
 use Rattle.operators.proofs.Tests.{left, right}
 use Rattle.text.specs.declared.Fields.{Fields}
@@ -32,7 +35,7 @@ use Rattle.render.specs.Render.{streamText, declaredText, allText, opening, ren
 use Rattle.render.proofs.Ranges.{stream-refused}
 use Rattle.render.proofs.Back.{stream-read}
 use Rattle.render.proofs.Heads.{head-fits, head-read, head-refused}
-use Rattle.plan.specs.Rules.{keeps, allKeep, Form, refused, formed, put, others, streams, eqnFrom, declaredFrom, planFrom, numberAfter, numberOfHead, number, declared}
+use Rattle.plan.specs.Rules.{keeps, allKeep, Form, refused, formed, put, others, streams, eqnFrom, declaredFrom, planFrom, allWidths, windowsOk, numberAfter, numberOfHead, number, declared}
 use Rattle.plan.specs.Taken.{StreamKeeps, Each, KeepsRules}
 use Rattle.plan.proofs.Forms.{fieldsIn, endIn, refusalIn, clash}
 use Rattle.plan.proofs.Noted.{Sound, All, read-sound}
@@ -58,11 +61,12 @@ module _ (n : ℕ) (f : Fields) (h : Sound f) (e : keeps n f ≡ true) where
   unfolding declaredText
   same-text = sym (rw (number-back (f .a) (f .b) (toZ w64 (f .k)) (f .op) (h .0) (h .1), first-of, second-of, value-of))
 
-  stream-keeps : InRange f → StreamKeeps n (declaredFrom f)
-  stream-keeps r = record {
+  stream-keeps : InRange f → widthOk (f .op) (f .k) ≡ true → StreamKeeps n (declaredFrom f)
+  stream-keeps r w = record {
     arguments = fields-reads n (f .op) (f .a) (f .b) (f .k) (f .out) e (toZ w64 (f .k));
     value = rw value-of (sfits-toZ {w = w64} {n = f .k} (record { fits = r .0 }) .sfits);
     output = fields-out n (f .op) (f .a) (f .b) (f .k) (f .out) e (toZ w64 (f .k));
+    width = width-is (f .op) (f .a) (f .b) (f .k) w;
   }
 
 -- ## All streams
@@ -113,10 +117,23 @@ module _ (n : ℕ) where
   all-text [] h e = refl
   all-text (f ∷ fs) h e = rw (same-text n f (h .0) (left (keeps n f) (allKeep n fs) e), all-text fs (h .1) (right (keeps n f) (allKeep n fs) e))
 
-  each-keeps : (fs : List Fields) → All Sound fs → All InRange fs → allKeep n fs ≡ true → Each n (map declaredFrom fs)
-  unfolding allKeep
-  each-keeps [] h r e = tt
-  each-keeps (f ∷ fs) h r e = (stream-keeps n f (h .0) (left (keeps n f) (allKeep n fs) e) (r .0), each-keeps fs (h .1) (r .1) (right (keeps n f) (allKeep n fs) e))
+  each-keeps : (fs : List Fields) → All Sound fs → All InRange fs → allKeep n fs ≡ true → allWidths fs ≡ true → Each n (map declaredFrom fs)
+  unfolding allKeep allWidths
+  each-keeps [] h r e w = tt
+  each-keeps (f ∷ fs) h r e w = (
+    stream-keeps n f (h .0) (left (keeps n f) (allKeep n fs) e) (r .0) (left (widthOk (f .op) (f .k)) (allWidths fs) w),
+    each-keeps fs (h .1) (r .1) (right (keeps n f) (allKeep n fs) e) (right (widthOk (f .op) (f .k)) (allWidths fs) w),
+  )
+
+-- rule 18 kept: every width is one, and there are not too many windows
+module _ (fs : List Fields) (e : windowsOk fs ≡ true) where
+  good-widths : allWidths fs ≡ true
+  unfolding windowsOk
+  good-widths = left (allWidths fs) (leb (windows (planFrom fs)) windowLimit) e
+
+  few-windows : windows (planFrom fs) ≤ windowLimit
+  unfolding windowsOk
+  few-windows = leb-true (windows (planFrom fs)) windowLimit (right (allWidths fs) (leb (windows (planFrom fs)) windowLimit) e)
 
 -- ## The whole text
 
@@ -128,21 +145,23 @@ pub record Parts (cap : ℕ) (s : List ℕ) : Type 0 where
   pub opens : head cap s ≡ Head.Streams count start
   pub lists : streams s start count ≡ formed fields (length s)
   pub kept : allKeep count fields ≡ true
+  pub windowed : windowsOk fields ≡ true
   pub clear : acyclic cap (planFrom fields) ≡ true
 
 after-parts : (cap : ℕ) (s : List ℕ) (n at : ℕ) → head cap s ≡ Head.Streams n at → numberAfter cap s n (streams s at n) ≡ 0 → Parts cap s
 unfolding numberAfter
 after-parts cap s n at h e = by-form (streams s at n) refl e
   where
-    by-tests : (fs : List Fields) (end : ℕ) → streams s at n ≡ formed fs end → (x y z : Bool) → eqb end (length s) ≡ x → allKeep n fs ≡ y → acyclic cap (planFrom fs) ≡ z → _≡_ {A = ℕ} (cond x (cond y (cond z 0 6) 5) 2) 0 → Parts cap s
-    by-tests fs end q true true true a b c e = record { count = n; start = at; fields = fs; opens = h; lists = q ∙ ap (formed fs) (eqb-true end (length s) a); kept = b; clear = c }
-    by-tests fs end q true true false a b c e = absurd (omega arith)
-    by-tests fs end q true false z a b c e = absurd (omega arith)
-    by-tests fs end q false y z a b c e = absurd (omega arith)
+    by-tests : (fs : List Fields) (end : ℕ) → streams s at n ≡ formed fs end → (x y w z : Bool) → eqb end (length s) ≡ x → allKeep n fs ≡ y → windowsOk fs ≡ w → acyclic cap (planFrom fs) ≡ z → _≡_ {A = ℕ} (cond x (cond y (cond w (cond z 0 6) 18) 5) 2) 0 → Parts cap s
+    by-tests fs end q true true true true a b d c e = record { count = n; start = at; fields = fs; opens = h; lists = q ∙ ap (formed fs) (eqb-true end (length s) a); kept = b; windowed = d; clear = c }
+    by-tests fs end q true true true false a b d c e = absurd (omega arith)
+    by-tests fs end q true true false z a b d c e = absurd (omega arith)
+    by-tests fs end q true false w z a b d c e = absurd (omega arith)
+    by-tests fs end q false y w z a b d c e = absurd (omega arith)
 
     by-form : (x : Form) → streams s at n ≡ x → numberAfter cap s n x ≡ 0 → Parts cap s
     by-form (refused r) q e = absurd (streams-refused s n at (q ∙ ap refused e))
-    by-form (formed fs end) q e = by-tests fs end q (eqb end (length s)) (allKeep n fs) (acyclic cap (planFrom fs)) refl refl refl e
+    by-form (formed fs end) q e = by-tests fs end q (eqb end (length s)) (allKeep n fs) (windowsOk fs) (acyclic cap (planFrom fs)) refl refl refl refl e
 
 pub taken-parts : (cap : ℕ) (s : List ℕ) → number cap s ≡ 0 → Parts cap s
 unfolding number
@@ -180,7 +199,8 @@ taken-rendered cap s e =
       rendered ds n m ∙ ap (λ (l : List ℕ). opening n ++ l) (sym y) ∙ sym x,
       record {
         few = omega (arith, h, m);
-        each = subst (λ (i : ℕ). Each i ds) (sym m) (each-keeps n (p .fields) (r .0) (t .1) (p .kept));
+        each = subst (λ (i : ℕ). Each i ds) (sym m) (each-keeps n (p .fields) (r .0) (t .1) (p .kept) (good-widths (p .fields) (p .windowed)));
+        fewWindows = subst (λ (x : Plan). windows x ≤ windowLimit) (same-plan (p .fields)) (few-windows (p .fields) (p .windowed));
         clear = subst Acyclic (same-plan (p .fields)) (test-sound cap (planFrom (p .fields)) (p .clear));
       },
     )

@@ -6,15 +6,16 @@ use Prim.Native.Nat.{ℕ}
 use Prim.Native.String.{String, _++_}
 use lib.IntN.{pos, negsuc}
 use lib.ListN.{replicate}
-use Rattle.meaning.specs.Plan.{time, neg, set, plus, add, sub, mul, div, rem, lt, le, eq, calc, keep, merge, Eqn, input, nil, unit, one, two, last, delay, signal}
+use Rattle.meaning.specs.Plan.{time, neg, set, plus, add, sub, mul, div, rem, lt, le, eq, calc, keep, merge, Eqn, input, nil, unit, one, two, last, delay, signal, window, wsum, wmin, wmax}
 use Rattle.meaning.specs.CycleTest.{acyclic}
 use Rattle.machine.specs.State.{Declared}
 use Rattle.operators.specs.Operators.{groupOf, usesK, eqnOf}
 use Rattle.operators.specs.Rules.{fieldsOk}
+use Rattle.operators.specs.Windows.{widthOk, windows}
 use Rattle.lines.specs.Form.{skip, scan, whole, ended, field, signed, valueLine, outLine}
 use Rattle.text.specs.Grammar.{nameAt, place, numberNamed, named, opLine, fieldsAfter, stream, head}
 use Rattle.text.proofs.Worked.{bytes}
-use Rattle.plan.specs.Rules.{allKeep, streams, planFrom, numberAfter, number, declared}
+use Rattle.plan.specs.Rules.{allKeep, streams, planFrom, allWidths, windowsOk, numberAfter, number, declared}
 
 -- ---- texts
 
@@ -31,6 +32,17 @@ alone s = "plan=1\nstreams=1\n" ++ s
 
 abbrev pub pair : String → String
 pair s = "plan=1\nstreams=2\n" ++ s
+
+abbrev pub joined : List String → String
+joined [] = ""
+joined (t ∷ ts) = t ++ joined ts
+
+-- an input, and what reads it
+abbrev pub input-line : String
+input-line = "op=in\na=0\nb=0\nk=0\nout=0\n"
+
+abbrev pub windowed : String → String → String
+windowed op k = "op=" ++ (op ++ ("\na=0\nb=0\nk=" ++ (k ++ "\nout=0\n")))
 
 -- ---- what is refused, and with which number
 
@@ -62,6 +74,18 @@ rows =
     ∷ row (alone "op=in\na=0\nb=0\nk=0\nout=1\n") 5
     ∷ row (pair "op=in\na=0\nb=0\nk=0\nout=0\nop=slt\na=0\nb=0\nk=1\nout=0\n") 5
     ∷ row (pair "op=in\na=0\nb=0\nk=0\nout=0\nop=srem\na=0\nb=2\nk=0\nout=0\n") 5
+    -- the windows, like set and plus, use a and k
+    ∷ row (pair (input-line ++ "op=wsum\na=2\nb=0\nk=1\nout=0\n")) 5
+    ∷ row (pair (input-line ++ "op=wmin\na=0\nb=1\nk=1\nout=0\n")) 5
+    -- then 18, a width outside 1 to 64 or a ninth window
+    ∷ row (pair (input-line ++ windowed "wsum" "0")) 18
+    ∷ row (pair (input-line ++ windowed "wmax" "65")) 18
+    ∷ row (pair (input-line ++ windowed "wmax" "-1")) 18
+    ∷ row ("plan=1\nstreams=10\n" ++ input-line ++ joined (replicate 9 (windowed "wmin" "1"))) 18
+    -- after 5, which another stream breaks, and before 6
+    ∷ row (pair (windowed "wsum" "0" ++ "op=nil\na=1\nb=0\nk=0\nout=0\n")) 5
+    ∷ row (alone (windowed "wsum" "65")) 18
+    ∷ row (alone (windowed "wsum" "1")) 6
     -- then 6, a cycle without a delayed argument: of one stream, of two, by the second argument of a last or a delay
     ∷ row (alone "op=merge\na=0\nb=0\nk=0\nout=0\n") 6
     ∷ row (pair "op=neg\na=1\nb=0\nk=0\nout=0\nop=time\na=0\nb=0\nk=0\nout=0\n") 6
@@ -77,7 +101,7 @@ rows =
     ∷ []
 
 pub rows-numbered : map (λ r. number 32 (bytes (r .text))) rows ≡ map (λ r. r .number) rows
-unfolding rows number numberAfter streams allKeep planFrom acyclic head stream opLine named nameAt numberNamed place fieldsAfter field whole scan ended signed valueLine outLine skip fieldsOk groupOf usesK eqnOf
+unfolding rows number numberAfter streams allKeep allWidths windowsOk widthOk windows planFrom acyclic head stream opLine named nameAt numberNamed place fieldsAfter field whole scan ended signed valueLine outLine skip fieldsOk groupOf usesK eqnOf
 rows-numbered = refl
 
 -- 1 text longer than 2,048 bytes, whatever is in it
@@ -104,10 +128,6 @@ inner e = record { eqn = e; out = false }
 abbrev pub outer : Eqn → Declared
 outer e = record { eqn = e; out = true }
 
-abbrev pub joined : List String → String
-joined [] = ""
-joined (t ∷ ts) = t ++ joined ts
-
 -- a stream that negates another
 abbrev pub negates : String → String
 negates a = "op=neg\na=" ++ (a ++ "\nb=0\nk=0\nout=0\n")
@@ -120,12 +140,15 @@ takens =
     ∷ taken (pair "op=last\na=0\nb=1\nk=0\nout=1\nop=in\na=0\nb=0\nk=0\nout=0\n") (outer (last 0 1) ∷ inner input ∷ [])
     ∷ taken ("plan=1\nstreams=3\n" ++ "op=in\na=0\nb=0\nk=0\nout=0\n" ++ "op=last\na=2\nb=0\nk=0\nout=0\n" ++ "op=sadd\na=0\nb=1\nk=0\nout=1\n")
     (inner input ∷ inner (last 2 0) ∷ outer (signal add 0 1) ∷ [])
+    -- the widest window, and as many as there can be
+    ∷ taken (pair (input-line ++ windowed "wmin" "64")) (inner input ∷ inner (window wmin (pos 64) 0) ∷ [])
+    ∷ taken ("plan=1\nstreams=9\n" ++ input-line ++ joined (replicate 8 (windowed "wmin" "1"))) (inner input ∷ replicate 8 (inner (window wmin (pos 1) 0)))
     -- a chain of as many streams as there can be
     ∷ taken ("plan=1\nstreams=32\nop=in\na=0\nb=0\nk=0\nout=0\n" ++ joined (map negates ("0" ∷ "1" ∷ "2" ∷ "3" ∷ "4" ∷ "5" ∷ "6" ∷ "7" ∷ "8" ∷ "9" ∷ "10" ∷ "11" ∷ "12" ∷ "13" ∷ "14" ∷ "15" ∷ "16" ∷ "17" ∷ "18" ∷ "19" ∷ "20" ∷ "21" ∷ "22" ∷ "23" ∷ "24" ∷ "25" ∷ "26" ∷ "27" ∷ "28" ∷ "29" ∷ "30" ∷ [])))
     (inner input ∷ map {A = ℕ} (λ a. inner (one neg a)) (0 ∷ 1 ∷ 2 ∷ 3 ∷ 4 ∷ 5 ∷ 6 ∷ 7 ∷ 8 ∷ 9 ∷ 10 ∷ 11 ∷ 12 ∷ 13 ∷ 14 ∷ 15 ∷ 16 ∷ 17 ∷ 18 ∷ 19 ∷ 20 ∷ 21 ∷ 22 ∷ 23 ∷ 24 ∷ 25 ∷ 26 ∷ 27 ∷ 28 ∷ 29 ∷ 30 ∷ []))
     -- every operator
     ∷ taken
-    ("plan=1\nstreams=27\n"
+    ("plan=1\nstreams=30\n"
     ++ "op=in\na=0\nb=0\nk=0\nout=0\n"
     ++ "op=nil\na=0\nb=0\nk=0\nout=0\n"
     ++ "op=unit\na=0\nb=0\nk=0\nout=1\n"
@@ -152,7 +175,10 @@ takens =
     ++ "op=srem\na=22\nb=21\nk=0\nout=0\n"
     ++ "op=slt\na=23\nb=22\nk=0\nout=0\n"
     ++ "op=sle\na=24\nb=23\nk=0\nout=0\n"
-    ++ "op=seq\na=25\nb=24\nk=0\nout=1\n")
+    ++ "op=seq\na=25\nb=24\nk=0\nout=1\n"
+    ++ "op=wsum\na=26\nb=0\nk=2\nout=1\n"
+    ++ "op=wmin\na=27\nb=0\nk=3\nout=0\n"
+    ++ "op=wmax\na=28\nb=0\nk=64\nout=1\n")
     (inner input
     ∷ inner nil
     ∷ outer unit
@@ -180,11 +206,14 @@ takens =
     ∷ inner (signal lt 23 22)
     ∷ inner (signal le 24 23)
     ∷ outer (signal eq 25 24)
+    ∷ outer (window wsum (pos 2) 26)
+    ∷ inner (window wmin (pos 3) 27)
+    ∷ outer (window wmax (pos 64) 28)
     ∷ [])
     ∷ []
 
 pub takens-taken : map (λ r. number 32 (bytes (r .text))) takens ≡ map (λ r. 0) takens
-unfolding takens number numberAfter streams allKeep planFrom acyclic head stream opLine named nameAt numberNamed place fieldsAfter field whole scan ended signed valueLine outLine skip fieldsOk groupOf usesK eqnOf
+unfolding takens number numberAfter streams allKeep allWidths windowsOk widthOk windows planFrom acyclic head stream opLine named nameAt numberNamed place fieldsAfter field whole scan ended signed valueLine outLine skip fieldsOk groupOf usesK eqnOf
 takens-taken = refl
 
 pub takens-declared : map (λ r. declared 32 (bytes (r .text))) takens ≡ map (λ r. r .streams) takens

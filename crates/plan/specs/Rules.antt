@@ -1,8 +1,8 @@
--- Believe: rules 5 and 6, and the number of a whole plan text.
+-- Believe: rules 5, 18 and 6, and the number of a whole plan text.
 use Prim.Native.Nat.{ℕ, zero, suc}
 use mathlib.Core.Bool.{Bool, true, cond, _&&_}
 use mathlib.Core.List.{List, [], _∷_, map}
-use lib.Dec.{eqb, ltb}
+use lib.Dec.{eqb, ltb, leb}
 use lib.ListN.{length}
 use mir.Syntax.{w64}
 use mir.Val.{toZ}
@@ -11,7 +11,8 @@ use Rattle.meaning.specs.CycleTest.{acyclic}
 use Rattle.machine.specs.State.{Declared}
 use Rattle.operators.specs.Operators.{eqnOf}
 use Rattle.operators.specs.Rules.{fieldsOk}
-use Rattle.operators.specs.Limits.{textLimit}
+use Rattle.operators.specs.Limits.{windowLimit, textLimit}
+use Rattle.operators.specs.Windows.{widthOk, windows}
 use Rattle.text.specs.declared.Fields.{Fields}
 use Rattle.text.specs.declared.Lines.{Lines}
 use Rattle.text.specs.declared.Lines.the-variants as Lines
@@ -60,13 +61,22 @@ declaredFrom f = record { eqn = eqnFrom f; out = eqb (f .out) 1 }
 unfoldable pub planFrom : List Fields → Plan
 planFrom fs = map eqnFrom fs
 
+-- ## "18, a width outside 1 to 64 or a ninth window, tested after 5 and before 6."
+
+unfoldable pub allWidths : List Fields → Bool
+allWidths [] = true
+allWidths (f ∷ fs) = widthOk (f .op) (f .k) && allWidths fs
+
+unfoldable pub windowsOk : List Fields → Bool
+windowsOk fs = allWidths fs && leb (windows (planFrom fs)) windowLimit
+
 -- ## The number of a text
 
--- "bytes left over" are 2, then 5, "Then 6, a cycle without a delayed argument."
+-- "bytes left over" are 2, then 5, then 18, "Then 6, a cycle without a delayed argument."
 unfoldable pub numberAfter : ℕ → List ℕ → ℕ → Form → ℕ
 numberAfter cap s n (refused r) = r
 numberAfter cap s n (formed fs end) =
-    cond (eqb end (length s)) (cond (allKeep n fs) (cond (acyclic cap (planFrom fs)) 0 6) 5) 2
+    cond (eqb end (length s)) (cond (allKeep n fs) (cond (windowsOk fs) (cond (acyclic cap (planFrom fs)) 0 6) 18) 5) 2
 
 abbrev pub numberOfHead : ℕ → List ℕ → Head → ℕ
 numberOfHead cap s (Head.Streams n at) = numberAfter cap s n (streams s at n)

@@ -9,7 +9,9 @@ use Rattle.meaning.specs.Plan.{isInput}
 use Rattle.meaning.specs.Arguments.{reads, AllBelow}
 use Rattle.meaning.specs.Cycle.{Acyclic}
 use Rattle.machine.specs.State.{Declared, declaredPlan}
+use Rattle.operators.specs.Limits.{windowLimit}
 use Rattle.operators.specs.Operators.{valueOf}
+use Rattle.operators.specs.Windows.{IsWidth, windows}
 
 -- one stream of a plan of n streams
 pub record StreamKeeps (n : ℕ) (d : Declared) : Type 0 where
@@ -19,6 +21,8 @@ pub record StreamKeeps (n : ℕ) (d : Declared) : Type 0 where
   pub value : mag (valueOf (d .eqn)) < 2 ^ 63
   -- no out=1 on in
   pub output : (isInput (d .eqn) && d .out) ≡ false
+  -- the width of a window is from 1 to 64
+  pub width : IsWidth (d .eqn)
 
 abbrev pub Each : ℕ → List Declared → Type 0
 Each n [] = Unit {0}
@@ -29,5 +33,7 @@ pub record KeepsRules (cap : ℕ) (ds : List Declared) : Type 0 where
   -- "1 to 32", 32 being the capacity, or none: "An empty plan text now means a plan of no streams"
   pub few : length ds ≤ cap
   pub each : Each (length ds) ds
+  -- no "ninth window"
+  pub fewWindows : windows (declaredPlan ds) ≤ windowLimit
   -- "Every cycle of arguments must contain the first argument of a last or a delay"
   pub clear : Acyclic (declaredPlan ds)

@@ -10,7 +10,7 @@ use lib.Dec.{T, ltb, leb, nltb→le, nleb→lt}
 use lib.IntN.{ℤ}
 use lib.ListN.{length, set}
 use borrow.Author.Tests.{ltb-true}
-use Rattle.meaning.specs.Plan.{Eqn, input, nil, unit, one, two, last, delay, signal, isInput}
+use Rattle.meaning.specs.Plan.{Eqn, input, nil, unit, one, two, last, delay, signal, window, isInput}
 use Rattle.meaning.specs.Arguments.{argA, argB}
 use Rattle.meaning.specs.Events.{Event, ev, horizon}
 use Rattle.meaning.proofs.Inputs.{input-is}
@@ -46,6 +46,7 @@ limit-top (two g _ _) o a b h k l = omega arith
 limit-top (last _ _) o a b h k l = l
 limit-top (delay _ _) o a b h k l = omega arith
 limit-top (signal c _ _) o a b h k l = omega arith
+limit-top (window f n _) o a b h k l = k
 
 reach-top : (e : Eqn) (o a b : Cell) → o .bound ≤ horizon → a .bound ≤ horizon → b .bound ≤ horizon → reach e o a b ≤ horizon
 unfolding reach
@@ -72,7 +73,7 @@ module _ {cap : ℕ} (M : State) (ok : Sound cap M) (s : ℕ) (l : s < length M)
   top = reach-top e o a b (bound-top M ok s) (bound-top M ok (argA e)) (bound-top M ok (argB e))
 
   found-at : (t : ℕ) → t < horizon → IsOptional (gives e o a b t)
-  found-at t h = gives-value (length M) e o a b t h (ok .each s l .kept) (ok .each s l .value) (cell-holds M ok (argA e)) (cell-holds M ok (argB e))
+  found-at t h = gives-value (length M) e o a b t h (ok .each s l .kept) (ok .each s l .passed) (ok .each s l .value) (cell-holds M ok (argA e)) (cell-holds M ok (argB e))
 
   abbrev Fine : Next → Type 0
   Fine x = (newBound x (o .held) ≤ horizon) × Comes (newBound x (o .held)) o (added x (o .held))

@@ -8,7 +8,7 @@ use native.Mathlib.Omega.{arith}
 use lib.Dec.{T, leb, ltb, eqb}
 use lib.IntN.{ℤ}
 use borrow.Author.Tests.{leb-true}
-use Rattle.meaning.specs.Plan.{Eqn, input, nil, unit, one, two, last, delay, signal}
+use Rattle.meaning.specs.Plan.{Eqn, input, nil, unit, one, two, last, delay, signal, window}
 use Rattle.meaning.specs.Events.{Event}
 use Rattle.machine.specs.State.{Kept, Cell, withHeld, withKept, withSince, withValue}
 use Rattle.machine.specs.Reach.{view}
@@ -50,6 +50,7 @@ told-own (delay a b) s y t v k es own d =
     let x = priorTold (eqb a s) y t v (valueTold (eqb a s) t v k) in
     rising-top 0 (k .since) (sinceTold (eqb b s) y t x .since) es (since-up (eqb b s) y t x) (own d)
 told-own (signal c a b) s y t v k es own d = absurd d
+told-own (window f n a) s y t v k es own d = absurd d
 
 pub own-told : (s t : ℕ) (v : ℤ) (c : Cell) → Own c → Own (told s t v c)
 unfolding told
@@ -69,6 +70,7 @@ absorb-own (one f _) o a b r d = absurd d
 absorb-own (two g _ _) o a b r d = absurd d
 absorb-own (last _ _) o a b r d = absurd d
 absorb-own (signal c _ _) o a b r d = absurd d
+absorb-own (window f k _) o a b r d = absurd d
 absorb-own (delay _ _) o a b r d =
     rising-past 0 (o .bound) (later o b) (o .held) r (omega arith)
     (λ p k. let m = past-max (view o) (o .bound) p (held-below 0 (o .bound) (o .held) r p k) k in omega arith)

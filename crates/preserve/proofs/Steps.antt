@@ -1,5 +1,5 @@
 -- Each part of a step keeps a sound state sound: a cell written, the readers told, events let go, a mark of collection.
-use Prim.Native.Nat.{ℕ, zero, suc, pred, _+_, _<_, _≤_}
+use Prim.Native.Nat.{ℕ, zero, suc, pred, _+_, _-_, _<_, _≤_}
 use mathlib.Core.Path.{_≡_, refl, sym, ap, _∙_, subst}
 use mathlib.Core.Bool.{Bool, true, false, cond, _&&_}
 use mathlib.Core.Option.{Option, none, some}
@@ -8,24 +8,25 @@ use native.Mathlib.Omega.{arith}
 use native.Mathlib.Decide.{decLt}
 use lib.Dec.{leb, ltb, eqb}
 use lib.IntN.{ℤ}
-use lib.ListN.{length, getD, length-set, length-map, length-append, set}
+use lib.ListN.{length, getD, length-set, length-map, length-append, length-drop, set}
 use lib.Seq.{ext-getD, set-set}
 use borrow.Author.Tests.{ltb-true, eqb-true, eq-eqb}
-use Rattle.meaning.specs.Plan.{Eqn, input, nil, unit, one, two, last, delay, signal}
+use Rattle.meaning.specs.Plan.{Eqn, input, nil, unit, one, two, last, delay, signal, window}
 use Rattle.meaning.specs.Arguments.{reads, argA, argB}
-use Rattle.meaning.specs.Events.{Event, ev, horizon}
+use Rattle.meaning.specs.Events.{Event, ev, events, horizon}
 use Rattle.meaning.specs.Cycle.{Acyclic}
-use Rattle.machine.specs.State.{Kept, Cell, State, absent, cellAt, room, planOf, withBound, withHeld, withNext, withKept, withSince, withValue}
-use Rattle.machine.specs.Reach.{view, valueAt}
-use Rattle.machine.specs.Step.{advance, later, absorb, absorbed, write, valueTold, priorTold, sinceTold, keptTold, told, tell, leastWaiting, dropBelow, release, releases, raise}
+use Rattle.meaning.specs.Table.{latestOf, values, width}
+use Rattle.machine.specs.State.{Kept, Passed, Cell, State, absent, cellAt, room, planOf, withBound, withHeld, withNext, withKept, withSince, withValue}
+use Rattle.machine.specs.Reach.{view, valueAt, from}
+use Rattle.machine.specs.Step.{pass, passes, advance, later, absorb, absorbed, write, valueTold, priorTold, sinceTold, keptTold, told, tell, leastWaiting, dropBelow, release, releases, raise}
 use Rattle.machine.proofs.Cells.{set-cases, told-at}
 use Rattle.machine.proofs.Window.{past-le}
 use Rattle.machine.proofs.Rising.{drop-shorter}
 use Rattle.machine.proofs.Release.{among, release-at, release-size, releases-at, releases-size}
-use Rattle.encoding.specs.Sound.{IsValue, Rising, IsNext, DelayKept, IsKept, SoundCell, Own, Sound}
+use Rattle.encoding.specs.Sound.{IsValue, Rising, IsNext, DelayKept, IsKept, IsPassed, SoundCell, Own, Sound}
 use Rattle.preserve.proofs.Rising.{rising-top, rising-snoc, rising-drop}
 use Rattle.preserve.proofs.Own.{dropped-own, and-true, own-told, absorb-own}
-use Rattle.preserve.proofs.Values.{or-value, cond-value, held-latest, Holds, holds}
+use Rattle.preserve.proofs.Values.{or-value, cond-value, slid-values, held-latest, Holds, holds}
 
 -- ---- a state with the same equations, every cell sound
 
@@ -45,6 +46,7 @@ sound-again M N ok l q h w = record {
   few = rw l (ok .few);
   each = λ i k. rw l (h i (rw l at k));
   own = λ i k. w i (rw l at k);
+  windows = rw (plan-same M N l q) (ok .windows);
   acyclic = subst Acyclic (sym (plan-same M N l q)) (ok .acyclic);
 }
 
@@ -59,7 +61,7 @@ set-sound M s c ok l q h w =
 -- ---- let go
 
 held-sound : (n : ℕ) (c : Cell) (es : List Event) → SoundCell n c → length es ≤ room → Rising 0 (c .bound) es → SoundCell n (withHeld es c)
-held-sound n c es ok l r = record { arguments = ok .arguments; value = ok .value; out = ok .out; bound = ok .bound; few = l; held = r; next = ok .next; kept = ok .kept }
+held-sound n c es ok l r = record { arguments = ok .arguments; value = ok .value; width = ok .width; out = ok .out; bound = ok .bound; few = l; held = r; next = ok .next; kept = ok .kept; passed = ok .passed }
 
 dropped-sound : (n w : ℕ) (c : Cell) (b : Bool) → SoundCell n c → SoundCell n (withHeld (cond b (dropBelow w (c .held)) (c .held)) c)
 dropped-sound n w c true ok = let d = drop-shorter w (c .held) in let f = ok .few in held-sound n c (dropBelow w (c .held)) ok (omega arith) (rising-drop w 0 (c .bound) (c .held) (ok .held))
@@ -124,9 +126,10 @@ module _ (y t : ℕ) (v : ℤ) (l : t < y) (hv : IsValue v) where
   kept-told (last a b) s k ok = record { prev = cond-value (eqb a s) (some v) (k .prev) hv (ok .prev); fresh = λ z. absurd (omega (arith, l)); prevB = ok .prevB; since = ok .since; value = ok .value; prior = ok .prior }
   kept-told (delay a b) s k ok = since-kept (eqb b s) (priorTold (eqb a s) y t v (valueTold (eqb a s) t v k)) (prior-kept (eqb a s) (valueTold (eqb a s) t v k) (value-kept (eqb a s) k ok))
   kept-told (signal c a b) s k ok = ok
+  kept-told (window f n a) s k ok = ok
 
 with-kept : (n : ℕ) (c : Cell) (k : Kept) → SoundCell n c → IsKept (c .eqn) (c .bound) k → SoundCell n (withKept k c)
-with-kept n c k ok h = record { arguments = ok .arguments; value = ok .value; out = ok .out; bound = ok .bound; few = ok .few; held = ok .held; next = ok .next; kept = h }
+with-kept n c k ok h = record { arguments = ok .arguments; value = ok .value; width = ok .width; out = ok .out; bound = ok .bound; few = ok .few; held = ok .held; next = ok .next; kept = h; passed = ok .passed }
 
 told-sound : (n s t : ℕ) (v : ℤ) (c : Cell) → IsValue v → SoundCell n c → SoundCell n (told s t v c)
 unfolding told
@@ -164,6 +167,7 @@ kept-up (two g a b) x y k h z ok = ok
 kept-up (last a b) x y k h z ok = record { prev = ok .prev; fresh = λ q. absurd (z q); prevB = ok .prevB; since = ok .since; value = ok .value; prior = ok .prior }
 kept-up (delay a b) x y k h z ok = let s = ok .since in record { prev = ok .prev; prevB = ok .prevB; since = omega arith; value = ok .value; prior = ok .prior; unset = ok .unset; fresh = λ q. absurd (z q) }
 kept-up (signal c a b) x y k h z ok = record { prev = ok .prev; prevB = ok .prevB; fresh = λ q. absurd (z q); freshB = λ q. absurd (z q); since = ok .since; value = ok .value; prior = ok .prior }
+kept-up (window f n a) x y k h z ok = ok
 
 -- what comes in with a bound that goes up to y: nothing, or one event just below it
 pub data Comes (y : ℕ) (c : Cell) : List Event → Type 0 where
@@ -174,17 +178,19 @@ pub comes-values : {y : ℕ} {c : Cell} {new : List Event} → Comes y c new →
 comes-values silence = tt
 comes-values (one-event t v l e h k) = (h, tt)
 
-pub advance-sound : (n y : ℕ) (c : Cell) (new : List Event) → SoundCell n c → c .bound < y → y ≤ horizon → Comes y c new → SoundCell n (advance y new c)
-advance-sound n y c new ok l h cm =
+pub advance-sound : (n y : ℕ) (c : Cell) (new : List Event) (w : Passed) → SoundCell n c → c .bound < y → y ≤ horizon → Comes y c new → IsPassed (c .eqn) y w → SoundCell n (advance y new w c)
+advance-sound n y c new w ok l h cm ps =
     record {
       arguments = ok .arguments;
       value = ok .value;
+      width = ok .width;
       out = ok .out;
       bound = h;
       few = room-left cm;
       held = rises cm;
       next = next-up (c .out) (c .next) (c .bound) y (omega arith) (ok .next);
       kept = kept-up (c .eqn) (c .bound) y (c .kept) (omega arith) (λ z. omega (arith, l)) (ok .kept);
+      passed = ps;
     }
   where
     room-left : {new : List Event} → Comes y c new → length (c .held ++ new) ≤ room
@@ -194,6 +200,27 @@ advance-sound n y c new ok l h cm =
     rises : {new : List Event} → Comes y c new → Rising 0 y (c .held ++ new)
     rises silence = rw append-nil (rising-top 0 (c .bound) y (c .held) (omega (arith, l)) (ok .held))
     rises (one-event t v a e k r) = rw e (rising-snoc 0 (c .bound) t v (c .held) a k (ok .held))
+
+latest-few : (k : ℕ) (xs : List ℤ) → length (latestOf k xs) ≤ k
+unfolding latestOf
+latest-few k xs = rw (length-drop (length xs - k) xs) (omega arith)
+
+-- what a window keeps follows the bound
+pass-sound : (e : Eqn) (y : ℕ) (o a : Cell) → o .bound < y → IsPassed e (o .bound) (o .passed) → Holds a → IsPassed e y (pass e y o a)
+pass-sound input y o a l ok ha = ok
+pass-sound nil y o a l ok ha = ok
+pass-sound unit y o a l ok ha = ok
+pass-sound (one f _) y o a l ok ha = ok
+pass-sound (two g _ _) y o a l ok ha = ok
+pass-sound (last _ _) y o a l ok ha = ok
+pass-sound (delay _ _) y o a l ok ha = ok
+pass-sound (signal c _ _) y o a l ok ha = ok
+pass-sound (window f k _) y o a l ok ha =
+    record {
+      few = latest-few (width k) (o .passed .window ++ values (events (from (o .bound) (view a)) y));
+      values = slid-values (width k) (o .bound) y (o .passed .window) (view a) (ok .values) ha;
+      fresh = λ z. absurd (omega arith);
+    }
 
 absorb-kept : (e : Eqn) (o a b : Cell) → 0 < o .bound → IsKept e (o .bound) (o .kept) → Holds a → Holds b → IsKept e (o .bound) (absorb e o a b)
 absorb-kept input o a b z ok ha hb = ok
@@ -227,6 +254,7 @@ absorb-kept (signal c _ _) o a b z ok ha hb =
       value = ok .value;
       prior = ok .prior;
     }
+absorb-kept (window f k _) o a b z ok ha hb = ok
 
 absent-holds : Holds absent
 absent-holds t = tt
@@ -238,12 +266,15 @@ cell-holds M ok i = go (decLt i (length M))
     go (yes h) = holds (length M) (cellAt M i) (ok .each i h)
     go (no h) = rw (Rattle.machine.proofs.Cells.beyond M i (omega arith)) absent-holds
 
+pub passes-sound : {cap : ℕ} (s y : ℕ) (M : State) → Sound cap M → s < length M → cellAt M s .bound < y → IsPassed (cellAt M s .eqn) y (passes s y M)
+passes-sound s y M ok l h = let o = cellAt M s in pass-sound (o .eqn) y o (cellAt M (argA (o .eqn))) h (ok .each s l .passed) (cell-holds M ok (argA (o .eqn)))
+
 pub write-sound : {cap : ℕ} (s y : ℕ) (new : List Event) (M : State) → Sound cap M → s < length M → cellAt M s .bound < y → y ≤ horizon → Comes y (cellAt M s) new → Sound cap (write s y new M)
 unfolding write absorbed
 write-sound s y new M ok l h top cm =
-    let c = advance y new (cellAt M s) in
+    let c = advance y new (passes s y M) (cellAt M s) in
     let N = set M s c in
-    let fine = advance-sound (length M) y (cellAt M s) new (ok .each s l) h top cm in
+    let fine = advance-sound (length M) y (cellAt M s) new (passes s y M) (ok .each s l) h top cm (passes-sound s y M ok l h) in
     let q : cellAt N s ≡ c = lib.Seq.getD-set-same M s c absent l in
     let e = c .eqn in
     let k = absorb e c (cellAt N (argA e)) (cellAt N (argB e)) in
@@ -266,7 +297,7 @@ bound-sound s y M ok l e h top =
     let c = cellAt M s in
     let k = ok .each s l in
     set-sound M s (withBound y c) ok l refl
-    (record { arguments = k .arguments; value = k .value; out = k .out; bound = top; few = k .few; held = rising-top 0 (c .bound) y (c .held) h (k .held); next = next-up (c .out) (c .next) (c .bound) y h (k .next); kept = rw e (rw e at (k .kept)) })
+    (record { arguments = k .arguments; value = k .value; width = k .width; out = k .out; bound = top; few = k .few; held = rising-top 0 (c .bound) y (c .held) h (k .held); next = next-up (c .out) (c .next) (c .bound) y h (k .next); kept = rw e (rw e at (k .kept)); passed = rw e (rw e at (k .passed)) })
     (λ d. absurd (rw e at d))
 
 -- a mark of collection
@@ -275,5 +306,5 @@ next-sound s n M ok l e h =
     let c = cellAt M s in
     let k = ok .each s l in
     set-sound M s (withNext n c) ok l refl
-    (record { arguments = k .arguments; value = k .value; out = k .out; bound = k .bound; few = k .few; held = k .held; next = rw e h; kept = k .kept })
+    (record { arguments = k .arguments; value = k .value; width = k .width; out = k .out; bound = k .bound; few = k .few; held = k .held; next = rw e h; kept = k .kept; passed = k .passed })
     (ok .own s l)

@@ -1,22 +1,25 @@
 -- Whatever an equation gives or keeps of sound cells is a value.
-use Prim.Native.Nat.{ℕ, zero, suc, _<_}
+use Prim.Native.Nat.{ℕ, zero, suc, _-_, _<_}
 use mathlib.Core.Bool.{Bool, true, false, cond, _||_}
 use mathlib.Core.Option.{Option, none, some}
-use mathlib.Core.List.{List, [], _∷_}
+use mathlib.Core.List.{List, [], _∷_, _++_}
 use native.Mathlib.Omega.{arith}
-use lib.Dec.{eqb, lit<}
-use lib.IntN.{ℤ}
+use lib.Dec.{eqb, ltb, lit<}
+use lib.IntN.{ℤ, pos}
+use lib.ListN.{length, drop}
+use lib.Signed.{leZ}
 use Rattle.num.specs.declared.Answer.{Answer}
 use Rattle.num.specs.declared.Answer.the-variants.{Value, Outside, ZeroDivisor}
 use Rattle.num.specs.Arithmetic.{isZero, negated, added}
 use Rattle.num.proofs.Values.{InRange, negated-in, added-in, subtracted-in, multiplied-in, divided-in, remainder-in, less-in, atMost-in, equal-in}
-use Rattle.meaning.specs.Plan.{Unary, time, neg, set, plus, Calc, add, sub, mul, div, rem, lt, le, eq, Binary, calc, keep, merge, Eqn, input, nil, unit, one, two, last, delay, signal}
-use Rattle.meaning.specs.Events.{Event, Stream, found, has, orElse, horizon}
-use Rattle.meaning.specs.Table.{valueOf, one-at, calculated, two-at, unit-at, latest, last-at, signal-at, delay-at}
+use Rattle.meaning.specs.Plan.{Unary, time, neg, set, plus, Calc, add, sub, mul, div, rem, lt, le, eq, Binary, calc, keep, merge, Eqn, input, nil, unit, one, two, last, delay, signal, window, Fold, wsum, wmin, wmax}
+use Rattle.meaning.specs.Events.{Event, Stream, found, here, events, has, orElse, horizon}
+use Rattle.meaning.specs.Table.{valueOf, one-at, calculated, two-at, unit-at, latest, last-at, signal-at, latestOf, values, width, total, leastOf, greatestOf, folded, window-at, delay-at}
 use Rattle.machine.specs.State.{Cell, Kept}
-use Rattle.machine.specs.Reach.{view, heldLatest, due, point, gives}
+use Rattle.machine.specs.Reach.{view, heldLatest, due, point, from, slid, gives}
+use Rattle.machine.proofs.Lasts.{values-append}
 use Rattle.operators.specs.Operators as operators
-use Rattle.encoding.specs.Sound.{IsValue, IsOptional, Rising, IsKept, SoundCell}
+use Rattle.encoding.specs.Sound.{IsValue, IsOptional, Rising, AllValues, IsKept, IsPassed, SoundCell}
 
 -- ---- arithmetic
 
@@ -55,6 +58,32 @@ pub latest-value : (f : Stream) → ((t : ℕ) → IsOptional (f t)) → (t : �
 unfolding latest
 latest-value f h zero = tt
 latest-value f h (suc t) = or-value (f t) (latest f t) (h t) (latest-value f h t)
+
+-- ---- lists of values
+
+all-append : (xs ys : List ℤ) → AllValues xs → AllValues ys → AllValues (xs ++ ys)
+all-append [] ys h k = k
+all-append (x ∷ xs) ys h k = (h .0, all-append xs ys (h .1) k)
+
+all-drop : (n : ℕ) (xs : List ℤ) → AllValues xs → AllValues (drop n xs)
+all-drop zero xs h = h
+all-drop (suc n) [] h = h
+all-drop (suc n) (x ∷ xs) h = all-drop n xs (h .1)
+
+here-values : (t : ℕ) (x : Option ℤ) → IsOptional x → AllValues (values (here t x))
+here-values t none h = tt
+here-values t (some v) h = (h, tt)
+
+events-values : (f : Stream) → ((t : ℕ) → IsOptional (f t)) → (x : ℕ) → AllValues (values (events f x))
+events-values f h zero = tt
+events-values f h (suc x) = rw (values-append (events f x) (here x (f x))) (all-append (values (events f x)) (values (here x (f x))) (events-values f h x) (here-values x (f x) (h x)))
+
+-- a window slides over values
+pub slid-values : (k y x : ℕ) (w : List ℤ) (f : Stream) → AllValues w → ((t : ℕ) → IsOptional (f t)) → AllValues (slid k y x w f)
+unfolding latestOf
+slid-values k y x w f hw h =
+    let new = values (events (from y f) x) in
+    all-drop (length (w ++ new) - k) (w ++ new) (all-append w new hw (events-values (from y f) (λ t. cond-value (ltb t y) none (f t) tt (h t)) x))
 
 -- ---- the rows
 
@@ -95,6 +124,33 @@ signal-value : (c : Calc) (a b x y : Option ℤ) → IsOptional x → IsOptional
 unfolding signal-at
 signal-value c a b x y h k = cond-value (has a || has b) (two-at (calc c) x y) none (two-value (calc c) x y h k) tt
 
+pick-value : (p : Bool) (x y : ℤ) → IsValue x → IsValue y → IsValue (cond p x y)
+pick-value true x y h k = h
+pick-value false x y h k = k
+
+least-value : (x : ℤ) (xs : List ℤ) → IsValue x → AllValues xs → IsValue (leastOf x xs)
+least-value x [] h k = h
+least-value x (y ∷ ys) h k = least-value (cond (leZ x y) x y) ys (pick-value (leZ x y) x y h (k .0)) (k .1)
+
+greatest-value : (x : ℤ) (xs : List ℤ) → IsValue x → AllValues xs → IsValue (greatestOf x xs)
+greatest-value x [] h k = h
+greatest-value x (y ∷ ys) h k = greatest-value (cond (leZ x y) y x) ys (pick-value (leZ x y) y x (k .0) h) (k .1)
+
+-- a sum of none is 0 and 0
+fold-in : (f : Fold) (xs : List ℤ) → AllValues xs → InRange (folded f xs)
+unfolding folded added
+fold-in wsum [] h = added-in (pos 0) (pos 0)
+fold-in wsum (x ∷ xs) h = added-in x (total xs)
+fold-in wmin [] h = tt
+fold-in wmin (x ∷ xs) h = least-value x xs (h .0) (h .1)
+fold-in wmax [] h = tt
+fold-in wmax (x ∷ xs) h = greatest-value x xs (h .0) (h .1)
+
+window-value : (f : Fold) (x : Option ℤ) (xs : List ℤ) → AllValues xs → IsOptional (window-at f x xs)
+unfolding window-at
+window-value f none xs h = tt
+window-value f (some x) xs h = answer-value (folded f xs) (fold-in f xs h)
+
 -- a cell's held events are values
 abbrev pub Holds : Cell → Type 0
 Holds c = (t : ℕ) → IsOptional (view c t)
@@ -115,16 +171,18 @@ kept-value (two g a b) y k ok = rw ok (tt, tt, tt, tt)
 kept-value (last a b) y k ok = (ok .prev, rw (ok .prevB) tt, rw (ok .value) tt, rw (ok .prior) tt)
 kept-value (delay a b) y k ok = (rw (ok .prev) tt, rw (ok .prevB) tt, ok .value, ok .prior)
 kept-value (signal c a b) y k ok = (ok .prev, ok .prevB, rw (ok .value) tt, rw (ok .prior) tt)
+kept-value (window f n a) y k ok = rw ok (tt, tt, tt, tt)
 
 -- what an equation gives at a stamp
-pub gives-value : (n : ℕ) (e : Eqn) (o a b : Cell) (t : ℕ) → t < horizon → IsKept e (o .bound) (o .kept) → IsValue (operators.valueOf e) → Holds a → Holds b → IsOptional (gives e o a b t)
+pub gives-value : (n : ℕ) (e : Eqn) (o a b : Cell) (t : ℕ) → t < horizon → IsKept e (o .bound) (o .kept) → IsPassed e (o .bound) (o .passed) → IsValue (operators.valueOf e) → Holds a → Holds b → IsOptional (gives e o a b t)
 unfolding operators.valueOf
-gives-value n input o a b t h k v ha hb = tt
-gives-value n nil o a b t h k v ha hb = tt
-gives-value n unit o a b t h k v ha hb = unit-value t
-gives-value n (one f _) o a b t h k v ha hb = one-value f t (view a t) h v
-gives-value n (two g _ _) o a b t h k v ha hb = two-value g (view a t) (view b t) (ha t) (hb t)
-gives-value n (last x y) o a b t h k v ha hb = last-value (view b t) (heldLatest a t (o .kept .prev)) (held-latest a t (o .kept .prev) ha (kept-value (last x y) (o .bound) (o .kept) k .0))
-gives-value n (delay x y) o a b t h k v ha hb = delay-value (due o a (point o b t) t)
-gives-value n (signal c x y) o a b t h k v ha hb =
+gives-value n input o a b t h k w v ha hb = tt
+gives-value n nil o a b t h k w v ha hb = tt
+gives-value n unit o a b t h k w v ha hb = unit-value t
+gives-value n (one f _) o a b t h k w v ha hb = one-value f t (view a t) h v
+gives-value n (two g _ _) o a b t h k w v ha hb = two-value g (view a t) (view b t) (ha t) (hb t)
+gives-value n (last x y) o a b t h k w v ha hb = last-value (view b t) (heldLatest a t (o .kept .prev)) (held-latest a t (o .kept .prev) ha (kept-value (last x y) (o .bound) (o .kept) k .0))
+gives-value n (delay x y) o a b t h k w v ha hb = delay-value (due o a (point o b t) t)
+gives-value n (signal c x y) o a b t h k w v ha hb =
     signal-value c (view a t) (view b t) (heldLatest a (suc t) (o .kept .prev)) (heldLatest b (suc t) (o .kept .prevB)) (held-latest a (suc t) (o .kept .prev) ha (k .prev)) (held-latest b (suc t) (o .kept .prevB) hb (k .prevB))
+gives-value n (window f m _) o a b t h k w v ha hb = window-value f (view a t) (slid (width m) (o .bound) (suc t) (o .passed .window) (view a)) (slid-values (width m) (o .bound) (suc t) (o .passed .window) (view a) (w .values) ha)

@@ -11,7 +11,7 @@ use Rattle.meaning.specs.Arguments.{Argument}
 use Rattle.machine.specs.Step.{anyOf}
 use Rattle.operators.specs.Operators.{groupOf, isLast, isDelay, takesFirst, takesSecond, argumentsOf}
 use Rattle.operators.specs.declared.Group.{Group}
-use Rattle.operators.specs.declared.Group.the-variants.{Absent, Input, Plain, One, Two, Last, Delay, Signal}
+use Rattle.operators.specs.declared.Group.the-variants.{Absent, Input, Plain, One, Two, Last, Delay, Signal, Window}
 use Rattle.layout.specs.Record.{Raw, headWidths, num, withNum, opF, aF, bF, outF, flagF, priorFlagF, boundF, nextF, keptF, valueF, priorF}
 use Rattle.layout.proofs.Laws.{RawOk, num-ok, num-small}
 use Rattle.layout.proofs.Stores.{cond-ok, stored-ok}
@@ -42,6 +42,7 @@ module _ (s : ℕ) (r : Raw) where
       go Last = both (eqb (num aF r) s) (eqb (num bF r) s)
       go Delay = both (eqb (num aF r) s) (eqb (num bF r) s)
       go Signal = both (eqb (num aF r) s) (eqb (num bF r) s)
+      go Window = first (eqb (num aF r) s)
 
   pub last-no : (v : ℕ) → (num aF r ≡ s → ⊥) → toldLast s v r ≡ r
   unfolding toldLast

@@ -103,8 +103,8 @@ fn tell_delay(r: &mut [u8], s: u64, t: u32, v: u64)
     tell_since(r, s, t);
 }
 
-// Tells a record that stream s has the event (t, v): a last or a delay. A signal form is never told, since its bound is never
-// above an argument's.
+// Tells a record that stream s has the event (t, v): a last or a delay. A signal form and a window are never told, since their
+// bounds are never above an argument's.
 fn tell(r: &mut [u8], s: u64, t: u32, v: u64)
     requires { ⌜ length (now r) ≡ 256 ⌝ }
     ensures { λ _. ⌜ now (r .exit) ≡ encRaw (toldRow s t v (decRaw (now (r .entry)))) ⌝ }

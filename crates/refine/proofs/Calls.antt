@@ -16,7 +16,7 @@ use Rattle.meaning.specs.Plan.{Eqn, input, isInput}
 use Rattle.meaning.specs.Arguments.{reads, argA, argB}
 use Rattle.meaning.specs.Events.{Event, ev, horizon}
 use Rattle.machine.specs.State.{Kept, Cell, State, absent, cellAt, room, withBound, withKept}
-use Rattle.machine.specs.Step.{advance, absorb, absorbed, write, told, tell, release, releases, raise}
+use Rattle.machine.specs.Step.{pass, passes, advance, absorb, absorbed, write, told, tell, release, releases, raise}
 use Rattle.machine.specs.Calls.{Outcome, unless, noInput, offerReading, offerProgress, arrivals, done}
 use Rattle.operators.specs.Operators.{groupOf, isIn}
 use Rattle.operators.proofs.Laws.{in-of}
@@ -119,7 +119,7 @@ module _ (size : ℕ) (M : State) (i : ℕ) where
 
   -- progress writes the bound
   pub progress-of : (y : ℕ) → i < length M → change i (withNum boundF y) (rawsOf size M) ≡ rawsOf size (set M i (withBound y (cellAt M i)))
-  progress-of y h = change-of size M i (withNum boundF y) (withBound y (cellAt M i)) h (bound-of y (cellAt M i))
+  progress-of y h = change-of size M i (withNum boundF y) (withBound y (cellAt M i)) h (bound-of y (cellAt M i)) refl refl
 
 -- ---- an offer's step
 
@@ -127,15 +127,20 @@ module _ (size : ℕ) (M : State) (i : ℕ) where
 absorb-input : (q : Eqn) (o a b : Cell) → q ≡ input → absorb q o a b ≡ o .kept
 absorb-input q o a b e = rw e
 
-pub write-input : (M : State) (i y : ℕ) (new : List Event) → i < length M → cellAt M i .eqn ≡ input → write i y new M ≡ set M i (advance y new (cellAt M i))
+pass-input : (q : Eqn) (y : ℕ) (o a : Cell) → q ≡ input → pass q y o a ≡ o .passed
+pass-input q y o a e = rw e
+
+pub write-input : (M : State) (i y : ℕ) (new : List Event) → i < length M → cellAt M i .eqn ≡ input → write i y new M ≡ set M i (advance y new (cellAt M i .passed) (cellAt M i))
 unfolding write absorbed
 write-input M i y new h e =
-    let c = advance y new (cellAt M i) in
+    let d = cellAt M i in
+    let w : passes i y M ≡ d .passed = pass-input (d .eqn) y d (cellAt M (argA (d .eqn))) e in
+    let c = advance y new (d .passed) d in
     let N = set M i c in
     let q : cellAt N i ≡ c = getD-set-same M i c absent h in
     let a = cellAt N (argA (c .eqn)) in
     let b = cellAt N (argB (c .eqn)) in
-    rw q (ap (λ (k : Kept). set N i (withKept k c)) (absorb-input (c .eqn) c a b e) ∙ set-set M i c c)
+    rw (w, q) (ap (λ (k : Kept). set N i (withKept k c)) (absorb-input (c .eqn) c a b e) ∙ set-set M i c c)
 
 pub step-of : (size : ℕ) (M : State) (i t : ℕ) (v : ℤ) → i < length M → cellAt M i .eqn ≡ input → length (cellAt M i .held) < room
     → offered i t (ofZ w64 v) (rawsOf size M) ≡ rawsOf size (raise i (suc t) (ev t v ∷ []) M)
@@ -143,15 +148,15 @@ unfolding offered raise releases
 step-of size M i t v h e k =
     let c = cellAt M i in
     let new : List Event = ev t v ∷ [] in
-    let c′ = advance (suc t) new c in
+    let c′ = advance (suc t) new (c .passed) c in
     let M₁ = set M i c′ in
     let M₂ = tell i new M₁ in
     let w : write i (suc t) new M ≡ M₁ = write-input M i (suc t) new h e in
-    let p : pushed t (ofZ w64 v) (ofCell c) ≡ ofCell c′ = push-of t v c k ∙ ap (λ (y : ℕ). ofCell (advance y new c)) (add-one t) in
+    let p : pushed t (ofZ w64 v) (ofCell c) ≡ ofCell c′ = push-of t v c k ∙ ap (λ (y : ℕ). ofCell (advance y new (c .passed) c)) (add-one t) in
     let n₁ : length M₁ ≡ length M = length-set M i c′ in
     let n₂ : length M₂ ≡ length M = told-length i t v M₁ ∙ n₁ in
     let held : length (cellAt M₂ i .held) ≤ room = rw (told-held i t v M₁ i (rw n₁ h), getD-set-same M i c′ absent h, length-append (c .held) new) (omega arith) in
-    ap (λ (r : Raws). releasedRow i (changeAll (toldRow i t (ofZ w64 v)) r)) (change-of size M i (pushed t (ofZ w64 v)) c′ h p)
+    ap (λ (r : Raws). releasedRow i (changeAll (toldRow i t (ofZ w64 v)) r)) (change-of size M i (pushed t (ofZ w64 v)) c′ h p refl refl)
     ∙ ap (releasedRow i) (tell-of size M₁ i t v)
     ∙ release-row-of size M₂ i (rw n₂ h) held
     ∙ ap (rawsOf size) (sym (ap (λ (q : Eqn). releases (i ∷ reads q) (tell i new (write i (suc t) new M))) e ∙ ap (λ (N : State). release i (tell i new N)) w))

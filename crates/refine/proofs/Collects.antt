@@ -120,5 +120,5 @@ module _ (size : ℕ) (M : State) (i : ℕ) where
       let c′ = withNext (suc (e .stamp)) c in
       let g : Raw → Raw = λ r. withNum nextF (slotAt j r .stamp + 1) r in
       let p : g (ofCell c) ≡ ofCell c′ = ap (λ (x : Slot). withNum nextF (x .stamp + 1) (ofCell c)) s ∙ ap (λ (n : ℕ). withNum nextF n (ofCell c)) (add-one (e .stamp)) ∙ next-of (suc (e .stamp)) c in
-      ap (releasedRow i) (change-of size M i g c′ h p)
+      ap (releasedRow i) (change-of size M i g c′ h p refl refl)
       ∙ release-row-of size (set M i c′) i (rw (length-set M i c′) h) (rw (getD-set-same M i c′ absent h) k)

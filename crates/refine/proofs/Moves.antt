@@ -1,5 +1,5 @@
 -- A move on raw records is the machine's, on every sound state.
-use Prim.Native.Nat.{ℕ, suc, _+_, _<_, _≤_}
+use Prim.Native.Nat.{ℕ, suc, _+_, _<_, _≤_, max}
 use mathlib.Core.Path.{_≡_, refl, sym, ap, ap₂, _∙_}
 use mathlib.Core.List.{List, [], _∷_}
 use mathlib.Core.Bool.{Bool, true, false, not, cond, _&&_}
@@ -8,24 +8,26 @@ use native.Mathlib.Numerals.{add-one}
 use lib.Dec.{T, leb, eqb}
 use lib.IntN.{ℤ}
 use lib.ListN.{length, set, length-set}
-use lib.Seq.{getD-set-same}
+use lib.Seq.{getD-set-same, set-getD, set-set}
 use borrow.Author.Tests.{lt-ltb, leb-false}
 use mir.Syntax.{w64}
 use mir.Val.{ofZ}
-use Rattle.meaning.specs.Plan.{Eqn, input, nil, unit, one, two, last, delay, signal, isInput}
+use Rattle.meaning.specs.Plan.{Eqn, input, nil, unit, one, two, last, delay, signal, window, isInput}
 use Rattle.meaning.specs.Arguments.{reads, argA, argB, AllBelow}
 use Rattle.meaning.specs.Events.{Event, ev, horizon}
-use Rattle.machine.specs.State.{Kept, Cell, State, absent, cellAt, room, withKept}
+use Rattle.machine.specs.State.{Kept, Passed, Cell, State, absent, cellAt, room, noPassed, withKept, withPassed}
 use Rattle.machine.specs.Reach.{Next, event, silent, decide}
-use Rattle.machine.specs.Step.{advance, absorb, absorbed, write, tell, release, releases, raise, newBound, added, ahead, canMove, comesIn, move}
+use Rattle.machine.specs.Step.{passes, advance, absorb, absorbed, write, tell, release, releases, raise, newBound, added, ahead, canMove, comesIn, move}
 use Rattle.machine.proofs.Cells.{set-cases}
 use Rattle.machine.proofs.Frame.{absorbed-frame, tell-frame}
-use Rattle.layout.specs.Record.{Raws, num, withNum, rowAt, change, changeAll, countF, boundF}
+use Rattle.operators.specs.Operators.{valueOf}
+use Rattle.operators.specs.Windows.{isWindowEqn}
+use Rattle.layout.specs.Record.{Raw, Raws, num, withNum, rowAt, change, changeAll, countF, boundF}
 use Rattle.encoding.specs.Back.{heldOf, toCell}
 use Rattle.encoding.specs.View.{ofCell, rawsOf}
-use Rattle.encoding.specs.Sound.{IsKept, SoundCell, Sound}
+use Rattle.encoding.specs.Sound.{Rising, IsKept, SoundCell, Sound}
 use Rattle.encoding.proofs.Widths.{cell-back}
-use Rattle.preserve.proofs.Steps.{Comes, silence, comes-values, advance-sound, write-sound, tell-sound, release-sound}
+use Rattle.preserve.proofs.Steps.{Comes, silence, comes-values, advance-sound, passes-sound, write-sound, tell-sound, release-sound}
 use Rattle.preserve.proofs.Calls.{ahead-fine}
 use Rattle.machine.proofs.Moves.{can-up}
 use Rattle.streams.specs.Look.{lookOf}
@@ -34,9 +36,11 @@ use Rattle.keeping.specs.Keep.{movedCell, keptRow}
 use Rattle.keeping.proofs.Laws.{absorb-near, kept-cell}
 use Rattle.queue.specs.Queue.{pushed}
 use Rattle.readers.specs.Step.{toldRow, releasedRow}
-use Rattle.moves.specs.Move.{argIn, ownIn, otherIn, aheadRaw, boundRaw, canRaw, keptRaw, absorbedRaw, releasedArgs, releasedAll, silentRaw, eventRaw, stepRaw, movedRaw}
+use Rattle.sliding.specs.Slide.{widthIn, fitRow, slidRow}
+use Rattle.moves.specs.Move.{argIn, ownIn, otherIn, foldOf, foundRaw, aheadRaw, boundRaw, canRaw, slidRaw, keptRaw, absorbedRaw, releasedArgs, releasedAll, silentRaw, eventRaw, stepRaw, movedRaw}
 use Rattle.refine.proofs.Queues.{bound-of, silent-is, push-of}
 use Rattle.refine.proofs.Whole.{row-of, change-of, tell-of, release-row-of}
+use Rattle.refine.proofs.Slides.{Fine, fine, decide-plain, decide-window, pass-plain, pass-window, fit-of, slid-of}
 
 -- ---- a sound cell is looked at as it is
 
@@ -49,8 +53,10 @@ since-below (two g a b) y k ok = rw ok (omega arith)
 since-below (last a b) y k ok = let s = ok .since in omega arith
 since-below (delay a b) y k ok = ok .since
 since-below (signal c a b) y k ok = let s = ok .since in omega arith
+since-below (window f n a) y k ok = rw ok (omega arith)
 
-look-of : (n : ℕ) (c : Cell) → SoundCell n c → lookOf (ofCell c) ≡ c
+-- but for what a window keeps, which lies elsewhere
+look-of : (n : ℕ) (c : Cell) → SoundCell n c → lookOf (ofCell c) ≡ withPassed noPassed c
 look-of n c ok = look-cell c (cell-back n c ok) (ok .bound) (since-below (c .eqn) (c .bound) (c .kept) (ok .kept))
 
 -- ---- the arguments
@@ -64,6 +70,7 @@ first-below n (two g a b) h k = k .0
 first-below n (last a b) h k = k .0
 first-below n (delay a b) h k = k .0
 first-below n (signal c a b) h k = k .0
+first-below n (window f m a) h k = k .0
 
 second-below : (n : ℕ) (e : Eqn) → 0 < n → AllBelow n (reads e) → argB e < n
 second-below n input h k = h
@@ -74,6 +81,7 @@ second-below n (two g a b) h k = k .1 .0
 second-below n (last a b) h k = k .1 .0
 second-below n (delay a b) h k = k .1 .0
 second-below n (signal c a b) h k = k .1 .0
+second-below n (window f m a) h k = h
 
 count-in : (c : Cell) → num countF (ofCell c) ≡ length (c .held)
 unfolding ofCell
@@ -94,7 +102,7 @@ module _ (size : ℕ) (M : State) (ok : Cells M) where
   unfolding rawsOf
   row j h = row-of M j h
 
-  own-is : (j : ℕ) → j < length M → lookOf (rowAt (rawsOf size M) j) ≡ cellAt M j
+  own-is : (j : ℕ) → j < length M → lookOf (rowAt (rawsOf size M) j) ≡ withPassed noPassed (cellAt M j)
   own-is j h = ap lookOf (row j h) ∙ look-of (length M) (cellAt M j) (ok .each j h)
 
   module _ (i : ℕ) (l : i < length M) where
@@ -104,38 +112,17 @@ module _ (size : ℕ) (M : State) (ok : Cells M) where
     below-b : argB (cellAt M i .eqn) < length M
     below-b = second-below (length M) (cellAt M i .eqn) (omega arith) (ok .each i l .arguments)
 
-    own : ownIn i (rawsOf size M) ≡ cellAt M i
+    own : ownIn i (rawsOf size M) ≡ withPassed noPassed (cellAt M i)
     own = own-is i l
 
-    other-is : (a : ℕ) → a < length M → otherIn (length M) a (rawsOf size M) ≡ cellAt M a
+    other-is : (a : ℕ) → a < length M → otherIn (length M) a (rawsOf size M) ≡ withPassed noPassed (cellAt M a)
     other-is a h = ap (λ (j : ℕ). lookOf (rowAt (rawsOf size M) j)) (arg-is (length M) a h) ∙ own-is a h
 
-    first-cell : otherIn (length M) (argA (cellAt M i .eqn)) (rawsOf size M) ≡ cellAt M (argA (cellAt M i .eqn))
+    first-cell : otherIn (length M) (argA (cellAt M i .eqn)) (rawsOf size M) ≡ withPassed noPassed (cellAt M (argA (cellAt M i .eqn)))
     first-cell = other-is (argA (cellAt M i .eqn)) below-a
 
-    second-cell : otherIn (length M) (argB (cellAt M i .eqn)) (rawsOf size M) ≡ cellAt M (argB (cellAt M i .eqn))
+    second-cell : otherIn (length M) (argB (cellAt M i .eqn)) (rawsOf size M) ≡ withPassed noPassed (cellAt M (argB (cellAt M i .eqn)))
     second-cell = other-is (argB (cellAt M i .eqn)) below-b
-
-    -- what a move finds
-    ahead-of : aheadRaw (length M) i (rawsOf size M) ≡ ahead i M
-    unfolding aheadRaw ahead
-    ahead-of =
-        (λ z. decide (own z .eqn) (own z) (otherIn (length M) (argA (own z .eqn)) (rawsOf size M)) (otherIn (length M) (argB (own z .eqn)) (rawsOf size M)))
-        ∙ (λ z. decide (cellAt M i .eqn) (cellAt M i) (first-cell z) (second-cell z))
-
-    bound-after : (x : Next) (held : List Event) → boundRaw x (length held) ≡ newBound x held
-    bound-after (silent r) held = refl
-    bound-after (event t v) held = ap (cond (leb room (length held)) t) (add-one t)
-
-    count : num countF (rowAt (rawsOf size M) i) ≡ length (cellAt M i .held)
-    count = ap (num countF) (row i l) ∙ count-in (cellAt M i)
-
-    -- whether it can move
-    can-by-cells : canRaw (length M) i (rawsOf size M) ≡ canMove i M
-    unfolding canRaw canMove
-    can-by-cells =
-        let b = ap₂ boundRaw ahead-of count ∙ bound-after (ahead i M) (cellAt M i .held) in
-        ap₂ (λ (p : Bool) (q : Bool). not p && not q) (ap (λ (c : Cell). isInput (c .eqn)) own) (ap₂ eqb b (ap (λ (c : Cell). c .bound) own))
 
     -- own kept data brought up to date, from the equation and the kept data as they were looked at
     absorbed-of : (e : Eqn) (k : Kept) (y : ℕ) → e ≡ cellAt M i .eqn → k ≡ cellAt M i .kept → y ≡ cellAt M i .bound
@@ -143,19 +130,87 @@ module _ (size : ℕ) (M : State) (ok : Cells M) where
     unfolding absorbedRaw absorbed lookOf toCell
     absorbed-of e k y qe qk qy =
         let c = cellAt M i in
+        let a = cellAt M (argA (c .eqn)) in
+        let b = cellAt M (argB (c .eqn)) in
         let st = rawsOf size M in
-        let x = absorb (c .eqn) c (cellAt M (argA (c .eqn))) (cellAt M (argB (c .eqn))) in
+        let x = absorb (c .eqn) c a b in
         let held : heldOf (rowAt st i) ≡ c .held = ap (λ (d : Cell). d .held) own in
         let near : keptRaw (length M) i (c .eqn) (c .kept) (c .bound) st ≡ x =
         (λ z. absorb (c .eqn) (movedCell (c .bound) (held z) (c .kept)) (first-cell z) (second-cell z))
-        ∙ sym (absorb-near (c .eqn) (movedCell (c .bound) (c .held) (c .kept)) (cellAt M (argA (c .eqn))) (cellAt M (argB (c .eqn))) 0 0)
-        ∙ absorb-near (c .eqn) c (cellAt M (argA (c .eqn))) (cellAt M (argB (c .eqn))) 0 0 in
+        ∙ sym (absorb-near (c .eqn) (movedCell (c .bound) (c .held) (c .kept)) (withPassed noPassed a) (withPassed noPassed b) 0 0)
+        ∙ absorb-near (c .eqn) c a b 0 0 in
         (λ z. change i (keptRow (qe z) (keptRaw (length M) i (qe z) (qk z) (qy z) st)) st)
         ∙ ap (λ (j : Kept). change i (keptRow (c .eqn) j) st) near
-        ∙ change-of size M i (keptRow (c .eqn) x) (withKept x c) l (kept-cell x c)
+        ∙ change-of size M i (keptRow (c .eqn) x) (withKept x c) l (kept-cell x c) refl refl
+
+-- ---- what a move finds
+
+bound-after : (x : Next) (held : List Event) → boundRaw x (length held) ≡ newBound x held
+bound-after (silent r) held = refl
+bound-after (event t v) held = ap (cond (leb room (length held)) t) (add-one t)
+
+module _ {cap : ℕ} (size : ℕ) (M : State) (ok : Sound cap M) (i : ℕ) (l : i < length M) where
+  abbrev me : Cell
+  me = cellAt M i
+
+  abbrev first-arg : Cell
+  first-arg = cellAt M (argA (cellAt M i .eqn))
+
+  good : isWindowEqn (me .eqn) ≡ true → Fine (me .eqn) (me .passed .window)
+  good q = fine (me .eqn) (me .bound) (me .passed) q (ok .each i l .width) (ok .each i l .passed)
+
+  arg-held : Rising 0 (first-arg .bound) (first-arg .held)
+  arg-held = ok .each (argA (me .eqn)) (below-a size M (cells M ok) i l) .held
+
+  found-of : (b : Bool) → isWindowEqn (me .eqn) ≡ b → foundRaw (length M) i (me .eqn) (withPassed noPassed me) (rawsOf size M) ≡ ahead i M
+  unfolding ahead
+  found-of true q =
+      let e = me .eqn in
+      let y = me .bound in
+      let st = rawsOf size M in
+      let a = otherIn (length M) (argA e) st in
+      let f = first-cell size M (cells M ok) i l in
+      rw q (ap (λ (c : Cell). fitRow (foldOf e) (widthIn (valueOf e)) i y (max y (c .bound)) (c .held) st) f
+      ∙ fit-of size M i l q (ok .windows) (good q) y (max y (first-arg .bound)) (first-arg .held)
+      ∙ decide-window (first-arg .bound) me first-arg (cellAt M (argB e)) arg-held e q)
+  found-of false q =
+      rw q ((λ z. decide (me .eqn) (withPassed noPassed me) (first-cell size M (cells M ok) i l z) (second-cell size M (cells M ok) i l z))
+      ∙ decide-plain (me .eqn) me first-arg (cellAt M (argB (me .eqn))) q)
+
+  ahead-of : aheadRaw (length M) i (rawsOf size M) ≡ ahead i M
+  unfolding aheadRaw
+  ahead-of = (λ z. let o = own size M (cells M ok) i l z in foundRaw (length M) i (o .eqn) o (rawsOf size M)) ∙ found-of (isWindowEqn (me .eqn)) refl
+
+  count : num countF (rowAt (rawsOf size M) i) ≡ length (me .held)
+  count = ap (num countF) (row size M (cells M ok) i l) ∙ count-in me
+
+  bound-is : boundRaw (aheadRaw (length M) i (rawsOf size M)) (num countF (rowAt (rawsOf size M) i)) ≡ newBound (ahead i M) (me .held)
+  bound-is = ap₂ boundRaw ahead-of count ∙ bound-after (ahead i M) (me .held)
+
+  -- whether it can move
+  can-by-cells : canRaw (length M) i (rawsOf size M) ≡ canMove i M
+  unfolding canRaw canMove
+  can-by-cells =
+      let o = own size M (cells M ok) i l in
+      ap₂ (λ (p : Bool) (q : Bool). not p && not q) (ap (λ (c : Cell). isInput (c .eqn)) o) (ap₂ eqb bound-is (ap (λ (c : Cell). c .bound) o))
+
+  -- a window slides, as its bound goes to y: what lies behind the records is what it then keeps
+  slid-raw : (y : ℕ) → slidRaw (length M) i (me .eqn) (me .bound) y (rawsOf size M) ≡ rawsOf size (set M i (withPassed (passes i y M) me))
+  unfolding slidRaw
+  slid-raw y = go (isWindowEqn (me .eqn)) refl
+    where
+      go : (b : Bool) → isWindowEqn (me .eqn) ≡ b
+          → cond (isWindowEqn (me .eqn)) (slidRow (widthIn (valueOf (me .eqn))) i (me .bound) y (otherIn (length M) (argA (me .eqn)) (rawsOf size M) .held) (rawsOf size M)) (rawsOf size M)
+          ≡ rawsOf size (set M i (withPassed (passes i y M) me))
+      go true q =
+          rw q (ap (λ (c : Cell). slidRow (widthIn (valueOf (me .eqn))) i (me .bound) y (c .held) (rawsOf size M)) (first-cell size M (cells M ok) i l)
+          ∙ slid-of size M i l q (ok .windows) (good q) (me .bound) y (first-arg .held)
+          ∙ ap (λ (w : Passed). rawsOf size (set M i (withPassed w me))) (sym (pass-window (first-arg .bound) me first-arg first-arg arg-held (me .eqn) y q)))
+      go false q =
+          rw q (ap (rawsOf size) (sym (ap (λ (w : Passed). set M i (withPassed w me)) (pass-plain (me .eqn) y me first-arg q) ∙ set-getD M i absent)))
 
 pub can-of : {cap : ℕ} (size : ℕ) (M : State) → Sound cap M → (i : ℕ) → i < length M → canRaw (length M) i (rawsOf size M) ≡ canMove i M
-can-of size M ok i l = can-by-cells size M (cells M ok) i l
+can-of size M ok i l = can-by-cells size M ok i l
 
 -- ---- release of the stream and its arguments
 
@@ -196,28 +251,28 @@ module _ {cap : ℕ} (size : ℕ) (M : State) (ok : Sound cap M) (i : ℕ) (l : 
   -- the state with the bound at y and the new events, and with its kept data
   module _ (y : ℕ) (new : List Event) (up : cellAt M i .bound < y) (top : y ≤ horizon) (cm : Comes y (cellAt M i) new) where
     N : State
-    N = set M i (advance y new (cellAt M i))
+    N = set M i (advance y new (passes i y M) (cellAt M i))
 
-    cells-N : Cells (set M i (advance y new (cellAt M i)))
+    cells-N : Cells (set M i (advance y new (passes i y M) (cellAt M i)))
     cells-N = record {
-      each = λ j h. rw (length-set M i (advance y new (cellAt M i))) (at j (rw (length-set M i (advance y new (cellAt M i))) at h));
+      each = λ j h. rw (length-set M i (advance y new (passes i y M) (cellAt M i))) (at j (rw (length-set M i (advance y new (passes i y M) (cellAt M i))) at h));
     }
       where
-        at : (j : ℕ) → j < length M → SoundCell (length M) (cellAt (set M i (advance y new (cellAt M i))) j)
-        at = set-cases (λ j c. j < length M → SoundCell (length M) c) M i (advance y new (cellAt M i)) l (λ j n. ok .each j) (λ h. advance-sound (length M) y (cellAt M i) new (ok .each i l) up top cm)
+        at : (j : ℕ) → j < length M → SoundCell (length M) (cellAt (set M i (advance y new (passes i y M) (cellAt M i))) j)
+        at = set-cases (λ j c. j < length M → SoundCell (length M) c) M i (advance y new (passes i y M) (cellAt M i)) l (λ j n. ok .each j) (λ h. advance-sound (length M) y (cellAt M i) new (passes i y M) (ok .each i l) up top cm (passes-sound i y M ok l up))
 
-    length-N : length (set M i (advance y new (cellAt M i))) ≡ length M
-    length-N = length-set M i (advance y new (cellAt M i))
+    length-N : length (set M i (advance y new (passes i y M) (cellAt M i))) ≡ length M
+    length-N = length-set M i (advance y new (passes i y M) (cellAt M i))
 
     -- the cell that is written: its equation, its bound and what it keeps
-    cell-N : cellAt (set M i (advance y new (cellAt M i))) i ≡ advance y new (cellAt M i)
-    cell-N = getD-set-same M i (advance y new (cellAt M i)) absent l
+    cell-N : cellAt (set M i (advance y new (passes i y M) (cellAt M i))) i ≡ advance y new (passes i y M) (cellAt M i)
+    cell-N = getD-set-same M i (advance y new (passes i y M) (cellAt M i)) absent l
 
-    written : absorbedRaw (length M) i (cellAt M i .eqn) (cellAt M i .kept) y (rawsOf size (set M i (advance y new (cellAt M i)))) ≡ rawsOf size (write i y new M)
+    written : absorbedRaw (length M) i (cellAt M i .eqn) (cellAt M i .kept) y (rawsOf size (set M i (advance y new (passes i y M) (cellAt M i)))) ≡ rawsOf size (write i y new M)
     unfolding write
     written =
-        ap (λ (m : ℕ). absorbedRaw m i (cellAt M i .eqn) (cellAt M i .kept) y (rawsOf size (set M i (advance y new (cellAt M i))))) (sym length-N)
-        ∙ absorbed-of size (set M i (advance y new (cellAt M i))) cells-N i (rw length-N l) (cellAt M i .eqn) (cellAt M i .kept) y
+        ap (λ (m : ℕ). absorbedRaw m i (cellAt M i .eqn) (cellAt M i .kept) y (rawsOf size (set M i (advance y new (passes i y M) (cellAt M i))))) (sym length-N)
+        ∙ absorbed-of size (set M i (advance y new (passes i y M) (cellAt M i))) cells-N i (rw length-N l) (cellAt M i .eqn) (cellAt M i .kept) y
         (ap (λ (c : Cell). c .eqn) (sym cell-N)) (ap (λ (c : Cell). c .kept) (sym cell-N)) (ap (λ (c : Cell). c .bound) (sym cell-N))
 
     after : Sound cap (tell i new (write i y new M))
@@ -231,13 +286,13 @@ module _ {cap : ℕ} (size : ℕ) (M : State) (ok : Sound cap M) (i : ℕ) (l : 
         tell-length s (x ∷ es) K = unfold tell in lib.ListN.length-map K _
 
         write-length : length (write i y new M) ≡ length M
-        write-length = unfold write absorbed in length-set (set M i (advance y new (cellAt M i))) i _ ∙ length-N
+        write-length = unfold write absorbed in length-set (set M i (advance y new (passes i y M) (cellAt M i))) i _ ∙ length-N
 
     eqn-kept : cellAt (tell i new (write i y new M)) i .eqn ≡ cellAt M i .eqn
     unfolding write
     eqn-kept =
-        tell-frame i new (write i y new M) .eqns i ∙ absorbed-frame i (set M i (advance y new (cellAt M i))) (rw length-N l) .eqns i
-        ∙ ap (λ (c : Cell). c .eqn) (getD-set-same M i (advance y new (cellAt M i)) absent l)
+        tell-frame i new (write i y new M) .eqns i ∙ absorbed-frame i (set M i (advance y new (passes i y M) (cellAt M i))) (rw length-N l) .eqns i
+        ∙ ap (λ (c : Cell). c .eqn) (getD-set-same M i (advance y new (passes i y M) (cellAt M i)) absent l)
 
     released : releasedAll (length M) i (cellAt M i .eqn) (rawsOf size (tell i new (write i y new M))) ≡ rawsOf size (raise i y new M)
     unfolding raise
@@ -249,26 +304,41 @@ module _ {cap : ℕ} (size : ℕ) (M : State) (ok : Sound cap M) (i : ℕ) (l : 
   unfolding tell
   tell-none K = refl
 
-  pub silent-of : (y : ℕ) → cellAt M i .bound < y → y ≤ horizon → silentRaw (length M) i (cellAt M i .eqn) (cellAt M i .kept) y (rawsOf size M) ≡ rawsOf size (raise i y [] M)
+  -- the state whose window has slid
+  abbrev slid : ℕ → State
+  slid y = set M i (withPassed (passes i y M) (cellAt M i))
+
+  -- its record changed as the machine changes its cell
+  change-slid : (y : ℕ) (g : Raw → Raw) (d : Cell) → g (ofCell (withPassed (passes i y M) (cellAt M i))) ≡ ofCell d → d .eqn ≡ cellAt M i .eqn → d .passed ≡ passes i y M
+      → change i g (rawsOf size (slid y)) ≡ rawsOf size (set M i d)
+  change-slid y g d e q w =
+      let c = withPassed (passes i y M) (cellAt M i) in
+      let at : cellAt (slid y) i ≡ c = getD-set-same M i c absent l in
+      change-of size (slid y) i g d (rw (length-set M i c) l) (ap (λ (x : Cell). g (ofCell x)) at ∙ e) (q ∙ ap (λ (x : Cell). x .eqn) (sym at)) (w ∙ ap (λ (x : Cell). x .passed) (sym at))
+      ∙ ap (rawsOf size) (set-set M i c d)
+
+  pub silent-of : (y : ℕ) → cellAt M i .bound < y → y ≤ horizon → silentRaw (length M) i (cellAt M i .eqn) (cellAt M i .kept) y (rawsOf size (slid y)) ≡ rawsOf size (raise i y [] M)
   unfolding silentRaw
   silent-of y up top =
       let c = cellAt M i in
-      let p : change i (withNum boundF y) (rawsOf size M) ≡ rawsOf size (set M i (advance y [] c)) =
-      change-of size M i (withNum boundF y) (advance y [] c) l (bound-of y c ∙ ap ofCell (sym (silent-is y c))) in
+      let d = withPassed (passes i y M) c in
+      let p : change i (withNum boundF y) (rawsOf size (slid y)) ≡ rawsOf size (set M i (advance y [] (passes i y M) c)) =
+      change-slid y (withNum boundF y) (advance y [] (passes i y M) c) (bound-of y d ∙ ap ofCell (sym (silent-is y d))) refl refl in
       ap (λ (st : Raws). releasedAll (length M) i (c .eqn) (absorbedRaw (length M) i (c .eqn) (c .kept) y st)) p
       ∙ ap (releasedAll (length M) i (c .eqn)) (written y [] up top silence ∙ ap (rawsOf size) (sym (tell-none (write i y [] M))))
       ∙ released y [] up top silence
 
   pub event-of : (t : ℕ) (v : ℤ) → cellAt M i .bound < suc t → suc t ≤ horizon → Comes (suc t) (cellAt M i) (ev t v ∷ []) → length (cellAt M i .held) < room
-      → eventRaw (length M) i (cellAt M i .eqn) (cellAt M i .kept) t (ofZ w64 v) (rawsOf size M) ≡ rawsOf size (raise i (suc t) (ev t v ∷ []) M)
+      → eventRaw (length M) i (cellAt M i .eqn) (cellAt M i .kept) t (ofZ w64 v) (rawsOf size (slid (suc t))) ≡ rawsOf size (raise i (suc t) (ev t v ∷ []) M)
   unfolding eventRaw
   event-of t v up top cm space =
       let c = cellAt M i in
+      let w = passes i (suc t) M in
       let new : List Event = ev t v ∷ [] in
-      let p : change i (pushed t (ofZ w64 v)) (rawsOf size M) ≡ rawsOf size (set M i (advance (suc t) new c)) =
-      change-of size M i (pushed t (ofZ w64 v)) (advance (suc t) new c) l (push-of t v c space ∙ ap (λ (y : ℕ). ofCell (advance y new c)) (add-one t)) in
+      let p : change i (pushed t (ofZ w64 v)) (rawsOf size (slid (suc t))) ≡ rawsOf size (set M i (advance (suc t) new w c)) =
+      change-slid (suc t) (pushed t (ofZ w64 v)) (advance (suc t) new w c) (push-of t v (withPassed w c) space ∙ ap (λ (y : ℕ). ofCell (advance y new w c)) (add-one t)) refl refl in
       ap (λ (st : Raws). releasedAll (length M) i (c .eqn) (changeAll (toldRow i t (ofZ w64 v)) (absorbedRaw (length M) i (c .eqn) (c .kept) (t + 1) st))) p
-      ∙ ap (λ (y : ℕ). releasedAll (length M) i (c .eqn) (changeAll (toldRow i t (ofZ w64 v)) (absorbedRaw (length M) i (c .eqn) (c .kept) y (rawsOf size (set M i (advance (suc t) new c)))))) (add-one t)
+      ∙ ap (λ (y : ℕ). releasedAll (length M) i (c .eqn) (changeAll (toldRow i t (ofZ w64 v)) (absorbedRaw (length M) i (c .eqn) (c .kept) y (rawsOf size (set M i (advance (suc t) new w c)))))) (add-one t)
       ∙ ap (λ (st : Raws). releasedAll (length M) i (c .eqn) (changeAll (toldRow i t (ofZ w64 v)) st)) (written (suc t) new up top cm)
       ∙ ap (releasedAll (length M) i (c .eqn)) (tell-of size (write i (suc t) new M) i t v)
       ∙ released (suc t) new up top cm
@@ -277,18 +347,18 @@ module _ {cap : ℕ} (size : ℕ) (M : State) (ok : Sound cap M) (i : ℕ) (l : 
   pub moved-of : T (canMove i M) → movedRaw (length M) i (rawsOf size M) ≡ rawsOf size (move i M)
   unfolding movedRaw move comesIn
   moved-of can =
-      (λ z. stepRaw (length M) i (own size M (cells M ok) i l z .eqn) (own size M (cells M ok) i l z .kept) (ahead-of size M (cells M ok) i l z) (count size M (cells M ok) i l z) (rawsOf size M))
+      let o = own size M (cells M ok) i l in
+      let y = newBound (ahead i M) (cellAt M i .held) in
+      (λ z. stepRaw (length M) i (o z .eqn) (o z .kept) (ahead-of size M ok i l z) (count size M ok i l z) (slidRaw (length M) i (o z .eqn) (o z .bound) (bound-is size M ok i l z) (rawsOf size M)))
+      ∙ ap (stepRaw (length M) i (cellAt M i .eqn) (cellAt M i .kept) (ahead i M) (length (cellAt M i .held))) (slid-raw size M ok i l y)
       ∙ go (ahead i M) (can-up i M can) (ahead-fine M ok i l)
     where
-      h : List Event
-      h = cellAt M i .held
-
       go : (x : Next) → cellAt M i .bound < newBound x (cellAt M i .held) → (newBound x (cellAt M i .held) ≤ horizon) × Comes (newBound x (cellAt M i .held)) (cellAt M i) (added x (cellAt M i .held))
-          → stepRaw (length M) i (cellAt M i .eqn) (cellAt M i .kept) x (length (cellAt M i .held)) (rawsOf size M) ≡ rawsOf size (raise i (newBound x (cellAt M i .held)) (added x (cellAt M i .held)) M)
+          → stepRaw (length M) i (cellAt M i .eqn) (cellAt M i .kept) x (length (cellAt M i .held)) (rawsOf size (slid (newBound x (cellAt M i .held)))) ≡ rawsOf size (raise i (newBound x (cellAt M i .held)) (added x (cellAt M i .held)) M)
       go (silent r) up f = silent-of r up (f .0)
       go (event t v) up f = full (leb room (length (cellAt M i .held))) refl up f
         where
           full : (b : Bool) → leb room (length (cellAt M i .held)) ≡ b → cellAt M i .bound < cond b t (suc t) → (cond b t (suc t) ≤ horizon) × Comes (cond b t (suc t)) (cellAt M i) (cond b [] (ev t v ∷ []))
-              → cond b (silentRaw (length M) i (cellAt M i .eqn) (cellAt M i .kept) t (rawsOf size M)) (eventRaw (length M) i (cellAt M i .eqn) (cellAt M i .kept) t (ofZ w64 v) (rawsOf size M)) ≡ rawsOf size (raise i (cond b t (suc t)) (cond b [] (ev t v ∷ [])) M)
+              → cond b (silentRaw (length M) i (cellAt M i .eqn) (cellAt M i .kept) t (rawsOf size (slid (cond b t (suc t))))) (eventRaw (length M) i (cellAt M i .eqn) (cellAt M i .kept) t (ofZ w64 v) (rawsOf size (slid (cond b t (suc t))))) ≡ rawsOf size (raise i (cond b t (suc t)) (cond b [] (ev t v ∷ [])) M)
           full true q u f = silent-of t u (f .0)
           full false q u f = event-of t v u (f .0) (f .1) (leb-false room (length (cellAt M i .held)) q)

@@ -29,7 +29,7 @@ unfolding ofCell
 next-of n c = refl
 
 -- a silent step writes the bound alone
-pub silent-is : (y : ℕ) (c : Cell) → advance y [] c ≡ withBound y c
+pub silent-is : (y : ℕ) (c : Cell) → advance y [] (c .passed) c ≡ withBound y c
 silent-is y c = ap (λ (l : List Event). withHeld l (withBound y c)) (append-nil (c .held))
 
 -- ---- an event appended
@@ -48,7 +48,7 @@ map-snoc f (a ∷ l) e = ap (_∷_ (f a)) (map-snoc f l e)
 abbrev counted : Raw → ℕ → List Slot → Raw
 counted r n l = record { nums = set (r .nums) countF n; slots = l }
 
-pub push-of : (t : ℕ) (v : ℤ) (c : Cell) → length (c .held) < room → pushed t (ofZ w64 v) (ofCell c) ≡ ofCell (advance (t + 1) (ev t v ∷ []) c)
+pub push-of : (t : ℕ) (v : ℤ) (c : Cell) → length (c .held) < room → pushed t (ofZ w64 v) (ofCell c) ≡ ofCell (advance (t + 1) (ev t v ∷ []) (c .passed) c)
 unfolding pushed ofCell
 push-of t v c h =
     let l = c .held in

@@ -18,12 +18,12 @@ use Rattle.operators.specs.Operators.{groupOf, isIn, isLast, isDelay, isSignal}
 use Rattle.operators.specs.Rules.{valueOk, outOk}
 use Rattle.operators.specs.declared.Group.{Group}
 use Rattle.le.specs.Bytes.{allZero}
-use Rattle.layout.specs.Record.{Raw, num, decRaw, opF, outF, countF, flagF, priorFlagF, smallF, boundF, nextF, keptF, valueF, priorF, lastF}
+use Rattle.layout.specs.Record.{Raw, num, decRaw, opF, outF, countF, flagF, priorFlagF, smallF, kF, boundF, nextF, keptF, valueF, priorF, lastF}
 use Rattle.layout.proofs.Laws.{RawOk, num-small}
-use Rattle.encoding.specs.View.{flag, flagOf, bitsOf, noNums, lastNums, delayNums, signalNums}
+use Rattle.encoding.specs.View.{flag, flagOf, bitsOf, KeptNums, noNums, lastNums, delayNums, signalNums}
 use Rattle.encoding.specs.Back.{optional, keptOf}
 use Rattle.encoding.specs.Sound.{IsValue, IsOptional, LastKept, DelayKept, SignalKept}
-use Rattle.valid.specs.Valid.{planOk, nextOk, sizesOk, risen, flagOk, noneIf, noneOk, latestOk, lastOk, signalOk, ownOk, delayOk, keptOk, rowOk}
+use Rattle.valid.specs.Valid.{planOk, nextOk, sizesOk, risen, flagOk, noneIf, noneOk, latestOk, lastOk, signalOk, ownOk, delayOk, windowOk, keptOk, rowOk}
 use Rattle.valid.proofs.Tests.{left, right}
 use Rattle.valid.proofs.Link.{PlanFacts, plan-facts}
 use Rattle.roundtrip.proofs.Tail.{bits-value}
@@ -119,6 +119,12 @@ absent : (y has x : ℕ) → noneIf y has ≡ true → y ≡ 0 → optional has 
 absent y has x e z =
     let q : has ≡ 0 = eqb-true has 0 (rw (eq-eqb y 0 z) at e) in
     rw q
+
+-- what is stored of a window in its record
+pub record WindowFacts (r : Raw) : Type 0 where
+  pub few : num flagF r ≤ num kF r
+  pub fresh : num boundF r ≡ 0 → num flagF r ≡ 0
+  pub nums : _≡_ {A = KeptNums} (record { flag = num flagF r; priorFlag = 0; kept = 0; value = 0; prior = 0 }) (record { flag = num flagF r; priorFlag = num priorFlagF r; kept = num keptF r; value = num valueF r; prior = num priorF r })
 
 module _ (r : Raw) (ok : RawOk r) where
   pub word : (j : ℕ) → 8 ≤ j → j < 15 → num j r < 2 ^ 64
@@ -221,9 +227,33 @@ module _ (r : Raw) (ok : RawOk r) where
       let f : Bool = w && leb (num keptF r) (num boundF r) in
       left w (leb (num keptF r) (num boundF r)) (right d f (right c (d && f) (right b (c && (d && f)) (right a (b && (c && (d && f))) e))))
 
-  pub none-kept : noneOk r ≡ true → isLast (groupOf (num opF r)) ≡ false → isDelay (groupOf (num opF r)) ≡ false → isSignal (groupOf (num opF r)) ≡ false → (keptOf r ≡ noKept) × (noNums ≡ record { flag = num flagF r; priorFlag = num priorFlagF r; kept = num keptF r; value = num valueF r; prior = num priorF r })
-  unfolding noneOk keptOf
-  none-kept e l m n =
+  -- what is kept in the record by no other than these three
+  pub other-kept : isLast (groupOf (num opF r)) ≡ false → isDelay (groupOf (num opF r)) ≡ false → isSignal (groupOf (num opF r)) ≡ false → keptOf r ≡ noKept
+  unfolding keptOf
+  other-kept l m n = rw (l, m, n)
+
+  pub window-kept : windowOk r ≡ true → WindowFacts r
+  unfolding windowOk
+  window-kept e =
+      let a : Bool = leb (num flagF r) (num kF r) in
+      let b : Bool = noneIf (num boundF r) (num flagF r) in
+      let c : Bool = eqb (num priorFlagF r) 0 in
+      let d : Bool = eqb (num keptF r) 0 in
+      let f : Bool = eqb (num valueF r) 0 in
+      let g : Bool = eqb (num priorF r) 0 in
+      let e₁ = right a (b && (c && (d && (f && g)))) e in
+      let e₂ = right b (c && (d && (f && g))) e₁ in
+      let e₃ = right c (d && (f && g)) e₂ in
+      let e₄ = right d (f && g) e₃ in
+      record {
+        few = leb-true (num flagF r) (num kF r) (left a (b && (c && (d && (f && g)))) e);
+        fresh = λ z. eqb-true (num flagF r) 0 (rw (eq-eqb (num boundF r) 0 z) at (left b (c && (d && (f && g))) e₁));
+        nums = λ i. record { flag = num flagF r; priorFlag = sym (eqb-true (num priorFlagF r) 0 (left c (d && (f && g)) e₂)) i; kept = sym (eqb-true (num keptF r) 0 (left d (f && g) e₃)) i; value = sym (eqb-true (num valueF r) 0 (left f g e₄)) i; prior = sym (eqb-true (num priorF r) 0 (right f g e₄)) i };
+      }
+
+  pub none-kept : noneOk r ≡ true → noNums ≡ record { flag = num flagF r; priorFlag = num priorFlagF r; kept = num keptF r; value = num valueF r; prior = num priorF r }
+  unfolding noneOk
+  none-kept e =
       let a : Bool = eqb (num flagF r) 0 in
       let b : Bool = eqb (num priorFlagF r) 0 in
       let c : Bool = eqb (num keptF r) 0 in
@@ -231,7 +261,5 @@ module _ (r : Raw) (ok : RawOk r) where
       let f : Bool = eqb (num priorF r) 0 in
       let e₁ = right a (b && (c && (d && f))) e in
       let e₂ = right b (c && (d && f)) e₁ in
-      let e₃ = right c (d && f) e₂ in (
-        rw (l, m, n),
-        λ i. record { flag = sym (eqb-true (num flagF r) 0 (left a (b && (c && (d && f))) e)) i; priorFlag = sym (eqb-true (num priorFlagF r) 0 (left b (c && (d && f)) e₁)) i; kept = sym (eqb-true (num keptF r) 0 (left c (d && f) e₂)) i; value = sym (eqb-true (num valueF r) 0 (left d f e₃)) i; prior = sym (eqb-true (num priorF r) 0 (right d f e₃)) i },
-      )
+      let e₃ = right c (d && f) e₂ in
+      λ i. record { flag = sym (eqb-true (num flagF r) 0 (left a (b && (c && (d && f))) e)) i; priorFlag = sym (eqb-true (num priorFlagF r) 0 (left b (c && (d && f)) e₁)) i; kept = sym (eqb-true (num keptF r) 0 (left c (d && f) e₂)) i; value = sym (eqb-true (num valueF r) 0 (left d f e₃)) i; prior = sym (eqb-true (num priorF r) 0 (right d f e₃)) i }

@@ -1,5 +1,5 @@
 -- Valid bytes read as a state, and a sound state's bytes.
-use Prim.Native.Nat.{ℕ, _*_, _≤_}
+use Prim.Native.Nat.{ℕ, _+_, _*_, _≤_}
 use mathlib.Core.Path.{_≡_, refl, sym, ap, _∙_}
 use mathlib.Core.Bool.{Bool, true, false, cond}
 use mathlib.Core.List.{List}
@@ -7,8 +7,10 @@ use native.Mathlib.Omega.{arith}
 use lib.ListN.{length}
 use Rattle.machine.specs.State.{State}
 use Rattle.operators.specs.Limits.{capacity}
+use Rattle.operators.proofs.Sizes.{capacity-area}
 use Rattle.le.specs.Bytes.{Bytes}
 use Rattle.layout.specs.Record.{decode}
+use Rattle.layout.specs.Windows.{areaLength}
 use Rattle.encoding.specs.View.{rawsOf, bytesOf}
 use Rattle.encoding.specs.Back.{stateOf}
 use Rattle.encoding.specs.Sound.{Sound}
@@ -59,3 +61,7 @@ module _ (s : List ℕ) (b : Bytes s) (n : ℕ) (h : IsState s n) where
 
   pub room-for : n * 256 ≤ length s
   room-for = rw (h .streams) (count-fits s)
+
+  -- and behind the records there is room for the windows
+  pub area-for : n * 256 + areaLength ≤ length s
+  area-for = let c = capacity-area (length s) (sound .size) in let f = few in omega arith

@@ -2,6 +2,8 @@ pub mod Passes
 pub mod Tail
 pub mod Back
 pub mod Rows
+pub mod Windows
+pub mod Cells
 pub mod Whole
 pub mod In
 pub mod Empty

@@ -2,7 +2,7 @@
 use Prim.Native.Nat.{ℕ, zero, suc, _+_, _*_, _-_, _<_, _≤_}
 use mathlib.Core.Path.{_≡_, refl, sym, ap, _∙_}
 use mathlib.Core.List.{List, [], _∷_, _++_, map}
-use mathlib.Core.Bool.{Bool, true, false, cond}
+use mathlib.Core.Bool.{Bool, true, false, cond, _&&_}
 use mathlib.Core.Option.{Option, none, some}
 use native.Mathlib.Omega.{arith}
 use lib.Dec.{T, lit<, ltb, eqb}
@@ -12,11 +12,14 @@ use lib.Seq.{drop-append-add}
 use borrow.Author.Tests.{le-leb, lt-ltb, eq-eqb, ne-eqb}
 use mir.Syntax.{w64}
 use mir.Val.{ofZ}
-use Rattle.meaning.specs.Plan.{Eqn, input, nil, unit, one, two, last, delay, signal}
+use Rattle.meaning.specs.Plan.{Eqn, input, nil, unit, one, two, last, delay, signal, window}
+use Rattle.meaning.specs.Table.{width}
 use Rattle.meaning.specs.Events.{Event, horizon}
-use Rattle.machine.specs.State.{Kept, Cell, room}
-use Rattle.operators.specs.Operators.{groupOf, isDelay, isPresent, isOperator, eqnGroup, numberOf}
-use Rattle.operators.proofs.Laws.{one-group, two-group, signal-group, group-of}
+use Rattle.machine.specs.State.{Kept, Passed, Cell, room}
+use Rattle.operators.specs.Operators.{groupOf, isDelay, isPresent, isOperator, eqnGroup, numberOf, valueOf}
+use Rattle.operators.proofs.Laws.{one-group, two-group, signal-group, window-group, group-of}
+use Rattle.operators.specs.Windows.{IsWidth}
+use Rattle.operators.proofs.Widths.{width-pass, width-bits}
 use Rattle.operators.proofs.Rules.{out-pass, fields-pass}
 use Rattle.le.specs.Bytes.{allZero}
 use Rattle.le.specs.Layout.{encFields, encRows}
@@ -25,9 +28,9 @@ use Rattle.layout.specs.Record.{noSlot, num, headWidths, encSlot, encRaw, decRa
 use Rattle.layout.proofs.Laws.{head-len, slot-len, raw-enc}
 use Rattle.layout.proofs.Slots.{slot-zeros}
 use Rattle.encoding.specs.View.{flag, flagOf, bitsOf, keptNums, slotOf, padTo, rawOf, ofCell}
-use Rattle.encoding.specs.Sound.{Rising, IsNext, IsKept, SoundCell, Own}
+use Rattle.encoding.specs.Sound.{Rising, IsNext, IsKept, IsPassed, SoundCell, Own}
 use Rattle.encoding.proofs.Widths.{cell-raw, pad-length}
-use Rattle.valid.specs.Valid.{planOk, nextOk, sizesOk, risen, flagOk, noneIf, noneOk, latestOk, lastOk, signalOk, ownOk, delayOk, keptOk, rowOk}
+use Rattle.valid.specs.Valid.{planOk, nextOk, sizesOk, risen, flagOk, noneIf, noneOk, latestOk, lastOk, signalOk, ownOk, delayOk, windowOk, keptOk, rowOk}
 
 -- ---- the plan part
 
@@ -43,15 +46,19 @@ op-passes e = ap isPresent (group-of e) ∙ shape e
     shape (last a b) = refl
     shape (delay a b) = refl
     shape (signal c a b) = refl
+    shape (window f k a) = refl
 
 flag-small : (b : Bool) → flag b < 2
 flag-small true = lit< tt
 flag-small false = lit< tt
 
+and-true : (x : Bool) → x ≡ true → (x && true) ≡ true
+and-true x e = rw e
+
 plan-passes : (n : ℕ) (c : Cell) → SoundCell n c → planOk n (ofCell c) ≡ true
 unfolding planOk ofCell
 plan-passes n c ok =
-    rw (op-passes (c .eqn)) (fields-pass (ofZ w64) refl n (c .eqn) (flag (c .out)) (ok .arguments) (out-pass (c .eqn) (flag (c .out)) (flag-small (c .out)) (λ t. ap flag (ok .out t))))
+    rw (op-passes (c .eqn), width-pass (c .eqn) (ok .width)) (and-true _ (fields-pass (ofZ w64) refl n (c .eqn) (flag (c .out)) (ok .arguments) (out-pass (c .eqn) (flag (c .out)) (flag-small (c .out)) (λ t. ap flag (ok .out t)))))
 
 -- ---- sizes, stamps, kept data
 
@@ -89,17 +96,23 @@ newest-passes lo top (suc n) zero (e ∷ []) h r l = r .2
 newest-passes lo top (suc n) zero (e ∷ d ∷ es) h r l = absurd (omega arith)
 newest-passes lo top (suc n) (suc j) (e ∷ es) h r l = newest-passes (suc (e .stamp)) top n j es (omega arith) (r .2) (omega arith)
 
-kept-passes : (e : Eqn) (o : Bool) (y : ℕ) (h : List Event) (m : ℕ) (k : Kept) → IsKept e y k → length h ≤ room → (T (isDelay (eqnGroup e)) → Rising 0 (k .since) h) → keptOk (rawOf e o y h m (keptNums e k)) ≡ true
-unfolding keptOk noneOk latestOk lastOk signalOk delayOk ownOk groupOf numberOf
-kept-passes input o y h m k ok few own = refl
-kept-passes nil o y h m k ok few own = refl
-kept-passes unit o y h m k ok few own = refl
-kept-passes (one f a) o y h m k ok few own = rw (one-group f)
-kept-passes (two g a b) o y h m k ok few own = rw (two-group g)
-kept-passes (last a b) o y h m k ok few own = rw (flag-passes (k .prev), none-passes y (k .prev) (ok .fresh))
-kept-passes (signal c a b) o y h m k ok few own =
+kept-passes : (e : Eqn) (o : Bool) (y : ℕ) (h : List Event) (m : ℕ) (k : Kept) (w : Passed) → IsWidth e → IsKept e y k → IsPassed e y w → length h ≤ room → (T (isDelay (eqnGroup e)) → Rising 0 (k .since) h) → keptOk (rawOf e o y h m (keptNums e k w)) ≡ true
+unfolding keptOk noneOk latestOk lastOk signalOk delayOk windowOk ownOk groupOf numberOf valueOf
+kept-passes input o y h m k w i ok p few own = refl
+kept-passes nil o y h m k w i ok p few own = refl
+kept-passes unit o y h m k w i ok p few own = refl
+kept-passes (one f a) o y h m k w i ok p few own = rw (one-group f)
+kept-passes (two g a b) o y h m k w i ok p few own = rw (two-group g)
+kept-passes (last a b) o y h m k w i ok p few own = rw (flag-passes (k .prev), none-passes y (k .prev) (ok .fresh))
+kept-passes (signal c a b) o y h m k w i ok p few own =
     rw (signal-group c, flag-passes (k .prev), none-passes y (k .prev) (ok .fresh), flag-passes (k .prevB), none-passes y (k .prevB) (ok .freshB))
-kept-passes (delay a b) o y h m k ok few own =
+kept-passes (window f v a) o y h m k w i ok p few own =
+    rw (window-group f, width-bits v (i .0) (i .1), le-leb (length (w .window)) (width v) (p .few), fresh y (p .fresh))
+  where
+    fresh : (y : ℕ) → (y ≡ 0 → w .window ≡ []) → noneIf y (length (w .window)) ≡ true
+    fresh zero h = rw (h refl)
+    fresh (suc y) h = rw (ne-eqb (suc y) 0 (λ e. omega arith))
+kept-passes (delay a b) o y h m k w i ok p few own =
     rw (flag-passes (k .value), flag-passes (k .prior), none-passes (k .since) (k .value) (ok .unset), none-passes y (k .prior) (ok .fresh), newest h few (own tt)) (le-leb (k .since) y (ok .since))
   where
     newest : (es : List Event) → length es ≤ room → Rising 0 (k .since) es → cond (eqb (length es) 0) true (ltb (getD (padTo room noSlot (map slotOf es)) (length es - 1) noSlot .stamp) (k .since)) ≡ true
@@ -164,4 +177,4 @@ row-passes n c h ok own =
     stamps = unfold ofCell in risen-passes 0 (c .bound) room (c .held) (ok .few) (ok .held)
 
     keeps : keptOk (ofCell c) ≡ true
-    keeps = unfold ofCell in kept-passes (c .eqn) (c .out) (c .bound) (c .held) (c .next) (c .kept) (ok .kept) (ok .few) own
+    keeps = unfold ofCell in kept-passes (c .eqn) (c .out) (c .bound) (c .held) (c .next) (c .kept) (c .passed) (ok .width) (ok .kept) (ok .passed) (ok .few) own

@@ -9,22 +9,24 @@ use native.Mathlib.Omega.{arith}
 use lib.Dec.{T, leb, ltb, ltb→lt, nltb→le}
 use lib.ListN.{length}
 use lib.IntN.{ℤ}
-use Rattle.meaning.specs.Plan.{Calc, Eqn, input, nil, unit, one, two, last, delay, signal}
+use Rattle.meaning.specs.Plan.{Calc, Fold, Eqn, input, nil, unit, one, two, last, delay, signal, window}
 use Rattle.meaning.specs.Arguments.{reads, Each, argA, argB}
-use Rattle.meaning.specs.Events.{Event, ev, Stream, Streams, has, horizon}
-use Rattle.meaning.specs.Table.{latest, last-at, signal-at, is, fires, delay-at, at}
+use Rattle.meaning.specs.Events.{Event, ev, Stream, Streams, events, has, horizon}
+use Rattle.meaning.specs.Table.{latest, last-at, signal-at, latestOf, values, width, window-at, is, fires, delay-at, at}
 use Rattle.meaning.proofs.Tests.{Is, yes!, no!, look}
 use Rattle.meaning.proofs.Each.{each-map}
 use Rattle.meaning.proofs.Induction.{strong}
 use Rattle.machine.specs.State.{Cell, State, cellAt, room}
-use Rattle.machine.specs.Reach.{view, pastLatest, limit, point, stops, reach, valueAt, due, heldLatest, gives, first, Next, event, silent, nextOf, decide}
+use Rattle.machine.specs.Reach.{view, pastLatest, limit, point, stops, reach, valueAt, due, heldLatest, slid, gives, first, Next, event, silent, nextOf, decide}
 use Rattle.machine.specs.Step.{leastWaiting, newBound, added}
 use Rattle.machine.specs.Step as step
 use Rattle.machine.proofs.Search.{least-ge, least-le, least-before, least-hit}
 use Rattle.machine.proofs.Window.{Seen, has-none, latest-seam, past-cong, past-flat, past-seam}
+use Rattle.machine.proofs.Lasts.{window-seam}
 use Rattle.machine.proofs.Release.{each-read, waiting-le-reader}
 use Rattle.runs.specs.Inside.{knownIn, below}
 use Rattle.runs.proofs.Kept.{keptOf, pointOf, point-le, point-new, value-seam}
+use Rattle.runs.proofs.Passed.{passedOf}
 use Rattle.runs.proofs.Tracks.{cut-yes, cut-latest, Ahead, Tracks, New, quiet, new-none, held-shows}
 use Rattle.runs.proofs.Tracks as tracks
 use Rattle.runs.proofs.Fires.{fires-latest}
@@ -103,6 +105,14 @@ module _ (S : Streams) (M : State) (inv : Tracks S M) where
           latest-is b (suc t) lb (ap (λ c. c .prevB) k) (omega arith) n,
         )
 
+    -- what a window has at its end: what is kept, and what is held from its bound on
+    pub slid-is : (k a t : ℕ) {w : List ℤ} → floor a ≤ y → w ≡ latestOf k (values (events (S a) y)) → y ≤ t → t ≤ C a .bound → slid k y t w (view (C a)) ≡ latestOf k (values (events (S a) t))
+    slid-is k a t la e l m = rw e (window-seam k (S a) (view (C a)) y t l (λ p i j. arg-at a p la i (omega arith)))
+
+    window-gives : (f : Fold) (k : ℤ) (a t : ℕ) → floor a ≤ y → C s .passed ≡ passedOf (window f k a) S y → y ≤ t → t < C a .bound
+        → gives (window f k a) (C s) (C a) (C a) t ≡ window-at f (S a t) (latestOf (width k) (values (events (S a) (suc t))))
+    window-gives f k a t la e l m = rw (slid-is (width k) a (suc t) la (ap (λ w. w .window) e) (omega arith) m, arg-at a t la l m)
+
     module _ (a b t : ℕ) (la : floor a ≤ y) (lb : floor b ≤ y) (k : C s .kept ≡ keptOf (delay a b) (knownIn S M) s y) (l : y ≤ t) (m : t ≤ C b .bound)
         (q : (p : ℕ) → y ≤ p → p < t → S s p ≡ none) where
       since-is : C s .kept .since ≡ pointOf (S b) (S s) y
@@ -141,19 +151,21 @@ module _ (S : Streams) (M : State) (inv : Tracks S M) where
           both false h = refl
 
     -- one case for each operator
-    gives-at : (e : Eqn) (t : ℕ) → Each (λ i. floor i ≤ y) (reads e) → C s .kept ≡ keptOf e (knownIn S M) s y → ((p : ℕ) → p < horizon → S s p ≡ at e rd S s p)
+    gives-at : (e : Eqn) (t : ℕ) → Each (λ i. floor i ≤ y) (reads e) → C s .kept ≡ keptOf e (knownIn S M) s y → C s .passed ≡ passedOf e S y
+        → ((p : ℕ) → p < horizon → S s p ≡ at e rd S s p)
         → y ≤ t → t < horizon → t < limit e (C s) (C (argA e)) (C (argB e)) → T (not (stops e (C s) (C (argA e)) (C (argB e)) t))
         → ((p : ℕ) → y ≤ p → p < t → S s p ≡ none) → (e ≡ input → ⊥) → gives e (C s) (C (argA e)) (C (argB e)) t ≡ at e rd S s t
     unfolding at
-    gives-at input t l k row a h b c n i = absurd (i refl)
-    gives-at nil t l k row a h b c n i = refl
-    gives-at unit t l k row a h b c n i = refl
-    gives-at (one f x) t l k row a h b c n i = rw (arg-at x t (l .0) a b)
-    gives-at (two g x z) t l k row a h b c n i = rw (arg-at x t (l .0) a (omega arith), arg-at z t (l .1 .0) a (omega arith))
-    gives-at (last x z) t l k row a h b c n i = last-gives x z t (l .0) (l .1 .0) k a b c
-    gives-at (delay x z) t l k row a h b c n i =
+    gives-at input t l k w row a h b c n i = absurd (i refl)
+    gives-at nil t l k w row a h b c n i = refl
+    gives-at unit t l k w row a h b c n i = refl
+    gives-at (one f x) t l k w row a h b c n i = rw (arg-at x t (l .0) a b)
+    gives-at (two g x z) t l k w row a h b c n i = rw (arg-at x t (l .0) a (omega arith), arg-at z t (l .1 .0) a (omega arith))
+    gives-at (last x z) t l k w row a h b c n i = last-gives x z t (l .0) (l .1 .0) k a b c
+    gives-at (delay x z) t l k w row a h b c n i =
         ap delay-at (delay-gives x z t (l .0) (l .1 .0) k a (omega arith) n c (fires-latest (S x) (S z) (S s) horizon row t (omega arith)))
-    gives-at (signal g x z) t l k row a h b c n i = signal-gives g x z t (l .0) (l .1 .0) k a (omega arith) (omega arith)
+    gives-at (signal g x z) t l k w row a h b c n i = signal-gives g x z t (l .0) (l .1 .0) k a (omega arith) (omega arith)
+    gives-at (window f m x) t l k w row a h b c n i = window-gives f m x t (l .0) w a b
 
     limit-le : (e : Eqn) → limit e (C s) (C (argA e)) (C (argB e)) ≤ horizon
     limit-le input = inv .top s
@@ -164,6 +176,7 @@ module _ (S : Streams) (M : State) (inv : Tracks S M) where
     limit-le (last a b) = inv .top b
     limit-le (delay a b) = omega arith
     limit-le (signal c a b) = let x = inv .top a in omega arith
+    limit-le (window f k a) = inv .top a
 
     ahead-limit : (e : Eqn) (x : ℕ) → Ahead e M y → x ≤ max y (limit e (C s) (C (argA e)) (C (argB e))) → Ahead e M x
     ahead-limit input x k l = tt
@@ -174,6 +187,7 @@ module _ (S : Streams) (M : State) (inv : Tracks S M) where
     ahead-limit (last a b) x k l = tt
     ahead-limit (delay a b) x k l = omega arith
     ahead-limit (signal c a b) x k l = let u = k .0 in let v = k .1 in (omega arith, omega arith)
+    ahead-limit (window f n a) x k l = omega arith
 
     module _ (row : (p : ℕ) → p < horizon → S s p ≡ at (cellAt M s .eqn) rd S s p) (equation : cellAt M s .eqn ≡ input → ⊥) where
       abbrev pub e : Eqn
@@ -214,7 +228,7 @@ module _ (S : Streams) (M : State) (inv : Tracks S M) where
           let h = in-reach t l m in
           let g = limit-le e in
           let b = h .0 in
-          gives-at e t (floor-read s) (inv .kept s) row l (omega arith) b (h .1) n equation ∙ sym (row t (omega arith))
+          gives-at e t (floor-read s) (inv .kept s) (inv .passed s) row l (omega arith) b (h .1) n equation ∙ sym (row t (omega arith))
 
       first-le : next ≤ far
       unfolding first

@@ -1,17 +1,18 @@
--- What a last, a delay or a signal form keeps, told by the solution: the machine's search for the latest set point finds the
--- latest, and what a signal form needs of its arguments is known.
+-- What a last, a delay, a signal form or a window keeps, told by the solution: the machine's search for the latest set point
+-- finds the latest, and what a signal form or a window needs of its arguments is known.
 use mathlib.Core.Path.{_≡_, refl, ap}
 use mathlib.Core.Logic.{inl, inr}
 use Prim.Native.Nat.{ℕ, zero, suc, pred, _≤_, _<_, max}
 use native.Mathlib.Omega.{arith}
 use native.Mathlib.Decide.{decLe}
-use Rattle.meaning.specs.Plan.{Eqn, input, nil, unit, one, two, last, delay, signal}
+use Rattle.meaning.specs.Plan.{Eqn, input, nil, unit, one, two, last, delay, signal, window}
 use Rattle.meaning.specs.Events.{Stream, Streams}
 use Rattle.machine.specs.State.{State, cellAt}
 use Rattle.machine.specs.Reach.{pastLatest}
 use Rattle.machine.proofs.Window.{past-max, past-hit}
-use Rattle.runs.specs.Inside.{knownIn, SetPoint, PastLatest, never, past, KeptAs}
+use Rattle.runs.specs.Inside.{knownIn, SetPoint, PastLatest, never, past, KeptAs, PassedAs}
 use Rattle.runs.proofs.Kept.{keptOf, pointOf, point-le}
+use Rattle.runs.proofs.Passed.{passedOf}
 use Rattle.runs.proofs.Tracks.{cut-latest, Ahead, Tracks}
 
 -- every set point below y is counted
@@ -46,6 +47,21 @@ kept-of (two g a b) S M s y h = refl
 kept-of (last a b) S M s y h = record { prev = refl; others = (refl, refl, refl, refl) }
 kept-of (delay a b) S M s y h = record { prev = refl; prevB = refl; since = point-latest (knownIn S M b) (knownIn S M s) y; value = refl; prior = refl }
 kept-of (signal c a b) S M s y h = record { prev = cut-latest (S a) (cellAt M a .bound) y (h .0); prevB = cut-latest (S b) (cellAt M b .bound) y (h .1); others = (refl, refl, refl) }
+kept-of (window f k a) S M s y h = refl
 
 pub kept-as : (S : Streams) (M : State) → Tracks S M → (s : ℕ) → KeptAs (cellAt M s .eqn) S (knownIn S M) s (cellAt M s .bound) (cellAt M s .kept)
 kept-as S M inv s = rw (inv .kept s) (kept-of (cellAt M s .eqn) S M s (cellAt M s .bound) (inv .ahead s))
+
+passed-of : (e : Eqn) (S : Streams) (y : ℕ) → PassedAs e S y (passedOf e S y)
+passed-of input S y = refl
+passed-of nil S y = refl
+passed-of unit S y = refl
+passed-of (one f a) S y = refl
+passed-of (two g a b) S y = refl
+passed-of (last a b) S y = refl
+passed-of (delay a b) S y = refl
+passed-of (signal c a b) S y = refl
+passed-of (window f k a) S y = refl
+
+pub passed-as : (S : Streams) (M : State) → Tracks S M → (s : ℕ) → PassedAs (cellAt M s .eqn) S (cellAt M s .bound) (cellAt M s .passed)
+passed-as S M inv s = rw (inv .passed s) (passed-of (cellAt M s .eqn) S (cellAt M s .bound))

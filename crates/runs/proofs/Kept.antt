@@ -11,7 +11,7 @@ use native.Mathlib.Decide.{decLt}
 use lib.Dec.{leb, eqb, eqb→eq, eqb-refl}
 use borrow.Author.Tests.{leb-false}
 use lib.IntN.{ℤ}
-use Rattle.meaning.specs.Plan.{Eqn, input, nil, unit, one, two, last, delay, signal}
+use Rattle.meaning.specs.Plan.{Eqn, input, nil, unit, one, two, last, delay, signal, window}
 use Rattle.meaning.specs.Arguments.{reads, Each, argA, argB}
 use Rattle.meaning.specs.Events.{Stream, Streams, orElse}
 use Rattle.meaning.specs.Table.{latest}
@@ -47,6 +47,7 @@ keptOf (two g a b) K s y = noKept
 keptOf (last a b) K s y = ofLast (latest (K a) y)
 keptOf (delay a b) K s y = ofDelay (pointOf (K b) (K s) y) (below (K a) (pointOf (K b) (K s) y)) (below (K a) y)
 keptOf (signal c a b) K s y = ofSignal (latest (K a) y) (latest (K b) y)
+keptOf (window f k a) K s y = noKept
 
 below-cong : (f g : Stream) (z y : ℕ) → z ≤ y → ((p : ℕ) → p < y → f p ≡ g p) → below f z ≡ below g z
 below-cong f g zero y l h = refl
@@ -70,6 +71,7 @@ kept-cong (delay a b) K L s y h =
       below-cong (K a) (L a) y y (omega arith) (h a),
     )
 kept-cong (signal c a b) K L s y h = rw (latest-cong (K a) (L a) y (h a), latest-cong (K b) (L b) y (h b))
+kept-cong (window f k a) K L s y h = refl
 
 -- ---- an event (t, v) comes into stream s: L is what is known then
 
@@ -83,6 +85,7 @@ Edge (two g a b) s t y = Unit
 Edge (last a b) s t y = Unit
 Edge (delay a b) s t y = b ≡ s → y ≡ suc t
 Edge (signal c a b) s t y = (a ≡ s → ⊥) × (b ≡ s → ⊥)
+Edge (window f k a) s t y = Unit
 
 module _ (K L : Streams) (s t : ℕ) (v : ℤ) (other : (i p : ℕ) → (i ≡ s → p ≡ t → ⊥) → K i p ≡ L i p) (here : L s t ≡ some v) (above : (p : ℕ) → t < p → L s p ≡ none) where
   told-value : (a z : ℕ) → cond (eqb a s && eqb z (t + 1)) (some v) (below (K a) z) ≡ below (L a) z
@@ -143,6 +146,7 @@ module _ (K L : Streams) (s t : ℕ) (v : ℤ) (other : (i p : ℕ) → (i ≡ s
           either (no! p x) f = let m : z ≡ y = let h = point-le (K b) (K r) y in let k = leb-false z t p in omega arith in rw (p, m)
       go (no! q x) w = rw (q, past-cong (K b) (L b) y (λ p m. other b p (λ e f. eqb-ne b s x e)), past-cong (K r) (L r) y (λ p m. own p))
   kept-told (signal c a b) r y l own g = rw (latest-other a y (g .0), latest-other b y (g .1))
+  kept-told (window f k a) r y l own g = refl
 
 -- ---- the bound of stream s goes from y to x: L is what is known then, C the cells, and each shows L from some stamp on
 
@@ -217,3 +221,4 @@ module _ (K L : Streams) (s y x : ℕ) (grows : y < x) (same : (i p : ℕ) → p
   kept-absorbed (last a b) l k = rw (absorbed-latest a (l .0) (ap (λ c. c .prev) k), k)
   kept-absorbed (delay a b) l k = absorbed-delay a b (l .0) (l .1 .0) k
   kept-absorbed (signal c a b) l k = rw (absorbed-latest a (l .0) (ap (λ c. c .prev) k), absorbed-latest b (l .1 .0) (ap (λ c. c .prevB) k), k)
+  kept-absorbed (window f n a) l k = k

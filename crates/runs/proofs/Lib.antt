@@ -2,7 +2,9 @@
 pub mod Worked
 -- the invariant, and the step that keeps it
 pub mod Kept
+pub mod Passed
 pub mod Tracks
+pub mod Follow
 pub mod Raise
 pub mod Marks
 -- what a move finds is what the solution has

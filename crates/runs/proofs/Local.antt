@@ -9,12 +9,12 @@ use lib.Dec.{eqb, eqb→eq}
 use lib.ListN.{set, length-set}
 use lib.Seq.{getD-set-same, getD-set-other}
 use lib.IntN.{ℤ}
-use Rattle.meaning.specs.Plan.{Eqn, input, nil, unit, one, two, last, delay, signal}
+use Rattle.meaning.specs.Plan.{Eqn, input, nil, unit, one, two, last, delay, signal, window}
 use Rattle.meaning.specs.Arguments.{argA, argB}
 use Rattle.meaning.specs.Events.{Event, Streams, events}
 use Rattle.meaning.proofs.Tests.{Is, yes!, no!, look}
 use Rattle.machine.specs.State.{Cell, State, absent, cellAt, withHeld, withKept}
-use Rattle.machine.specs.Step.{advance, absorb, later, dropBelow, leastWaiting, raise}
+use Rattle.machine.specs.Step.{passes, advance, absorb, later, dropBelow, leastWaiting, raise}
 use Rattle.machine.proofs.Cells.{ne-eqb, eqb-ne}
 use Rattle.machine.proofs.Window.{or-none}
 use Rattle.machine.proofs.Rising.{drop-more}
@@ -37,6 +37,7 @@ refreshed-same (two g x y) o a b c d p q = refl
 refreshed-same (last x y) o a b c d p q = rw p
 refreshed-same (delay x y) o a b c d p q = rw (p, q)
 refreshed-same (signal g x y) o a b c d p q = rw (p, q)
+refreshed-same (window f k x) o a b c d p q = refl
 
 -- a stream whose bound went up is brought up to date as the step does it
 refreshed-stale : (e : Eqn) (K : Streams) (s y : ℕ) (o a b : Cell) → o .kept ≡ keptOf e K s y → 0 < o .bound → refreshed e (stale o) a b ≡ absorb e o a b
@@ -52,6 +53,7 @@ refreshed-stale (delay x z) K s y o a b k l = rw (ne-eqb (o .bound) 0 (λ e. ome
     gone true = refl
     gone false = refl
 refreshed-stale (signal g x z) K s y o a b k l = rw k
+refreshed-stale (window f n x) K s y o a b k l = rw k
 
 module _ (S : Streams) (M : State) (inv : Tracks S M) (s y : ℕ) (new : List Event) (rise : Rise S M s y new) where
   abbrev C : ℕ → Cell
@@ -62,13 +64,13 @@ module _ (S : Streams) (M : State) (inv : Tracks S M) (s y : ℕ) (new : List Ev
 
   -- the bound goes up, and nothing else is done yet
   abbrev N : State
-  N = set M s (stale (advance y new (cellAt M s)))
+  N = set M s (stale (advance y new (passes s y M) (cellAt M s)))
 
   N-self : cellAt N s ≡ stale (C s)
-  N-self = getD-set-same M s (stale (advance y new (cellAt M s))) absent (rise .there) ∙ ap stale (sym (raised.C-self S M inv s y new rise))
+  N-self = getD-set-same M s (stale (advance y new (passes s y M) (cellAt M s))) absent (rise .there) ∙ ap stale (sym (raised.C-self S M inv s y new rise))
 
   N-other : (i : ℕ) → (i ≡ s → ⊥) → cellAt N i ≡ C i
-  N-other i n = getD-set-other M s i (stale (advance y new (cellAt M s))) absent n ∙ sym (raised.C-other S M inv s y new rise i n)
+  N-other i n = getD-set-other M s i (stale (advance y new (passes s y M) (cellAt M s))) absent n ∙ sym (raised.C-other S M inv s y new rise i n)
 
   N-is : (i : ℕ) → cellAt N i ≡ withKept (cellAt N i .kept) (C i)
   N-is i = go (look (eqb i s))
@@ -82,7 +84,7 @@ module _ (S : Streams) (M : State) (inv : Tracks S M) (s y : ℕ) (new : List Ev
 
   N-frame : Frame M₁ N
   N-frame = record {
-    size = length-set M s (stale (advance y new (cellAt M s))) ∙ sym (length-set M s (advance y new (cellAt M s)));
+    size = length-set M s (stale (advance y new (passes s y M) (cellAt M s))) ∙ sym (length-set M s (advance y new (passes s y M) (cellAt M s)));
     eqns = λ i. ap (λ c. c .eqn) (N-is i);
     outs = λ i. ap (λ c. c .out) (N-is i);
     bounds = λ i. ap (λ c. c .bound) (N-is i);
@@ -106,7 +108,7 @@ module _ (S : Streams) (M : State) (inv : Tracks S M) (s y : ℕ) (new : List Ev
       let n = raised.C-new S M inv s y new rise i in
       rw (N-held i, same-waiting i, n .2, inv .held i, new-events (n .1)) (drop-more (leastWaiting i M) (leastWaiting i (raise s y new M)) (events (S i) (cellAt M i .bound)) (n .0) (waiting-up i))
 
-  C-self : C s ≡ advance y new (cellAt M s)
+  C-self : C s ≡ advance y new (passes s y M) (cellAt M s)
   C-self = raised.C-self S M inv s y new rise
 
   C-other : (i : ℕ) → (i ≡ s → ⊥) → C i ≡ cellAt M i

@@ -19,6 +19,7 @@ use Rattle.machine.proofs.Rising.{events-flat, drop-again}
 use Rattle.machine.proofs.Release.{waiting-grows, looser-waiting, release-at, release-looser}
 use Rattle.runs.specs.Inside.{cut, knownIn}
 use Rattle.runs.proofs.Kept.{keptOf, kept-cong}
+use Rattle.runs.proofs.Passed.{passedOf, input-passed}
 use Rattle.runs.proofs.Tracks.{cut-quiet, Ahead, ahead-grows, Tracks}
 
 -- an input reads nothing
@@ -72,6 +73,8 @@ module _ (S : Streams) (M : State) (inv : Tracks S M) (s y : ℕ) (isIn : T (isI
     held = λ i. N-held i ∙ inv .held i ∙ sym (rw (N-waiting i, N-events i));
     kept = N-cases (λ i c. c .kept ≡ keptOf (c .eqn) (knownIn S N) i (c .bound))
         (λ i n. inv .kept i ∙ kept-cong (cellAt M i .eqn) (knownIn S M) (knownIn S N) i (cellAt M i .bound) (λ j p l. N-known j p)) own-kept;
+    passed = N-cases (λ i c. c .passed ≡ passedOf (c .eqn) S (c .bound)) (λ i n. inv .passed i)
+        (inv .passed s ∙ input-passed (cellAt M s .eqn) (input-is (cellAt M s .eqn) isIn) S (cellAt M s .bound) y);
     ahead = N-cases (λ i c. Ahead (c .eqn) N (c .bound)) (λ i n. ahead-grows (cellAt M i .eqn) M N (cellAt M i .bound) N-up (inv .ahead i)) (rw (input-is (cellAt M s .eqn) isIn) tt);
     top = N-cases (λ i c. c .bound ≤ horizon) (λ i n. inv .top i) top;
     taken = λ i. let a = N-next i in let b = N-up i in let c = inv .taken i in omega arith;
@@ -145,6 +148,7 @@ module _ (M : State) (s n : ℕ) (there : s < length M) (grows : cellAt M s .nex
     collect-tracks = record {
       held = λ i. ap (λ c. c .held) (collected-cell i) ∙ left-is i ∙ ap (λ b. dropBelow (leastWaiting i N₂) (events (S i) b)) (sym (bound-is i));
       kept = λ i. ap (λ c. c .kept) (collected-cell i) ∙ inv .kept i ∙ rw (eqn-is i, bound-is i) (kept-cong (cellAt M i .eqn) (knownIn S M) (knownIn S N₂) i (cellAt M i .bound) (λ j p l. ap (λ k. cut (S j) k p) (sym (bound-is j))));
+      passed = λ i. ap (λ c. c .passed) (collected-cell i) ∙ inv .passed i ∙ rw (eqn-is i, bound-is i);
       ahead = λ i. rw (eqn-is i, bound-is i) (ahead-grows (cellAt M i .eqn) M N₂ (cellAt M i .bound) (λ j. let e = bound-is j in omega arith) (inv .ahead i));
       top = λ i. rw (bound-is i) (inv .top i);
       taken = λ i. rw (bound-is i) (collected-next (λ i m. m ≤ cellAt M i .bound) (λ i d. inv .taken i) low i);

@@ -15,12 +15,12 @@ use lib.Dec.{T, leb, ltb, leb→le, nleb→lt, ltb→lt, nltb→le, lt→ltb, T-
 use lib.ListN.{length}
 use lib.Seq.{ext-getD}
 use lib.IntN.{ℤ}
-use Rattle.meaning.specs.Plan.{Eqn, input, nil, unit, one, two, last, delay, signal}
+use Rattle.meaning.specs.Plan.{Eqn, input, nil, unit, one, two, last, delay, signal, window}
 use Rattle.meaning.specs.Arguments.{reads, Each, argA, argB}
 use Rattle.meaning.specs.Events.{Event, Streams, events, has, horizon}
 use Rattle.meaning.specs.Table.{Solves}
 use Rattle.meaning.proofs.Tests.{Is, yes!, no!, look, T-and, T-and-l, T-and-r}
-use Rattle.machine.specs.State.{Declared, Kept, Cell, State, absent, cellAt, room, declaredPlan}
+use Rattle.machine.specs.State.{Declared, Kept, Passed, Cell, State, absent, cellAt, room, declaredPlan}
 use Rattle.machine.specs.Reach.{view, limit, point, stops, Next}
 use Rattle.machine.specs.Step.{leastWaiting, ahead, newBound, canMove, comesIn, move}
 use Rattle.machine.proofs.Window.{seen-has}
@@ -37,17 +37,17 @@ use Rattle.runs.proofs.Move.{row, equation-finds, move-raise, move-trac
 
 -- ---- bounds and marks determine the state
 
-cell-ext : (c d : Cell) → c .eqn ≡ d .eqn → c .out ≡ d .out → c .bound ≡ d .bound → c .held ≡ d .held → c .next ≡ d .next → c .kept ≡ d .kept → c ≡ d
-cell-ext c d e o b h n k = cell
+cell-ext : (c d : Cell) → c .eqn ≡ d .eqn → c .out ≡ d .out → c .bound ≡ d .bound → c .held ≡ d .held → c .next ≡ d .next → c .kept ≡ d .kept → c .passed ≡ d .passed → c ≡ d
+cell-ext c d e o b h n k w = cell
   where
-    of : Eqn → Bool → ℕ → List Event → ℕ → Kept → Cell
-    of e o b h n k = record { eqn = e; out = o; bound = b; held = h; next = n; kept = k }
+    of : Eqn → Bool → ℕ → List Event → ℕ → Kept → Passed → Cell
+    of e o b h n k w = record { eqn = e; out = o; bound = b; held = h; next = n; kept = k; passed = w }
 
-    cell : of (c .eqn) (c .out) (c .bound) (c .held) (c .next) (c .kept) ≡ of (d .eqn) (d .out) (d .bound) (d .held) (d .next) (d .kept)
-    cell = rw (e, o, b, h, n, k)
+    cell : of (c .eqn) (c .out) (c .bound) (c .held) (c .next) (c .kept) (c .passed) ≡ of (d .eqn) (d .out) (d .bound) (d .held) (d .next) (d .kept) (d .passed)
+    cell = rw (e, o, b, h, n, k, w)
 
 pub determined : (S : Streams) (A B : State) → Tracks S A → Tracks S B → Frame A B → B ≡ A
-determined S A B a b f = ext-getD absent B A (f .size) (λ i l. cell-ext (cellAt B i) (cellAt A i) (f .eqns i) (f .outs i) (f .bounds i) (held i) (f .nexts i) (kept i))
+determined S A B a b f = ext-getD absent B A (f .size) (λ i l. cell-ext (cellAt B i) (cellAt A i) (f .eqns i) (f .outs i) (f .bounds i) (held i) (f .nexts i) (kept i) (passed i))
   where
     held : (i : ℕ) → cellAt B i .held ≡ cellAt A i .held
     held i = b .held i ∙ rw (frame-waiting i A B f, f .bounds i) (sym (a .held i))
@@ -55,6 +55,9 @@ determined S A B a b f = ext-getD absent B A (f .size) (λ i l. cell-ext (cellAt
     kept : (i : ℕ) → cellAt B i .kept ≡ cellAt A i .kept
     kept i =
         b .kept i ∙ rw (f .eqns i, f .bounds i) (kept-cong (cellAt A i .eqn) (knownIn S B) (knownIn S A) i (cellAt A i .bound) (λ j p l. ap (λ k. cut (S j) k p) (f .bounds j))) ∙ sym (a .kept i)
+
+    passed : (i : ℕ) → cellAt B i .passed ≡ cellAt A i .passed
+    passed i = b .passed i ∙ rw (f .eqns i, f .bounds i) (sym (a .passed i))
 
 -- ---- a state that is nowhere ahead of another, with the same marks
 
@@ -92,6 +95,7 @@ module _ (ds : List Declared) (rd S : Streams) (sol : Solves (declaredPlan ds) r
     limit-grows (last a b) n = behind .bounds b
     limit-grows (delay a b) n = let q = behind .bounds b in omega arith
     limit-grows (signal c a b) n = let p = behind .bounds a in let q = behind .bounds b in omega arith
+    limit-grows (window f k a) n = behind .bounds a
 
     module _ (past : top < goal s X) where
       -- what X finds lies at top or later
@@ -134,6 +138,7 @@ module _ (ds : List Declared) (rd S : Streams) (sol : Solves (declaredPlan ds) r
           not-T (ltb (cellAt Z a .bound) (point (cellAt Z s) (cellAt Z b) top)) (λ h.
           let v = ltb→lt (cellAt Z a .bound) (point (cellAt Z s) (cellAt Z b) top) h in absurd (omega arith))
       no-stop (signal c a b) lx lz kx kz l n = tt
+      no-stop (window f k a) lx lz kx kz l n = tt
 
       far-z : top < reachOf s Z
       far-z =

@@ -1,7 +1,8 @@
 -- One step keeps the invariant: a stream's bound goes up, with at most one new event.
--- Write: the stream's own kept data follows from what its arguments and itself hold. Tell: of what is known only the new
--- event's stamp changed, and each reader ahead of it takes just that. Release: a stream's least waiting reader changes
--- only for the stream and its arguments, and dropping twice is dropping once.
+-- Write: the stream's own kept data follows from what its arguments and itself hold, and its window from what it kept and
+-- its argument holds. Tell: of what is known only the new event's stamp changed, and each reader ahead of it takes just
+-- that. Release: a stream's least waiting reader changes only for the stream and its arguments, and dropping twice is
+-- dropping once.
 use mathlib.Core.Path.{_≡_, refl, sym, _∙_, ap}
 use mathlib.Core.Bool.{not, cond}
 use mathlib.Core.Option.{none, some}
@@ -13,21 +14,23 @@ use lib.Dec.{T, ltb, eqb, eqb→eq, ltb→lt, nltb→le, T-not}
 use lib.ListN.{set, length-set}
 use lib.Seq.{getD-set-same, getD-set-other}
 use lib.IntN.{ℤ}
-use Rattle.meaning.specs.Plan.{Eqn, input, nil, unit, one, two, last, delay, signal}
+use Rattle.meaning.specs.Plan.{Eqn, input, nil, unit, one, two, last, delay, signal, window}
 use Rattle.meaning.specs.Arguments.{reads, argA, argB}
 use Rattle.meaning.specs.Events.{Event, ev, Streams, events, horizon}
 use Rattle.meaning.proofs.Tests.{Is, yes!, no!, look, not-or-l, not-or-r}
 use Rattle.meaning.proofs.Each.{each-map}
 use Rattle.machine.specs.State.{Cell, State, absent, cellAt, withHeld, withKept}
 use Rattle.machine.specs.Reach.{view}
-use Rattle.machine.specs.Step.{advance, absorb, absorbed, write, told, tell, readsIt, keptTold, dropBelow, leastWaiting, releases, raise}
+use Rattle.machine.specs.Step.{passes, advance, absorb, absorbed, write, told, tell, readsIt, keptTold, dropBelow, leastWaiting, releases, raise}
 use Rattle.machine.proofs.Cells.{set-cases, told-at, eqb-ne}
 use Rattle.machine.proofs.Window.{Seen}
 use Rattle.machine.proofs.Rising.{drop-more}
 use Rattle.machine.proofs.Release.{each-read, among, read-among, waiting-le-reader, waiting-grows, releases-at, releases-looser, looser-waiting}
 use Rattle.runs.specs.Inside.{cut, knownIn}
 use Rattle.runs.proofs.Kept.{keptOf, kept-cong, kept-told, kept-absorbed, Edge}
+use Rattle.runs.proofs.Passed.{passedOf}
 use Rattle.runs.proofs.Tracks.{cut-yes, cut-no, cut-quiet, cut-event, Ahead, ahead-grows, Tracks, New, quiet, event, Rise, new-none, new-events, held-shows}
+use Rattle.runs.proofs.Follow.{passes-is}
 
 -- ---- of the streams that read s, a delay ahead of the new event is just ahead; a signal form never is ahead
 
@@ -44,23 +47,24 @@ ahead-edge (two g c d) M s t y a l m = tt
 ahead-edge (last c d) M s t y a l m = tt
 ahead-edge (delay c d) M s t y a l m = λ q. let k : y ≤ suc (cellAt M s .bound) = rw q at a in omega arith
 ahead-edge (signal g c d) M s t y a l m = (beyond M c s t y (a .0) l m, beyond M d s t y (a .1) l m)
+ahead-edge (window f k c) M s t y a l m = tt
 
 module _ (S : Streams) (M : State) (inv : Tracks S M) (s y : ℕ) (new : List Event) (rise : Rise S M s y new) where
   -- ---- the bound goes up
   abbrev pub M₁ : State
-  M₁ = set M s (advance y new (cellAt M s))
+  M₁ = set M s (advance y new (passes s y M) (cellAt M s))
 
   abbrev pub C : ℕ → Cell
   C i = cellAt M₁ i
 
-  pub C-self : C s ≡ advance y new (cellAt M s)
-  C-self = getD-set-same M s (advance y new (cellAt M s)) absent (rise .there)
+  pub C-self : C s ≡ advance y new (passes s y M) (cellAt M s)
+  C-self = getD-set-same M s (advance y new (passes s y M) (cellAt M s)) absent (rise .there)
 
   pub C-other : (i : ℕ) → (i ≡ s → ⊥) → C i ≡ cellAt M i
-  C-other i n = getD-set-other M s i (advance y new (cellAt M s)) absent n
+  C-other i n = getD-set-other M s i (advance y new (passes s y M) (cellAt M s)) absent n
 
-  C-cases : (P : ℕ → Cell → Type 0) → ((i : ℕ) → (i ≡ s → ⊥) → P i (cellAt M i)) → P s (advance y new (cellAt M s)) → (i : ℕ) → P i (C i)
-  C-cases P = set-cases P M s (advance y new (cellAt M s)) (rise .there)
+  C-cases : (P : ℕ → Cell → Type 0) → ((i : ℕ) → (i ≡ s → ⊥) → P i (cellAt M i)) → P s (advance y new (passes s y M) (cellAt M s)) → (i : ℕ) → P i (C i)
+  C-cases P = set-cases P M s (advance y new (passes s y M) (cellAt M s)) (rise .there)
 
   C-eqn : (i : ℕ) → C i .eqn ≡ cellAt M i .eqn
   C-eqn = C-cases (λ i c. c .eqn ≡ cellAt M i .eqn) (λ i n. refl) refl
@@ -76,6 +80,9 @@ module _ (S : Streams) (M : State) (inv : Tracks S M) (s y : ℕ) (new : List Ev
 
   near : (i : ℕ) → Ahead (C i .eqn) M (C i .bound)
   near = C-cases (λ i c. Ahead (c .eqn) M (c .bound)) (λ i n. inv .ahead i) (rise .near)
+
+  C-passed : (i : ℕ) → C i .passed ≡ passedOf (C i .eqn) S (C i .bound)
+  C-passed = C-cases (λ i c. c .passed ≡ passedOf (c .eqn) S (c .bound)) (λ i n. inv .passed i) (passes-is S M inv s y (omega arith) (rise .near))
 
   pub C-new : (i : ℕ) → (es : List Event) × New (S i) (cellAt M i .bound) (C i .bound) es × (C i .held ≡ cellAt M i .held ++ es)
   C-new =
@@ -103,7 +110,7 @@ module _ (S : Streams) (M : State) (inv : Tracks S M) (s y : ℕ) (new : List Ev
   self₂ : cellAt M₂ s ≡ withKept (keptOf (C s .eqn) (knownIn S M₁) s (C s .bound)) (C s)
   unfolding write absorbed
   self₂ =
-      getD-set-same M₁ s (withKept (absorb (C s .eqn) (C s) (C (argA (C s .eqn))) (C (argB (C s .eqn)))) (C s)) absent (rw (length-set M s (advance y new (cellAt M s))) (rise .there))
+      getD-set-same M₁ s (withKept (absorb (C s .eqn) (C s) (C (argA (C s .eqn))) (C (argB (C s .eqn)))) (C s)) absent (rw (length-set M s (advance y new (passes s y M) (cellAt M s))) (rise .there))
       ∙ ap (λ k. withKept k (C s)) (own-kept ∙ ap (λ x. keptOf (C s .eqn) (knownIn S M₁) s x) (sym (ap (λ c. c .bound) C-self)))
 
   other₂ : (i : ℕ) → (i ≡ s → ⊥) → cellAt M₂ i ≡ withKept (keptOf (C i .eqn) (knownIn S M) i (C i .bound)) (C i)
@@ -260,6 +267,7 @@ module _ (S : Streams) (M : State) (inv : Tracks S M) (s y : ℕ) (new : List Ev
   tracks₄ = record {
     held = λ i. ap (λ c. c .held) (cells₄ i) ∙ rw (waiting₄ i, bound₄ i) (held₄ i);
     kept = λ i. ap (λ c. c .kept) (cells₄ i) ∙ rw (eqn₄ i, bound₄ i) (kept-cong (C i .eqn) (knownIn S M₁) (knownIn S M₄) i (C i .bound) (λ j p l. ap (λ k. cut (S j) k p) (sym (bound₄ j))));
+    passed = λ i. ap (λ c. c .passed) (cells₄ i) ∙ rw (eqn₄ i, bound₄ i) (C-passed i);
     ahead = λ i. rw (eqn₄ i, bound₄ i) (ahead-grows (C i .eqn) M M₄ (C i .bound) (λ j. let x = C-up j in let z = bound₄ j in omega arith) (near i));
     top = λ i. rw (bound₄ i) (C-cases (λ i c. c .bound ≤ horizon) (λ i n. inv .top i) (rise .top) i);
     taken = λ i. let e = ap (λ c. c .next) (cells₄ i) in let f = bound₄ i in let x = C-next i in let z = C-up i in let u = inv .taken i in omega arith;

@@ -11,7 +11,7 @@ use native.Mathlib.Omega.{arith}
 use native.Mathlib.Decide.{decLt}
 use lib.Dec.{T, leb, ltb, leb→le, ltb→lt, lt→ltb, le→leb, nltb→le, T-not}
 use lib.ListN.{length}
-use Rattle.meaning.specs.Plan.{Eqn, input, nil, unit, one, two, last, delay, signal, isInput}
+use Rattle.meaning.specs.Plan.{Eqn, input, nil, unit, one, two, last, delay, signal, window, isInput}
 use Rattle.meaning.specs.Arguments.{argA, argB}
 use Rattle.meaning.specs.Events.{Stream, Streams, has, horizon}
 use Rattle.meaning.specs.Table.{Solves}
@@ -220,6 +220,7 @@ module _ (S : Streams) (M : State) (inv : Tracks S M) (rd : Streams) (s : ℕ) w
   reached (last a b) q n = last-reached a b (rw q at (floor-read S M inv s) .1 .0)
   reached (delay a b) q n = let l = rw q at (floor-read S M inv s) in delay-reached a b (l .0) (l .1 .0) (rw q at (inv .kept s))
   reached (signal c a b) q n = plain (signal c a b) (λ t. refl) (omega arith, omega arith) (λ k h. let u = h .0 in let v = h .1 in omega arith)
+  reached (window f w a) q n = plain (window f w a) (λ t. refl) (omega arith) (λ k h. h)
 
 -- ---- the bound after a move, made or refused
 

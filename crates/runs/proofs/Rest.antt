@@ -13,7 +13,7 @@ use native.Mathlib.Omega.{arith}
 use native.Mathlib.Decide.{decLt}
 use lib.Dec.{T, ltb, ltb→lt, T-not, not-T}
 use lib.ListN.{length}
-use Rattle.meaning.specs.Plan.{Eqn, input, nil, unit, one, two, last, delay, signal, Plan, eqnAt, isInput}
+use Rattle.meaning.specs.Plan.{Eqn, input, nil, unit, one, two, last, delay, signal, window, Plan, eqnAt, isInput}
 use Rattle.meaning.specs.Arguments.{reads, undelayed, Each, argA, argB}
 use Rattle.meaning.specs.Events.{Event, Streams, found, events, has, horizon}
 use Rattle.meaning.proofs.Tests.{Is, yes!, no!, look, T-and-r, eqb-self}
@@ -79,6 +79,7 @@ module _ (S : Streams) (M : State) (inv : Tracks S M) (collected : (s : ℕ) →
           let r = past-le (view (C c)) (C s .bound) in
           absurd (omega arith))
       no-stop (signal g a c) s b w k = tt
+      no-stop (window f n a) s b w k = tt
 
       above : (e : Eqn) (s : ℕ) → C s .bound ≡ y → (e ≡ input → ⊥) → Each (λ a. y < C a .bound) (undelayed e) → C s .bound < limit e (C s) (C (argA e)) (C (argB e))
       above input s b n w = absurd (n refl)
@@ -89,6 +90,7 @@ module _ (S : Streams) (M : State) (inv : Tracks S M) (collected : (s : ℕ) →
       above (last a c) s b n w = let u = w .0 in omega arith
       above (delay a c) s b n w = let u = w .0 in omega arith
       above (signal g a c) s b n w = let u = w .0 in let v = w .1 .0 in omega arith
+      above (window f k a) s b n w = let u = w .0 in omega arith
 
       not-stuck : (s : ℕ) → s < length M → C s .bound ≡ y → T (not (isInput (C s .eqn))) → Each (λ a. y < C a .bound) (undelayed (C s .eqn)) → ⊥
       not-stuck s k b i w =

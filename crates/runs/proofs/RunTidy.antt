@@ -12,7 +12,7 @@ use Rattle.meaning.specs.Meaning.{meaning}
 use Rattle.meaning.proofs.Tests.{not-twice}
 use Rattle.meaning.proofs.Solution.{solution-exists}
 use Rattle.machine.specs.State.{Declared, State, cellAt, room, declaredPlan}
-use Rattle.machine.specs.Step.{advance, canMove, comesIn, move, raise}
+use Rattle.machine.specs.Step.{passes, advance, canMove, comesIn, move, raise}
 use Rattle.machine.specs.Calls.{Call, Outcome, noInput, offerReading}
 use Rattle.machine.proofs.Moves.{goal}
 use Rattle.machine.proofs.Outcomes.{unless-cases}
@@ -28,7 +28,7 @@ use Rattle.runs.proofs.Local.{step-tidies}
 module _ (ds : List Declared) (keeps : Keeps ds) where
   -- of what holds so far
   moved-tidily : (X : World) → Good ds X → (s : ℕ) → s < length (X .state) → T (canMove s (X .state)) → (i : ℕ)
-      → cellAt (move s (X .state)) i ≡ tidied (set (X .state) s (stale (advance (goal s (X .state)) (comesIn s (X .state)) (cellAt (X .state) s)))) i
+      → cellAt (move s (X .state)) i ≡ tidied (set (X .state) s (stale (advance (goal s (X .state)) (comesIn s (X .state)) (passes s (goal s (X .state)) (X .state)) (cellAt (X .state) s)))) i
   unfolding move
   moved-tidily X g s l can i =
       let rd : Streams = λ j. found (X .accepted j) in
@@ -38,7 +38,7 @@ module _ (ds : List Declared) (keeps : Keeps ds) where
       step-tidies S (X .state) (r .tracks) s (goal s (X .state)) (comesIn s (X .state)) (rise ds rd S sol (X .state) (g .shape) (r .tracks) s l can) i
 
   read-tidily : (X : World) → Good ds X → (s t : ℕ) (v : ℤ) → T (isInput (cellAt (X .state) s .eqn)) → cellAt (X .state) s .bound ≤ t → t < horizon → (i : ℕ)
-      → cellAt (raise s (suc t) (ev t v ∷ []) (X .state)) i ≡ tidied (set (X .state) s (stale (advance (suc t) (ev t v ∷ []) (cellAt (X .state) s)))) i
+      → cellAt (raise s (suc t) (ev t v ∷ []) (X .state)) i ≡ tidied (set (X .state) s (stale (advance (suc t) (ev t v ∷ []) (passes s (suc t) (X .state)) (cellAt (X .state) s)))) i
   read-tidily X g s t v isIn l h i =
       let Y = offers.Y ds X g s isIn t v l h in
       let rd : Streams = λ j. found (Y .accepted j) in
@@ -59,14 +59,14 @@ module _ (ds : List Declared) (keeps : Keeps ds) where
         tracks-tidy S M (tracks ds keeps cs typed S (solution-exists (declaredPlan ds) (readings ds cs) (keeps .acyclic) horizon))
 
     -- a move that can be made
-    pub move-tidies : (s : ℕ) → s < length M → T (canMove s M) → (i : ℕ) → cellAt (move s M) i ≡ tidied (set M s (stale (advance (goal s M) (comesIn s M) (cellAt M s)))) i
+    pub move-tidies : (s : ℕ) → s < length M → T (canMove s M) → (i : ℕ) → cellAt (move s M) i ≡ tidied (set M s (stale (advance (goal s M) (comesIn s M) (passes s (goal s M) M) (cellAt M s)))) i
     move-tidies =
-        subst (λ N. (s : ℕ) → s < length N → T (canMove s N) → (i : ℕ) → cellAt (move s N) i ≡ tidied (set N s (stale (advance (goal s N) (comesIn s N) (cellAt N s)))) i)
+        subst (λ N. (s : ℕ) → s < length N → T (canMove s N) → (i : ℕ) → cellAt (move s N) i ≡ tidied (set N s (stale (advance (goal s N) (comesIn s N) (passes s (goal s N) N) (cellAt N s)))) i)
         (state-is ds keeps cs typed) (moved-tidily (W ds keeps cs typed) (good ds keeps cs typed))
 
     -- a reading that is accepted
     pub reading-tidies : (s t : ℕ) (v : ℤ) → t < 2 ^ 32 → offerReading s t v M .number ≡ 0 → (i : ℕ)
-        → cellAt (offerReading s t v M .state) i ≡ tidied (set M s (stale (advance (suc t) (ev t v ∷ []) (cellAt M s)))) i
+        → cellAt (offerReading s t v M .state) i ≡ tidied (set M s (stale (advance (suc t) (ev t v ∷ []) (passes s (suc t) M) (cellAt M s)))) i
     unfolding offerReading
     reading-tidies s t v h =
         unless-cases P (noInput s M) 7 M _ (λ b q. let z : _≡_ {A = ℕ} 0 1 = cc in absurd (omega arith)) (λ b.
@@ -75,9 +75,9 @@ module _ (ds : List Declared) (keeps : Keeps ds) where
         run-read s t v (not-twice (isInput (cellAt M s .eqn)) b) (nltb→le t (cellAt M s .bound) c) h)))
       where
         P : Outcome → Type 0
-        P o = o .number ≡ 0 → (i : ℕ) → cellAt (o .state) i ≡ tidied (set M s (stale (advance (suc t) (ev t v ∷ []) (cellAt M s)))) i
+        P o = o .number ≡ 0 → (i : ℕ) → cellAt (o .state) i ≡ tidied (set M s (stale (advance (suc t) (ev t v ∷ []) (passes s (suc t) M) (cellAt M s)))) i
 
-        run-read : (s t : ℕ) (v : ℤ) → T (isInput (cellAt M s .eqn)) → cellAt M s .bound ≤ t → t < horizon → (i : ℕ) → cellAt (raise s (suc t) (ev t v ∷ []) M) i ≡ tidied (set M s (stale (advance (suc t) (ev t v ∷ []) (cellAt M s)))) i
+        run-read : (s t : ℕ) (v : ℤ) → T (isInput (cellAt M s .eqn)) → cellAt M s .bound ≤ t → t < horizon → (i : ℕ) → cellAt (raise s (suc t) (ev t v ∷ []) M) i ≡ tidied (set M s (stale (advance (suc t) (ev t v ∷ []) (passes s (suc t) M) (cellAt M s)))) i
         run-read =
-            subst (λ N. (s t : ℕ) (v : ℤ) → T (isInput (cellAt N s .eqn)) → cellAt N s .bound ≤ t → t < horizon → (i : ℕ) → cellAt (raise s (suc t) (ev t v ∷ []) N) i ≡ tidied (set N s (stale (advance (suc t) (ev t v ∷ []) (cellAt N s)))) i)
+            subst (λ N. (s t : ℕ) (v : ℤ) → T (isInput (cellAt N s .eqn)) → cellAt N s .bound ≤ t → t < horizon → (i : ℕ) → cellAt (raise s (suc t) (ev t v ∷ []) N) i ≡ tidied (set N s (stale (advance (suc t) (ev t v ∷ []) (passes s (suc t) N) (cellAt N s)))) i)
             (state-is ds keeps cs typed) (read-tidily (W ds keeps cs typed) (good ds keeps cs typed))

@@ -9,7 +9,7 @@ use native.Mathlib.Omega.{arith}
 use native.Mathlib.Decide.{decLt}
 use lib.Dec.{eqb, eqb→eq}
 use lib.IntN.{ℤ}
-use Rattle.meaning.specs.Plan.{Eqn, input, nil, unit, one, two, last, delay, signal}
+use Rattle.meaning.specs.Plan.{Eqn, input, nil, unit, one, two, last, delay, signal, window}
 use Rattle.meaning.specs.Arguments.{reads, Each, argA, argB}
 use Rattle.meaning.specs.Events.{Streams, events, orElse}
 use Rattle.meaning.specs.Table.{latest}
@@ -46,6 +46,7 @@ refreshed (delay _ _) o a b =
       prior = cond (eqb (o .bound) 0) none (orElse (view a (pred (o .bound))) (o .kept .prior));
     }
 refreshed (signal c _ _) o a b = withPrev (heldLatest a (o .bound) (o .kept .prev)) (withPrevB (heldLatest b (o .bound) (o .kept .prevB)) (o .kept))
+refreshed (window f k _) o a b = o .kept
 
 -- every stream brought up to date, and released
 abbrev pub tidied : State → ℕ → Cell
@@ -69,6 +70,7 @@ Near (two g a b) B y = Unit
 Near (last a b) B y = Unit
 Near (delay a b) B y = y ≤ suc (B b)
 Near (signal c a b) B y = Unit
+Near (window f k a) B y = Unit
 
 module _ (K L : Streams) (B lo : ℕ → ℕ) (C : ℕ → Cell) (r y : ℕ) (old : (i p : ℕ) → p < B i → K i p ≡ L i p) (over : (i p : ℕ) → B i ≤ p → K i p ≡ none)
     (low : (i : ℕ) → lo i ≤ B i) (shows : (i : ℕ) → Seen (L i) (lo i) (view (C i))) (at : C r .bound ≡ y) (own : B r ≡ y) where
@@ -151,6 +153,7 @@ module _ (K L : Streams) (B lo : ℕ → ℕ) (C : ℕ → Cell) (r y : ℕ) (ol
   refreshed-is (last a b) l n k = rw (latest-is a (l .0) (ap (λ c. c .prev) k), k)
   refreshed-is (delay a b) l n k = refreshed-delay a b (l .0) (l .1 .0) n k
   refreshed-is (signal c a b) l n k = rw (latest-is a (l .0) (ap (λ c. c .prev) k), latest-is b (l .1 .0) (ap (λ c. c .prevB) k), k)
+  refreshed-is (window f w a) l n k = k
 
 pub near-of : (e : Eqn) (M : State) (y : ℕ) → Ahead e M y → Near e (λ i. cellAt M i .bound) y
 near-of input M y h = tt
@@ -161,6 +164,7 @@ near-of (two g a b) M y h = tt
 near-of (last a b) M y h = tt
 near-of (delay a b) M y h = h
 near-of (signal c a b) M y h = tt
+near-of (window f k a) M y h = tt
 
 -- a state that tracks a solution is tidy: tidying changes nothing
 pub tracks-tidy : (S : Streams) (M : State) → Tracks S M → (i : ℕ) → tidied M i ≡ cellAt M i

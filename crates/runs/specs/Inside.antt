@@ -9,11 +9,11 @@ use mathlib.Core.List.{List, [], _++_, List·Memᴰ}
 use lib.Dec.{T, leb, ltb}
 use lib.ListN.{length}
 use lib.IntN.{ℤ}
-use Rattle.meaning.specs.Plan.{Eqn, input, nil, unit, one, two, last, delay, signal}
+use Rattle.meaning.specs.Plan.{Eqn, input, nil, unit, one, two, last, delay, signal, window}
 use Rattle.meaning.specs.Arguments.{reads}
-use Rattle.meaning.specs.Events.{Event, Stream, Streams, here, has, horizon}
-use Rattle.meaning.specs.Table.{latest}
-use Rattle.machine.specs.State.{Kept, State, cellAt, noKept, room}
+use Rattle.meaning.specs.Events.{Event, Stream, Streams, here, events, has, horizon}
+use Rattle.meaning.specs.Table.{latest, latestOf, values, width}
+use Rattle.machine.specs.State.{Kept, Passed, State, cellAt, noKept, noPassed, room}
 use Rattle.machine.specs.Calls.{moveOne}
 
 -- ## Held
@@ -88,6 +88,26 @@ KeptAs (two g a b) S K s y k = k ≡ noKept
 KeptAs (last a b) S K s y k = LastKeeps (K a) y k
 KeptAs (delay a b) S K s y k = DelayKeeps (K a) (K b) (K s) y k
 KeptAs (signal c a b) S K s y k = SignalKeeps (S a) (S b) y k
+KeptAs (window f n a) S K s y k = k ≡ noKept
+
+-- ## Windows: "Values are kept in the state"
+
+-- a window with the bound y keeps the values of the latest k of all of a's events below y, or of all so far while fewer,
+-- oldest first. This is the whole list of the solution's events, whether a still holds them or has let them go since.
+abbrev pub WindowKeeps : (k : ℕ) (a : Stream) (y : ℕ) → Passed → Type 0
+WindowKeeps k a y w = w .window ≡ latestOf k (values (events a y))
+
+-- of the solution S, a stream with this equation and the bound y keeps w
+abbrev pub PassedAs : Eqn → (S : Streams) (y : ℕ) → Passed → Type 0
+PassedAs input S y w = w ≡ noPassed
+PassedAs nil S y w = w ≡ noPassed
+PassedAs unit S y w = w ≡ noPassed
+PassedAs (one f a) S y w = w ≡ noPassed
+PassedAs (two g a b) S y w = w ≡ noPassed
+PassedAs (last a b) S y w = w ≡ noPassed
+PassedAs (delay a b) S y w = w ≡ noPassed
+PassedAs (signal c a b) S y w = w ≡ noPassed
+PassedAs (window f k a) S y w = WindowKeeps (width k) (S a) y w
 
 -- ## Moved
 
@@ -104,6 +124,7 @@ Fixes (two g a b) S Y s k = (k ≤ Y a) × (k ≤ Y b)
 Fixes (last a b) S Y s k = (k ≤ Y b) × ((t : ℕ) → T (has (S b t)) → Y s ≤ t → Y a < t → k ≤ t)
 Fixes (delay a b) S Y s k = (k ≤ Y b + 1) × (k ≤ horizon) × ((p : ℕ) → SetPoint (S b) (S s) p → p + 1 < k → p < Y a)
 Fixes (signal c a b) S Y s k = (k ≤ Y a) × (k ≤ Y b)
+Fixes (window f n a) S Y s k = k ≤ Y a
 
 -- "its reach, the greatest bound that its arguments fix"
 pub record IsReach (e : Eqn) (S : Streams) (Y : ℕ → ℕ) (s r : ℕ) : Type 0 where

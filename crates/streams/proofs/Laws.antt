@@ -8,9 +8,9 @@ use lib.IntN.{ℤ}
 use mir.Syntax.{w64}
 use mir.Val.{toZ}
 use borrow.Author.Tests.{eq-eqb, ne-eqb}
-use Rattle.meaning.specs.Plan.{Calc, Eqn, input, nil, unit, one, two, last, delay, signal}
+use Rattle.meaning.specs.Plan.{Calc, Eqn, input, nil, unit, one, two, last, delay, signal, window}
 use Rattle.meaning.specs.Events.{horizon}
-use Rattle.machine.specs.State.{Kept, Cell, noKept, withSince}
+use Rattle.machine.specs.State.{Kept, Cell, noKept, noPassed, withSince, withPassed}
 use Rattle.operators.specs.Operators.{isLast, isDelay, isSignal, Operator, operatorCount, eqnOf, eqnGroup}
 use Rattle.operators.specs.declared.Group.{Group}
 use Rattle.operators.proofs.Laws.{none-above, last-by-number, delay-by-number, signal-by-number}
@@ -35,7 +35,7 @@ module _ (a b : ℕ) (k : ℤ) where
   unfolding eqnOf
   nil-high n h = sym (ap (λ (o : Operator). o .eqn a b k) (none-above n h))
 
--- ---- the operators that keep something
+-- ---- the operators that keep something in their record's kept words
 
 abbrev pub keeps : Eqn → Bool
 keeps input = false
@@ -46,6 +46,7 @@ keeps (two g a b) = false
 keeps (last a b) = true
 keeps (delay a b) = true
 keeps (signal c a b) = true
+keeps (window f k a) = false
 
 -- ---- the fields
 
@@ -53,7 +54,7 @@ cut-same : (c : Cell) → c .bound ≤ horizon → c .kept .since ≤ c .bound �
 cut-same c h k =
     let e : min (c .bound) horizon ≡ c .bound = omega arith in
     let s : min (c .kept .since) (min (c .bound) horizon) ≡ c .kept .since = omega arith in
-    λ i. record { eqn = c .eqn; out = c .out; bound = e i; held = c .held; next = c .next; kept = record { prev = c .kept .prev; prevB = c .kept .prevB; since = s i; value = c .kept .value; prior = c .kept .prior } }
+    λ i. record { eqn = c .eqn; out = c .out; bound = e i; held = c .held; next = c .next; kept = record { prev = c .kept .prev; prevB = c .kept .prevB; since = s i; value = c .kept .value; prior = c .kept .prior }; passed = c .passed }
 
 module _ (r : Raw) where
   pub look-bound : lookOf r .bound ≡ min (num boundF r) horizon
@@ -110,16 +111,17 @@ module _ (r : Raw) where
       bare (last a b) h = absurd (false≢true (sym h))
       bare (delay a b) h = absurd (false≢true (sym h))
       bare (signal c a b) h = absurd (false≢true (sym h))
+      bare (window f k a) h = refl
 
   -- a record with bound and set point within their ranges is looked at as its cell
   pub look-valid : num boundF r ≤ horizon → toCell r .kept .since ≤ num boundF r → lookOf r ≡ toCell r
   unfolding lookOf toCell
   look-valid h k = cut-same (toCell r) h k
 
--- the record of such a cell is looked at as the cell, where it is read back as it
-pub look-cell : (c : Cell) → toCell (ofCell c) ≡ c → c .bound ≤ horizon → c .kept .since ≤ c .bound → lookOf (ofCell c) ≡ c
+-- the record of such a cell is looked at as the cell, but for what a window keeps, where it is so read back
+pub look-cell : (c : Cell) → toCell (ofCell c) ≡ withPassed noPassed c → c .bound ≤ horizon → c .kept .since ≤ c .bound → lookOf (ofCell c) ≡ withPassed noPassed c
 unfolding lookOf
-look-cell c e h k = ap cut e ∙ cut-same c h k
+look-cell c e h k = ap cut e ∙ cut-same (withPassed noPassed c) h k
 
 -- a record's stream is within its ranges
 pub is-sound : (s : Stream) (r : Raw) → Is s r → Bounded s

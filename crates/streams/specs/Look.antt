@@ -3,15 +3,15 @@ use Prim.Native.Nat.{ℕ, _≤_, min}
 use mathlib.Core.Path.{_≡_}
 use mathlib.Core.Bool.{false}
 use mathlib.Core.List.{List, []}
-use Rattle.meaning.specs.Plan.{Eqn, input, nil, unit, one, two, last, delay, signal}
+use Rattle.meaning.specs.Plan.{Eqn, input, nil, unit, one, two, last, delay, signal, window}
 use Rattle.meaning.specs.Events.{Event, horizon}
 use Rattle.machine.specs.State.{Cell, Kept, absent, fresh, withBound, withHeld, withKept, withSince}
 use Rattle.layout.specs.Record.{Raw, decRaw}
 use Rattle.encoding.specs.Back.{toCell, heldOf}
 use Rattle.queue.specs.Found.{asOption}
-use Rattle.apply.specs.Named.{unary, calculation, binary}
+use Rattle.apply.specs.Named.{unary, calculation, binary, folding}
 use Rattle.streams.specs.declared.Op.{Op}
-use Rattle.streams.specs.declared.Op.the-variants.{In, Nil, Unit, One, Two, Last, Delay, Signal}
+use Rattle.streams.specs.declared.Op.the-variants.{In, Nil, Unit, One, Two, Last, Delay, Signal, Window}
 use Rattle.streams.specs.declared.Kept as code
 use Rattle.streams.specs.declared.Stream.{Stream}
 use Rattle.streams.specs.declared.Look.{Look}
@@ -24,7 +24,8 @@ cutKept y k = withSince (min (k .since) y) k
 abbrev pub cut : Cell → Cell
 cut c = withKept (cutKept (min (c .bound) horizon) (c .kept)) (withBound (min (c .bound) horizon) c)
 
--- total: every record is one; where bound and set point are within their ranges it is the record's cell itself
+-- total: every record is one; where bound and set point are within their ranges it is the record's cell itself, but for what a
+-- window keeps, which lies outside its record
 unfoldable pub lookOf : Raw → Cell
 unfolding toCell
 lookOf r = cut (toCell r)
@@ -40,11 +41,24 @@ equation (Two g a b) = two (binary g) a b
 equation (Last a b) = last a b
 equation (Delay a b) = delay a b
 equation (Signal g a b) = signal (calculation g) a b
+equation (Window f k a) = window (folding f) k a
+
+-- the equation as the search over stamps sees it. A window is none of its: it is looked for otherwise, and nil stands for it.
+abbrev pub plain : Op → Eqn
+plain In = input
+plain Nil = nil
+plain Unit = unit
+plain (One f a) = one (unary f) a
+plain (Two g a b) = two (binary g) a b
+plain (Last a b) = last a b
+plain (Delay a b) = delay a b
+plain (Signal g a b) = signal (calculation g) a b
+plain (Window f k a) = nil
 
 abbrev pub keptIn : code.Kept → Kept
 keptIn k = record { prev = asOption (k .prev); prevB = asOption (k .prevb); since = k .since; value = asOption (k .value); prior = asOption (k .prior) }
 
--- the equation's own cell, as far as a move looks at it: not its held events
+-- the equation's own cell, as far as a move looks at it: not its held events, nor what a window keeps
 abbrev pub ownCell : Eqn → ℕ → Kept → Cell
 ownCell e y k = withKept k (withBound y (fresh (record { eqn = e; out = false })))
 

@@ -5,18 +5,19 @@ ghost use lib.IntN.{ℤ};
 ghost use lib.ListN.{length, getD};
 ghost use mir.Syntax.{w64};
 ghost use mir.Val.{toZ};
-ghost use Rattle.meaning.specs.Plan.{add, one, two};
+ghost use Rattle.meaning.specs.Plan.{add, wsum, one, two};
 ghost use Rattle.meaning.specs.Events.{horizon};
 ghost use Rattle.machine.specs.State.{noKept, withPrev, withPrevB};
 ghost use Rattle.meaning.specs.Arguments.{argA, argB};
-ghost use Rattle.operators.specs.Operators.{calcs, eqnOf};
+ghost use Rattle.operators.specs.Operators.{calcs, folds, eqnOf};
 ghost use Rattle.layout.specs.Record.{decRaw, num, kF};
 ghost use Rattle.encoding.specs.Back as cells;
 ghost use Rattle.queue.specs.Found.{asOption};
-ghost use Rattle.apply.specs.Named.{unary, calculation, binary};
+ghost use Rattle.apply.specs.Named.{unary, calculation, binary, folding};
 ghost use Rattle.streams.specs.Look.{lookOf, equation, keptIn, Bounded, Is, Within};
 use apply::Binary;
 use apply::Calc;
+use apply::Fold;
 use apply::Unary;
 use limits::Bound;
 use queue::Found;
@@ -31,9 +32,10 @@ pub enum Op {
     Last(u8, u8),
     Delay(u8, u8),
     Signal(Calc, u8, u8),
+    Window(Fold, i64, u8),
 }
 
-// What a last, a delay or a signal form keeps; prevb is a signal form's latest value of its second argument.
+// What a last, a delay or a signal form keeps in its record; prevb is a signal form's latest value of its second argument.
 pub struct Kept {
     pub prev: Found,
     pub prevb: Found,
@@ -92,6 +94,18 @@ fn calc_of(place: u64) -> Calc
     }
 }
 
+// The window's fold at a place among the three.
+fn fold_of(place: u64) -> Fold
+    requires { ⌜ place ≤ 2 ⌝ }
+    ensures { λ r. ⌜ folding r ≡ getD folds place wsum ⌝ }
+{
+    match place {
+        0 => Fold::Sum,
+        1 => Fold::Least,
+        _ => Fold::Greatest,
+    }
+}
+
 fn binary_of(n: u64) -> Binary
     requires { ⌜ (8 ≤ n) × (n ≤ 17) ⌝ }
     ensures { λ r. ⌜ ((a b : ℕ) (k : ℤ) → two (binary r) a b ≡ eqnOf n a b k) ⌝ }
@@ -119,6 +133,7 @@ pub fn first(op: Op) -> u8
         Op::Last(a, _) => a,
         Op::Delay(a, _) => a,
         Op::Signal(_, a, _) => a,
+        Op::Window(_, _, a) => a,
     }
 }
 
@@ -135,6 +150,7 @@ pub fn second(op: Op) -> u8
         Op::Last(_, b) => b,
         Op::Delay(_, b) => b,
         Op::Signal(_, _, b) => b,
+        Op::Window(_, _, _) => 0,
     }
 }
 
@@ -194,6 +210,12 @@ pub fn operator_at(r: &[u8]) -> Op
             let b = layout::byte_at(r, layout::B);
             Op::Signal(g, a as u8, b as u8)
         }
+        28..=30 => {
+            let f = fold_of(n - 28);
+            let k = num::of_bits(layout::word_at(r, layout::K));
+            let a = layout::byte_at(r, layout::A);
+            Op::Window(f, k, a as u8)
+        }
         _ => Op::Nil,
     }
 }
@@ -242,7 +264,7 @@ fn latest(prev: Found, prevb: Found) -> Kept
     }
 }
 
-// What the record of a stream with this operator keeps, with a set point at most the bound.
+// What the record of a stream with this operator keeps, with a set point at most the bound. What a window keeps lies elsewhere.
 fn kept_at(r: &[u8], op: Op, bound: u64) -> Kept
     requires { ⌜ (length (now r) ≡ 256) × (equation op ≡ lookOf (decRaw (now r)) .eqn) × (bound ≡ lookOf (decRaw (now r)) .bound) ⌝ }
     ensures { λ k. ⌜ keptIn k ≡ lookOf (decRaw (now (r .entry))) .kept ⌝ }
@@ -274,6 +296,7 @@ fn kept_at(r: &[u8], op: Op, bound: u64) -> Kept
         Op::Unit => nothing(),
         Op::One(_, _) => nothing(),
         Op::Two(_, _, _) => nothing(),
+        Op::Window(_, _, _) => nothing(),
     }
 }
 

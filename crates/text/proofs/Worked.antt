@@ -69,9 +69,11 @@ unfoldable pub rows : List Row
 rows =
     row "op=set\na=12\nb=0\nk=-9223372036854775808\nout=1\n" (Lines.Stream (record { op = 5; a = 12; b = 0; k = 9223372036854775808; out = 1; next = 45 }))
     ∷ row "op=delay\na=999\nb=10\nk=9223372036854775807\nout=0\nop=" (Lines.Stream (record { op = 19; a = 999; b = 10; k = 9223372036854775807; out = 0; next = 48 }))
+    ∷ row "op=wmax\na=1\nb=0\nk=64\nout=0\n" (Lines.Stream (record { op = 30; a = 1; b = 0; k = 64; out = 0; next = 27 }))
     -- 4 a name of one to five small letters that is no operator, whatever comes after it
     ∷ row "op=f\n" (Lines.Refused 4)
     ∷ row "op=input\n" (Lines.Refused 4)
+    ∷ row "op=wavg\n" (Lines.Refused 4)
     ∷ row "op=nils\na=0\nb=0\nk=0\nout=2\n" (Lines.Refused 4)
     -- any other fault of an op line is 2
     ∷ row "op=f" (Lines.Refused 2)

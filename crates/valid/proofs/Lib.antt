@@ -1,4 +1,5 @@
 pub mod Tests
 pub mod Graph
 pub mod Link
+pub mod Area
 pub mod Found

@@ -13,22 +13,25 @@ use mir.Syntax.{w64}
 use mir.Val.{toZ}
 use Rattle.le.specs.Bytes.{part}
 use Rattle.le.proofs.Laws.{le-one}
-use Rattle.meaning.specs.Plan.{Eqn, eqnAt}
+use Rattle.meaning.specs.Plan.{Eqn, Plan, eqnAt}
 use Rattle.meaning.specs.Arguments.{undelayed, argA, argB, AllBelow}
 use Rattle.meaning.specs.CycleTest.{acyclic}
 use Rattle.machine.specs.State.{planOf}
 use Rattle.operators.specs.Operators.{operatorCount, isOperator, eqnOf, numberOf}
 use Rattle.operators.specs.Rules.{fieldsOk}
+use Rattle.operators.specs.Windows.{widthOk}
 use Rattle.operators.specs.Limits.{mostStreams, capacity}
-use Rattle.operators.proofs.Sizes.{capacity-fits, capacity-few}
+use Rattle.operators.proofs.Sizes.{capacity-fits, capacity-few, capacity-area}
 use Rattle.operators.proofs.Laws.{operator-low, operator-high, number-back}
 use Rattle.operators.proofs.Rules.{fields-first, fields-second, fields-undelayed}
 use Rattle.cycle.specs.Graph.{graphLength, entryOf, cleared}
 use Rattle.cycle.proofs.Tied.{argsAt, cleared-acyclic}
 use Rattle.cycle.proofs.Graphs.{entry-length, entries-tied}
 use Rattle.layout.specs.Record.{Raw, noRaw, num, decRaw, decode, rowAt, opF, aF, bF, kF, outF, countF, boundF}
+use Rattle.layout.specs.Windows.{areaLength}
 use Rattle.layout.proofs.Laws.{row-at, rows-many, byte-get}
-use Rattle.encoding.specs.Back.{toCell, stateOf}
+use Rattle.encoding.specs.Back.{toCell, cells, areaOf, stateOf}
+use Rattle.encoding.proofs.Cells.{cells-plan, cells-length}
 use Rattle.valid.specs.Valid.{planOk, sizesOk, risen, keptOk, rowOk, allRows, count, planIn, noted, clearIn}
 use Rattle.valid.proofs.Tests.{left, right, in-few}
 use Rattle.valid.proofs.Graph.{noted-length}
@@ -49,14 +52,17 @@ pub record PlanFacts (n : ℕ) (r : Raw) : Type 0 where
   pub least : 1 ≤ num opF r
   pub most : num opF r ≤ operatorCount
   pub fields : fieldsOk n (num opF r) (num aF r) (num bF r) (num kF r) (num outF r) ≡ true
+  pub width : widthOk (num opF r) (num kF r) ≡ true
 
 pub plan-facts : (n : ℕ) (r : Raw) → planOk n r ≡ true → PlanFacts n r
 unfolding planOk
 plan-facts n r e =
     let op = num opF r in
     let f : Bool = fieldsOk n op (num aF r) (num bF r) (num kF r) (num outF r) in
-    let i : isOperator op ≡ true = left (isOperator op) f e in
-    record { least = operator-low op i; most = operator-high op i; fields = right (isOperator op) f e }
+    let w : Bool = widthOk op (num kF r) in
+    let i : isOperator op ≡ true = left (isOperator op) (f && w) e in
+    let q = right (isOperator op) (f && w) e in
+    record { least = operator-low op i; most = operator-high op i; fields = left f w q; width = right f w q }
 
 pub row-plan : (n : ℕ) (p : List ℕ) → rowOk n p ≡ true → planOk n (decRaw p) ≡ true
 unfolding rowOk
@@ -79,12 +85,13 @@ eqn-is r = refl
 
 pub plan-length : (n : ℕ) (s : List ℕ) → length (planIn n s) ≡ n
 unfolding stateOf
-plan-length n s = length-map (map toCell (decode n s .rows)) (λ c. c .eqn) ∙ length-map (decode n s .rows) toCell ∙ rows-many n s
+plan-length n s = let rows = decode n s .rows in let b = areaOf (decode n s .spare) in length-map (cells rows b) (λ c. c .eqn) ∙ cells-length rows b ∙ rows-many n s
 
 pub eqn-at : (n : ℕ) (s : List ℕ) (i : ℕ) → i < n → eqnAt (planIn n s) i ≡ eqnIn (decRaw (part s (i * 256) 256))
 unfolding stateOf
 eqn-at n s i h =
-    map-at (decode n s .rows) i (rw (rows-many n s) h) ∙ eqn-is (rowAt (decode n s) i) ∙ ap eqnIn (row-at n s i h)
+    ap (λ (P : Plan). eqnAt P i) (cells-plan (decode n s .rows) (areaOf (decode n s .spare)))
+    ∙ map-at (decode n s .rows) i (rw (rows-many n s) h) ∙ eqn-is (rowAt (decode n s) i) ∙ ap eqnIn (row-at n s i h)
 
 -- ---- the three bytes of a record's arguments
 
@@ -179,6 +186,10 @@ count-few s = in-few (capacity (length s)) s
 
 pub count-fits : (s : List ℕ) → count s * 256 ≤ length s
 count-fits s = omega (arith, count-few s, capacity-fits (length s))
+
+-- and before the windows
+pub count-area : (s : List ℕ) → 0 < capacity (length s) → count s * 256 + areaLength ≤ length s
+count-area s l = omega (arith, count-few s, capacity-area (length s) l)
 
 pub clear-count : (s : List ℕ) → allRows (rowOk (count s)) (count s) s ≡ true → clearIn (capacity (length s)) (count s) s ≡ acyclic (capacity (length s)) (planIn (count s) s)
 clear-count s ok = clear-is (capacity (length s)) s (count s) (omega (arith, count-few s, capacity-few (length s))) ok (count-fits s)

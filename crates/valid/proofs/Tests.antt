@@ -8,7 +8,7 @@ use native.Mathlib.Nat.{add-zero}
 use lib.Dec.{eqb, ltb, leb}
 use lib.ListN.{length, getD, take, drop}
 use lib.Seq.{drop-cons, drop-drop, getD-drop}
-use borrow.Author.Tests.{eq-eqb, ne-eqb, not-true, not-false, leb-true}
+use borrow.Author.Tests.{eq-eqb, ne-eqb, le-leb, lt-leb, not-true, not-false, leb-true}
 use Rattle.le.specs.Bytes.{part}
 use Rattle.layout.specs.Record.{Slot, Raw, noSlot, num, slotAt, countF, boundF, outF, nextF, smallF, lastF}
 use Rattle.machine.specs.State.{room}
@@ -32,6 +32,12 @@ stop-eq m n x h = rw (ne-eqb m n h)
 
 pub pass-eq : (m n : ℕ) (x y : Bool) → m ≡ n → y ≡ x → y ≡ (eqb m n && x)
 pass-eq m n x y h q = rw (eq-eqb m n h) q
+
+pub stop-le : (m n : ℕ) (x : Bool) → n < m → false ≡ (leb m n && x)
+stop-le m n x h = rw (lt-leb m n h)
+
+pub pass-le : (m n : ℕ) (x y : Bool) → m ≤ n → y ≡ x → y ≡ (leb m n && x)
+pass-le m n x y h q = rw (le-leb m n h) q
 
 -- what both sides of a conjunction say
 pub left : (p x : Bool) → (p && x) ≡ true → p ≡ true

@@ -1,28 +1,30 @@
 -- How: what number 15 tests, reason by reason.
 use Prim.Native.Nat.{ℕ, zero, suc, _+_, _-_, _*_}
 use mathlib.Core.List.{List, [], _∷_}
-use mathlib.Core.Bool.{Bool, true, cond, _&&_}
+use mathlib.Core.Bool.{Bool, true, false, cond, _&&_}
 use lib.ListN.{length, getD, take, drop, replicate}
 use lib.Seq.{sets}
 use Rattle.cycle.specs.Graph.{graphLength, entryOf, cleared}
 use lib.Dec.{ltb, eqb, leb}
-use Rattle.le.specs.Bytes.{allZero}
+use Rattle.le.specs.Bytes.{part, allZero}
 use Rattle.meaning.specs.Plan.{Plan}
 use Rattle.meaning.specs.Events.{horizon}
 use Rattle.meaning.specs.CycleTest.{acyclic}
 use Rattle.machine.specs.State.{room, planOf}
-use Rattle.operators.specs.Operators.{groupOf, isLast, isDelay, isSignal, isOperator}
+use Rattle.operators.specs.Operators.{groupOf, isLast, isDelay, isSignal, isWindow, isOperator}
 use Rattle.operators.specs.Rules.{fieldsOk}
-use Rattle.operators.specs.Limits.{capacity}
+use Rattle.operators.specs.Windows.{widthOk}
+use Rattle.operators.specs.Limits.{windowLimit, capacity}
 use Rattle.layout.specs.Record.{Slot, Raw, num, slotAt, decRaw, opF, aF, bF, outF, countF, flagF, priorFlagF, smallF, kF, boundF, nextF, keptF, valueF, priorF, lastF}
-use Rattle.encoding.specs.Back.{stateOf}
+use Rattle.layout.specs.Windows.{windowLength, areaLength, windowStart}
+use Rattle.encoding.specs.Back.{areaOf, stateOf}
 use Rattle.valid.specs.declared.Tested.{Tested}
 use Rattle.valid.specs.declared.Tested.the-variants as Tested
 
 -- ---- "contents whose plan no text taken by load gives"
 
 unfoldable pub planOk : ℕ → Raw → Bool
-planOk n r = isOperator (num opF r) && fieldsOk n (num opF r) (num aF r) (num bF r) (num kF r) (num outF r)
+planOk n r = isOperator (num opF r) && (fieldsOk n (num opF r) (num aF r) (num bF r) (num kF r) (num outF r) && widthOk (num opF r) (num kF r))
 
 -- ---- "a bound above the horizon, more than 16 events held"; the mark of collection is an output's and not above its bound
 
@@ -83,12 +85,23 @@ delayOk r =
     && (ownOk (num keptF r) r
     && leb (num keptF r) (num boundF r)))))
 
+-- how many values a window keeps: at most its width, none with bound 0
+unfoldable pub windowOk : Raw → Bool
+windowOk r =
+    leb (num flagF r) (num kF r)
+    && (noneIf (num boundF r) (num flagF r)
+    && (eqb (num priorFlagF r) 0
+    && (eqb (num keptF r) 0
+    && (eqb (num valueF r) 0
+    && eqb (num priorF r) 0))))
+
 unfoldable pub keptOk : Raw → Bool
-unfolding lastOk delayOk signalOk noneOk
+unfolding lastOk delayOk signalOk windowOk noneOk
 keptOk r =
     cond (isLast (groupOf (num opF r))) (lastOk r)
     (cond (isDelay (groupOf (num opF r))) (delayOk r)
-    (cond (isSignal (groupOf (num opF r))) (signalOk r) (noneOk r)))
+    (cond (isSignal (groupOf (num opF r))) (signalOk r)
+    (cond (isWindow (groupOf (num opF r))) (windowOk r) (noneOk r))))
 
 -- ---- one record, of its 256 bytes; "an unused byte not 0": after the held events every byte is 0
 unfoldable pub rowOk : ℕ → List ℕ → Bool
@@ -117,13 +130,36 @@ count s = streamsIn (capacity (length s)) s
 abbrev pub planIn : ℕ → List ℕ → Plan
 planIn n s = planOf (stateOf n s)
 
--- A state: a length that states have, each record passes, every byte behind them is 0, and no cycle without a delayed argument.
+-- ---- behind the n records, of bytes s: zeros, then the windows
+
+-- how many of the first m records are windows
+unfoldable pub windowsIn : ℕ → List ℕ → ℕ
+windowsIn zero s = 0
+windowsIn (suc m) s = cond (isWindow (groupOf (getD s 0 0))) (suc (windowsIn m (drop 256 s))) (windowsIn m (drop 256 s))
+
+-- the windows of the first m records, in the bytes b: behind the values of each every byte is 0, and behind the last window
+unfoldable pub areaOk : ℕ → (s b : List ℕ) → Bool
+areaOk zero s b = allZero b
+areaOk (suc m) s b =
+    cond (isWindow (groupOf (getD s 0 0)))
+    (allZero (drop (getD s 5 0 * 8) (take windowLength b)) && areaOk m (drop 256 s) (drop windowLength b))
+    (areaOk m (drop 256 s) b)
+
+unfoldable pub windowsOk : ℕ → List ℕ → Bool
+unfolding windowsIn areaOk
+windowsOk n s = leb (windowsIn n s) windowLimit && areaOk n s (areaOf s)
+
+unfoldable pub tailOk : ℕ → List ℕ → Bool
+unfolding windowsOk
+tailOk n s = allZero (part s (n * 256) (length s - areaLength - n * 256)) && windowsOk n s
+
+-- A state: a length that states have, each record passes, what lies behind them passes, and no cycle without a delayed argument.
 unfoldable pub valid : List ℕ → Bool
-unfolding rowOk allRows streamsIn
+unfolding rowOk allRows streamsIn tailOk
 valid s =
     ltb 0 (capacity (length s))
     && (allRows (rowOk (count s)) (count s) s
-    && (allZero (drop (count s * 256) s)
+    && (tailOk (count s) s
     && acyclic (capacity (length s)) (planIn (count s) s)))
 
 -- what the test finds, as the code answers it
@@ -141,3 +177,13 @@ noted (suc n) s g = sets (noted n s g) (3 * n) (entryOf (getD s (n * 256) 0) (ge
 unfoldable pub clearIn : ℕ → ℕ → List ℕ → Bool
 unfolding noted
 clearIn cap n s = cleared cap n (noted n s (replicate graphLength 0)) .isClear
+
+-- ---- one window, as the code looks at it: record i, the jth window
+
+abbrev pub countedAt : Bool → ℕ → ℕ
+countedAt true j = j + 1
+countedAt false j = j
+
+unfoldable pub clearAt : Bool → (j i : ℕ) → List ℕ → Bool
+clearAt false j i s = true
+clearAt true j i s = ltb j windowLimit && allZero (drop (getD s (i * 256 + 5) 0 * 8) (part s (windowStart (length s) j) windowLength))

@@ -1,11 +1,13 @@
 // Number 15: whether bytes are a state.
 ghost use mathlib.Core.Path.{_≡_};
 ghost use Prim.Native.Nat.{_+_, _*_, _≤_, _<_};
-ghost use lib.ListN.{length};
-ghost use Rattle.operators.specs.Limits.{mostStreams, capacity};
+ghost use lib.ListN.{length, drop};
+ghost use Rattle.operators.specs.Limits.{mostStreams, windowLimit, capacity};
 ghost use Rattle.machine.specs.State.{room};
+ghost use Rattle.le.specs.Bytes.{allZero};
 ghost use Rattle.layout.specs.Record.{num, countF, decRaw};
-ghost use Rattle.valid.specs.Valid.{planOk, nextOk, sizesOk, risen, flagOk, noneIf, noneOk, latestOk, lastOk, signalOk, ownOk, delayOk, keptOk, rowOk, allRows, streamsIn, count, noted, clearIn, tested};
+ghost use Rattle.layout.specs.Windows.{windowLength, areaLength};
+ghost use Rattle.valid.specs.Valid.{planOk, nextOk, sizesOk, risen, flagOk, noneIf, noneOk, latestOk, lastOk, signalOk, ownOk, delayOk, windowOk, keptOk, rowOk, allRows, streamsIn, count, clearAt, countedAt, windowsOk, tailOk, noted, clearIn, tested};
 use cycle::GRAPH;
 use limits::Bound;
 use limits::Queue;
@@ -24,7 +26,10 @@ fn plan_ok(r: &[u8], n: u64) -> bool
     let b = layout::byte_at(r, layout::B);
     let k = layout::word_at(r, layout::K);
     let out = layout::byte_at(r, layout::OUT);
-    operators::fields_ok(n, op, a, b, k, out)
+    if !operators::fields_ok(n, op, a, b, k, out) {
+        return false;
+    }
+    operators::width_ok(op, k)
 }
 
 fn next_ok(out: u64, next: u64, bound: u64) -> bool
@@ -202,6 +207,33 @@ fn delay_ok(r: &[u8]) -> bool
     since <= bound
 }
 
+// Whether a window keeps at most as many values as its width, and none with bound 0.
+fn window_ok(r: &[u8]) -> bool
+    requires { ⌜ length (now r) ≡ 256 ⌝ }
+    ensures { λ x. ⌜ x ≡ windowOk (decRaw (now (r .entry))) ⌝ }
+{
+    let fill = layout::byte_at(r, layout::FLAG);
+    if layout::word_at(r, layout::K) < fill {
+        return false;
+    }
+    if !none_if(layout::word_at(r, layout::BOUND), fill) {
+        return false;
+    }
+    let prior_flag = layout::byte_at(r, layout::PRIOR_FLAG);
+    if prior_flag != 0 {
+        return false;
+    }
+    let kept = layout::word_at(r, layout::KEPT);
+    if kept != 0 {
+        return false;
+    }
+    let value = layout::word_at(r, layout::VALUE);
+    if value != 0 {
+        return false;
+    }
+    layout::word_at(r, layout::PRIOR) == 0
+}
+
 fn kept_ok(r: &[u8]) -> bool
     requires { ⌜ (length (now r) ≡ 256) × (num countF (decRaw (now r)) ≤ room) ⌝ }
     ensures { λ x. ⌜ x ≡ keptOk (decRaw (now (r .entry))) ⌝ }
@@ -211,6 +243,7 @@ fn kept_ok(r: &[u8]) -> bool
         Group::Last => last_ok(r),
         Group::Delay => delay_ok(r),
         Group::Signal => signal_ok(r),
+        Group::Window => window_ok(r),
         _ => none_ok(r),
     }
 }
@@ -265,6 +298,75 @@ fn streams_in(state: &[u8], most: usize) -> usize
     most
 }
 
+// Whether every byte of a window behind its values is 0.
+fn rest_clear(w: &[u8], fill: u64) -> bool
+    requires { ⌜ (length (now w) ≡ windowLength) × (fill < 256) ⌝ }
+    ensures { λ x. ⌜ x ≡ allZero (drop (fill * 8) (now (w .entry))) ⌝ }
+{
+    if Plan::WIDTH <= fill {
+        return true; // nothing is behind them
+    }
+    le::zeros(w, fill as usize * 8)
+}
+
+// Whether record i, a window if w says so, the jth of them from 0, is not one too many, and every byte behind its values is 0.
+fn window_clear(state: &[u8], i: usize, j: usize, w: bool) -> bool
+    requires { ⌜ (i * 256 + 256 + areaLength ≤ length (now state)) × (j ≤ windowLimit) ⌝ }
+    ensures { λ x. ⌜ x ≡ clearAt w j i (now (state .entry)) ⌝ }
+{
+    if !w {
+        return true;
+    }
+    if j as u64 == Plan::WINDOWS {
+        return false;
+    }
+    let row = layout::row_at(state, i);
+    let fill = layout::byte_at(row, layout::FLAG);
+    let at = layout::window_start(state.len(), j);
+    let end = at + layout::WINDOW;
+    rest_clear(&state[at..end], fill)
+}
+
+// One more, if w says so.
+fn counted(j: usize, w: bool) -> usize
+    requires { ⌜ j ≤ windowLimit ⌝ }
+    ensures { λ x. ⌜ x ≡ countedAt w j ⌝ }
+{
+    if w { j + 1 } else { j }
+}
+
+// Whether there are no more windows than may be, and every byte behind their values is 0.
+fn windows_ok(state: &[u8], n: usize) -> bool
+    requires { ⌜ n * 256 + areaLength ≤ length (now state) ⌝ }
+    ensures { λ x. ⌜ x ≡ windowsOk n (now (state .entry)) ⌝ }
+{
+    let mut j = 0;
+    let mut i = 0;
+    while i < n {
+        let row = layout::row_at(state, i);
+        let w = operators::is_window(layout::byte_at(row, layout::OP));
+        if !window_clear(state, i, j, w) {
+            return false;
+        }
+        j = counted(j, w);
+        i += 1;
+    }
+    le::zeros(state, state.len() - layout::AREA + j * layout::WINDOW)
+}
+
+// Whether what lies behind the first n records is as it may be: zeros, then the windows.
+fn tail_ok(state: &[u8], n: usize) -> bool
+    requires { ⌜ n * 256 + areaLength ≤ length (now state) ⌝ }
+    ensures { λ x. ⌜ x ≡ tailOk n (now (state .entry)) ⌝ }
+{
+    let at = n * layout::RECORD;
+    let end = state.len() - layout::AREA;
+    if !le::zeros(&state[at..end], 0) {
+        return false;
+    }
+    windows_ok(state, n)
+}
+
 // The undelayed arguments of the first n records, three bytes for each.
 fn fill_graph(state: &[u8], n: usize, graph: &mut [u8])
     requires { ⌜ (n * 256 ≤ length (now state)) × (3 * n ≤ length (now graph)) ⌝ }
@@ -306,7 +408,7 @@ pub fn streams(state: &[u8]) -> Tested
     if !rows_ok(state, n) {
         return Tested::NoState;
     }
-    if !le::zeros(state, n * layout::RECORD) {
+    if !tail_ok(state, n) {
         return Tested::NoState;
     }
     if !clear(state, n, most) {

@@ -20,7 +20,8 @@ use Rattle.operators.specs.Operators.{groupOf, usesK, eqnOf}
 use Rattle.operators.specs.Rules.{fieldsOk}
 use Rattle.lines.specs.Form.{skip, field, ended, whole, scan, valueLine, signed, outLine}
 use Rattle.text.specs.Grammar.{head, stream, opLine, named, nameAt, numberNamed, place, fieldsAfter}
-use Rattle.plan.specs.Rules.{allKeep, streams, planFrom, numberAfter, number, declared}
+use Rattle.operators.specs.Windows.{widthOk, windows}
+use Rattle.plan.specs.Rules.{allKeep, streams, planFrom, numberAfter, number, declared, allWidths, windowsOk}
 use Rattle.machine.specs.State.{Declared, State, cellAt, room, loaded}
 use Rattle.machine.specs.Step.{raise}
 use Rattle.machine.specs.Calls.{Call, reading, progress, moving, running, collecting, arrivals, done, unless, offerReading, call}
@@ -59,7 +60,7 @@ use Rattle.visits.proofs.Visits as Visits
 -- ## The plan's text
 
 visits-taken : number 32 visits ≡ 0
-unfolding number head skip field ended whole scan numberAfter streams stream opLine named nameAt numberNamed place fieldsAfter valueLine signed outLine allKeep planFrom acyclic fieldsOk groupOf usesK eqnOf
+unfolding number head skip field ended whole scan numberAfter streams stream opLine named nameAt numberNamed place fieldsAfter valueLine signed outLine allKeep allWidths windowsOk widthOk windows planFrom acyclic fieldsOk groupOf usesK eqnOf
 visits-taken = refl
 
 visits-declared : declared 32 visits ≡ Visits.streams

@@ -1,6 +1,6 @@
-//! The definition, from document 01's operator table, the rules under it, and document 02's signal forms and rule of division: a
-//! plan and the readings of its inputs give for every stream a map from stamp to value. Batch and plain; it knows nothing of
-//! calls, bounds or held events.
+//! The definition, from document 01's operator table, the rules under it, and document 02's signal forms, rule of division and
+//! windows: a plan and the readings of its inputs give for every stream a map from stamp to value. Batch and plain; it knows
+//! nothing of calls, bounds or held events, nor of a window that moves.
 
 use crate::plan::{Op, Stream};
 use std::collections::{BTreeMap, BTreeSet};
@@ -53,6 +53,10 @@ impl Table<'_> {
                 self.before[a].range(..t).next_back().map(|(_, v)| *v)
             }
             Op::Delay => self.fires(s, a, b, t).then_some(0),
+            Op::Wsum | Op::Wmin | Op::Wmax => {
+                let now = self.at(a, t, now)?;
+                of_latest(op, k, self.before[a].values().copied().chain([now]))
+            }
             _ => {
                 let (x, y) = (self.at(a, t, now), self.at(b, t, now));
                 let Some(form) = op.on_signals() else { return calculate(op, x? as i128, y? as i128) };
@@ -81,6 +85,18 @@ impl Table<'_> {
 /// "A result outside the value range [..] gives no event."
 fn within(x: i128) -> Option<i64> {
     i64::try_from(x).ok()
+}
+
+/// Of all events of a so far, from the first one on: "the sum, least or greatest of the latest k events, this one included, or of
+/// all so far while fewer". "A sum out of range gives no event": the whole sum, whatever a part of it is.
+pub fn of_latest(op: Op, k: i64, all: impl DoubleEndedIterator<Item = i64>) -> Option<i64> {
+    let latest = all.rev().take(k as usize);
+    match op {
+        Op::Wsum => within(latest.map(i128::from).sum()),
+        Op::Wmin => latest.min(),
+        Op::Wmax => latest.max(),
+        _ => unreachable!("{op:?} is no window"),
+    }
 }
 
 /// "a quotient goes down to the next whole number and the remainder has the divisor's sign": of the whole numbers that are not

@@ -4,8 +4,9 @@
 
 use crate::engine::{Answer, Call, STATE_LENGTH};
 use crate::evaluator::{Events, HORIZON};
-use crate::model::{at_one_stamp, Division};
-use crate::plan::{keeps_cycle_rule, Op, Plan, Stream, OPERATORS};
+use crate::layout;
+use crate::model::{at_one_stamp, at_window, Division};
+use crate::plan::{keeps_cycle_rule, keeps_window_rule, windows, Op, Plan, Stream, OPERATORS};
 
 /// A stream of a state.
 #[derive(Clone, PartialEq, Debug, Default)]
@@ -22,6 +23,8 @@ pub struct Record {
     pub prior: Option<i64>,
     /// of a signal form: the value of a's latest known event below the bound, and of b's
     pub latest: [Option<i64>; 2],
+    /// of a window: the values of a's latest known k events below the bound, the oldest first
+    pub window: Vec<i64>,
 }
 
 #[derive(Clone, PartialEq, Debug, Default)]
@@ -45,7 +48,7 @@ fn flagged(record: &[u8], flag: usize, at: usize) -> Option<Option<i64>> {
     }
 }
 
-/// One record of a state of n streams, or none where the layout gives it no meaning.
+/// One record of a state of n streams, or none where the layout gives it no meaning. The values of a window lie elsewhere.
 fn read_record(r: &[u8], n: usize) -> Option<(Stream, Record)> {
     let op = OPERATORS.get((r[0] as usize).checked_sub(1)?)?.0;
     let stream = Stream { op, a: r[1] as usize, b: r[2] as usize, k: word(r, 8) as i64, out: r[3] == 1 };
@@ -96,13 +99,29 @@ fn read_record(r: &[u8], n: usize) -> Option<(Stream, Record)> {
                 return None;
             }
         }
-        _ => {
-            if r[5] != 0 || r[6] != 0 || r[32..56].iter().any(|&x| x != 0) {
+        op => {
+            let fill = if op.is_window() { r[5] } else { 0 };
+            if r[5] != fill || (record.bound == 0 && fill != 0) || r[6] != 0 || r[32..56].iter().any(|&x| x != 0) {
                 return None;
             }
+            record.window = vec![0; fill as usize];
         }
     }
     Some((stream, record))
+}
+
+/// The values of a plan's windows, read from behind the records into these of the right lengths; none where a byte there has no
+/// meaning: a fill above the width, a byte behind the fill or of a window that no stream has.
+fn read_windows(bytes: &[u8], plan: &Plan, records: &mut [Record]) -> Option<()> {
+    let mut slots = bytes.chunks(layout::WINDOW);
+    for s in windows(plan) {
+        let (values, rest) = slots.next()?.split_at_checked(8 * records[s].window.len())?;
+        if records[s].window.len() as i64 > plan[s].k || rest.iter().any(|&x| x != 0) {
+            return None;
+        }
+        records[s].window = values.chunks(8).map(|value| word(value, 0) as i64).collect();
+    }
+    slots.flatten().all(|&x| x == 0).then_some(())
 }
 
 impl Found {
@@ -116,17 +135,27 @@ impl Found {
         if state.len() != STATE_LENGTH {
             return None;
         }
-        let n = state.chunks(256).take(32).position(|r| r[0] == 0).unwrap_or(32);
+        let (all, behind) = state.split_at(layout::WINDOWS);
+        let n = all.chunks(256).position(|r| r[0] == 0).unwrap_or(32);
         // with no streams too: all bytes are 0
-        if state[256 * n..].iter().any(|&x| x != 0) {
+        if all[256 * n..].iter().any(|&x| x != 0) {
             return None;
         }
-        let (plan, records): (Plan, Vec<Record>) = state.chunks(256).take(n).map(|r| read_record(r, n)).collect::<Option<Vec<_>>>()?.into_iter().unzip();
-        keeps_cycle_rule(&plan).then_some(Found { plan, records, division: Division::Down })
+        let (plan, mut records): (Plan, Vec<Record>) = all.chunks(256).take(n).map(|r| read_record(r, n)).collect::<Option<Vec<_>>>()?.into_iter().unzip();
+        if !keeps_window_rule(&plan) || !keeps_cycle_rule(&plan) {
+            return None;
+        }
+        read_windows(behind, &plan, &mut records)?;
+        Some(Found { plan, records, division: Division::Down })
     }
 
     pub fn bytes(&self) -> Vec<u8> {
         let mut state = vec![0; STATE_LENGTH];
+        for (slot, s) in state[layout::WINDOWS..].chunks_mut(layout::WINDOW).zip(windows(&self.plan)) {
+            for (at, v) in slot.chunks_mut(8).zip(&self.records[s].window) {
+                at.copy_from_slice(&v.to_le_bytes());
+            }
+        }
         for ((stream, record), r) in self.plan.iter().zip(&self.records).zip(state.chunks_mut(256)) {
             let mut put = |at: usize, x: u64| r[at..at + 8].copy_from_slice(&x.to_le_bytes());
             put(8, stream.k as u64);
@@ -138,7 +167,7 @@ impl Found {
             put(48, record.prior.unwrap_or(0) as u64);
             r[0] = OPERATORS.iter().position(|(op, _)| *op == stream.op).unwrap() as u8 + 1;
             (r[1], r[2], r[3], r[4]) = (stream.a as u8, stream.b as u8, stream.out as u8, record.held.len() as u8);
-            r[5] = record.prev.or(record.value).or(first).is_some() as u8;
+            r[5] = record.prev.or(record.value).or(first).is_some() as u8 + record.window.len() as u8;
             r[6] = record.prior.or(second).is_some() as u8;
             for (slot, (t, v)) in r[64..].chunks_mut(12).zip(&record.held) {
                 slot[..4].copy_from_slice(&t.to_le_bytes());
@@ -210,8 +239,21 @@ impl Found {
                 let [x, z] = self.latest(s, t + 1);
                 at_one_stamp(Stream { op: op.on_signals()?, ..stream }, self.division, t, x, z)
             }
+            op if op.is_window() => {
+                x?;
+                at_window(op, &self.window(s, t + 1))
+            }
             _ => at_one_stamp(stream, self.division, t, x, z),
         }
+    }
+
+    /// Of a window: the latest k of what is kept and then a's held events from the bound on to below another one. Those below the
+    /// bound are in it already.
+    fn window(&self, s: usize, to: u64) -> Vec<i64> {
+        let (stream, record) = (self.plan[s], &self.records[s]);
+        let more = self.records[stream.a].held.iter().filter(|(t, _)| (record.bound..to).contains(&(**t as u64)));
+        let values: Vec<i64> = record.window.iter().copied().chain(more.map(|(_, v)| *v)).collect();
+        values[values.len().saturating_sub(stream.k as usize)..].to_vec()
     }
 
     /// Of a signal form: the value of a's latest event below a bound, held or kept, and of b's.
@@ -247,12 +289,15 @@ impl Found {
         (bound != self.records[s].bound).then_some((bound, event))
     }
 
-    /// The bound goes up, with at most one event: "the state still keeps what a last or delay needs of it", and a signal form's
-    /// latest values.
+    /// The bound goes up, with at most one event: "the state still keeps what a last or delay needs of it", a signal form's latest
+    /// values, and a window's.
     fn raise(&mut self, s: usize, bound: u64, event: Option<(u32, i64)>) {
+        let stream = self.plan[s];
+        if stream.op.is_window() {
+            self.records[s].window = self.window(s, bound);
+        }
         self.records[s].bound = bound;
         self.records[s].held.extend(event);
-        let stream = self.plan[s];
         match stream.op {
             Op::Last => {
                 let latest = self.records[stream.a].held.range(..).take_while(|(t, _)| (**t as u64) < bound).last();
@@ -279,8 +324,8 @@ impl Found {
         }
     }
 
-    /// The event (t, v) of stream s came in below the bound of stream r. A signal form keeps only what it took in by its own
-    /// moves.
+    /// The event (t, v) of stream s came in below the bound of stream r. A signal form and a window keep only what they took in by
+    /// their own moves.
     fn tell(&mut self, r: usize, s: usize, t: u64, v: i64) {
         let (stream, record) = (self.plan[r], &mut self.records[r]);
         if t >= record.bound {

@@ -259,7 +259,9 @@ pub fn any_call(random: &mut Random, session: &Session) -> Call {
                 6..=40 => known.saturating_add(random.below(3)).min(u32::MAX as u64) as u32,
                 _ => known.saturating_add(random.below(12)).min(u32::MAX as u64) as u32,
             };
-            Call::Reading(input, stamp, random.value())
+            // where something is summed up, often so that the sum is out of range
+            let sums = session.plan.iter().any(|stream| stream.op == Op::Wsum);
+            Call::Reading(input, stamp, if sums && random.chance(30) { random.at_an_end() } else { random.value() })
         }
         35..=44 => {
             let bound = match random.below(40) {

@@ -1,6 +1,11 @@
 //! The fields of a state, read from outside (docs/LAYOUT.md): for tests that look at bounds, held events and what is kept.
 
 pub const RECORD: usize = 256;
+/// Behind the 32 records: eight windows of 64 values.
+pub const WINDOWS: usize = 32 * RECORD;
+pub const WINDOW: usize = 512;
+/// The stored numbers of wsum, wmin and wmax.
+pub const WINDOW_NUMBERS: std::ops::RangeInclusive<u8> = 28..=30;
 
 fn word(bytes: &[u8], at: usize) -> u64 {
     u64::from_le_bytes(bytes[at..at + 8].try_into().unwrap())
@@ -22,6 +27,18 @@ pub fn mark(state: &[u8], stream: usize) -> u64 {
 pub fn latest(state: &[u8], stream: usize) -> [Option<i64>; 2] {
     let record = &state[RECORD * stream..RECORD * (stream + 1)];
     [(5, 32), (6, 40)].map(|(flag, at)| (record[flag] == 1).then_some(word(record, at) as i64))
+}
+
+/// Of a window: where its values lie, by its rank among the plan's windows.
+pub fn window_at(state: &[u8], stream: usize) -> usize {
+    let rank = (0..stream).filter(|s| WINDOW_NUMBERS.contains(&state[RECORD * s])).count();
+    WINDOWS + WINDOW * rank
+}
+
+/// Of a window: the values that it keeps, the oldest first.
+pub fn window(state: &[u8], stream: usize) -> Vec<i64> {
+    let (at, fill) = (window_at(state, stream), state[RECORD * stream + 5] as usize);
+    (0..fill).map(|i| word(state, at + 8 * i) as i64).collect()
 }
 
 pub fn held(state: &[u8], stream: usize) -> Vec<(u32, i64)> {

@@ -1,5 +1,5 @@
 //! A model of the calls on whole histories: every event that ever came in is kept, and the sentences of document 01 ("When
-//! an equation can move", "The calls"), of document 02's signal forms and of its rule of division are followed on them. Slow and
+//! an equation can move", "The calls"), of document 02's signal forms, rule of division and windows are followed on them. Slow and
 //! plain; it has no bytes and keeps nothing aside.
 
 use crate::engine::{Answer, Call};
@@ -76,8 +76,31 @@ impl Model {
                 let latest = |i: usize| self.events[i].range(..=t as u32).next_back().map(|(_, v)| *v);
                 at_one_stamp(Stream { op: op.on_signals()?, ..stream }, Division::Down, t, latest(stream.a), latest(stream.b))
             }
+            // "the latest k events, this one included"
+            op if op.is_window() => {
+                x?;
+                at_window(op, &self.latest_of(stream, t + 1))
+            }
             _ => at_one_stamp(stream, Division::Down, t, x, z),
         }
+    }
+
+    /// The values of a's events below a bound, the latest k of them, the oldest first.
+    fn latest_of(&self, stream: Stream, bound: u64) -> Vec<i64> {
+        let mut all: Vec<i64> = self.events[stream.a].iter().filter(|(t, _)| (**t as u64) < bound).map(|(_, v)| *v).collect();
+        all.drain(..all.len().saturating_sub(stream.k as usize));
+        all
+    }
+
+    /// Of a window, what the state keeps: the values of a's latest k events below its bound.
+    pub fn window(&self, s: usize) -> Vec<i64> {
+        self.latest_of(self.plan[s], self.bound[s])
+    }
+
+    /// Of a window: how many of a's events below its bound gave none, their sum being out of range.
+    pub fn passed(&self, s: usize) -> u64 {
+        let below = self.events[self.plan[s].a].keys().filter(|t| (**t as u64) < self.bound[s]);
+        below.filter(|t| !self.events[s].contains_key(t)).count() as u64
     }
 
     /// Of a signal form, what the state keeps: the value of the latest event below its bound, of a and of b.
@@ -221,8 +244,22 @@ impl Division {
     }
 }
 
-/// The table's rows of document 01 that look at one stamp alone: all but last and delay, and no signal form. x and z are the
-/// arguments' events.
+/// What a window gives of the values in it. The sum by halves: those of the lower 32 bits are never negative, what they are above
+/// 2^32 is carried, and the rest must be the upper 32 bits of a value.
+pub fn at_window(op: Op, values: &[i64]) -> Option<i64> {
+    match op {
+        Op::Wmin => values.iter().copied().reduce(|least, v| if v < least { v } else { least }),
+        Op::Wmax => values.iter().copied().reduce(|greatest, v| if v > greatest { v } else { greatest }),
+        _ => {
+            let low: i64 = values.iter().map(|v| v & 0xFFFF_FFFF).sum();
+            let high: i64 = values.iter().map(|v| v >> 32).sum::<i64>() + (low >> 32);
+            i32::try_from(high).ok().map(|high| ((high as i64) << 32) | (low & 0xFFFF_FFFF))
+        }
+    }
+}
+
+/// The table's rows of document 01 that look at one stamp alone: all but last and delay, no signal form and no window. x and z are
+/// the arguments' events.
 pub fn at_one_stamp(stream: Stream, division: Division, t: u64, x: Option<i64>, z: Option<i64>) -> Option<i64> {
     match stream.op {
         Op::In | Op::Nil => None,

@@ -1,35 +1,44 @@
-//! A plan and its text, from document 01's "Plan text" and the numbers 1 to 6 of "Load", with document 02's signal forms and its
-//! plan of no streams.
+//! A plan and its text, from document 01's "Plan text" and the numbers 1 to 6 of "Load", with document 02's signal forms, its plan
+//! of no streams, and its windows with number 18.
 
 #[derive(Clone, Copy, PartialEq, Eq, Debug)]
 pub enum Op {
     In, Nil, Unit, Time, Set, Plus, Neg, Add, Sub, Mul, Div, Rem, Lt, Le, Eq, Keep, Merge, Last, Delay,
-    Sadd, Ssub, Smul, Sdiv, Srem, Slt, Sle, Seq,
+    Sadd, Ssub, Smul, Sdiv, Srem, Slt, Sle, Seq, Wsum, Wmin, Wmax,
 }
 
 use Op::*;
 
-/// By the table's order, then the signal forms; the stored number is the place plus 1.
-pub const OPERATORS: [(Op, &str); 27] = [
+/// By the table's order, then the signal forms, then the windows; the stored number is the place plus 1.
+pub const OPERATORS: [(Op, &str); 30] = [
     (In, "in"), (Nil, "nil"), (Unit, "unit"), (Time, "time"), (Set, "set"), (Plus, "plus"), (Neg, "neg"), (Add, "add"),
     (Sub, "sub"), (Mul, "mul"), (Div, "div"), (Rem, "rem"), (Lt, "lt"), (Le, "le"), (Eq, "eq"), (Keep, "keep"),
     (Merge, "merge"), (Last, "last"), (Delay, "delay"), (Sadd, "sadd"), (Ssub, "ssub"), (Smul, "smul"), (Sdiv, "sdiv"),
-    (Srem, "srem"), (Slt, "slt"), (Sle, "sle"), (Seq, "seq"),
+    (Srem, "srem"), (Slt, "slt"), (Sle, "sle"), (Seq, "seq"), (Wsum, "wsum"), (Wmin, "wmin"), (Wmax, "wmax"),
 ];
 
 /// The signal forms, each with what it works out of the latest values.
 pub const SIGNALS: [(Op, Op); 8] =
     [(Sadd, Add), (Ssub, Sub), (Smul, Mul), (Sdiv, Div), (Srem, Rem), (Slt, Lt), (Sle, Le), (Seq, Eq)];
 
+/// "wsum, wmin and wmax with a and k"
+pub const WINDOWS: [Op; 3] = [Wsum, Wmin, Wmax];
+/// "a width outside 1 to 64 or a ninth window"
+pub const WIDEST: i64 = 64;
+pub const MOST_WINDOWS: usize = 8;
+
 impl Op {
     pub fn uses_a(self) -> bool {
         !matches!(self, In | Nil | Unit)
     }
     pub fn uses_b(self) -> bool {
-        self.uses_a() && !matches!(self, Time | Set | Plus | Neg)
+        self.uses_a() && !matches!(self, Time | Set | Plus | Neg) && !self.is_window()
     }
     pub fn uses_k(self) -> bool {
-        matches!(self, Set | Plus)
+        matches!(self, Set | Plus) || self.is_window()
+    }
+    pub fn is_window(self) -> bool {
+        WINDOWS.contains(&self)
     }
     /// Of a signal form: what it works out of the latest values.
     pub fn on_signals(self) -> Option<Op> {
@@ -128,6 +137,17 @@ pub fn keeps_cycle_rule(plan: &[Stream]) -> bool {
     }
 }
 
+/// The streams of a plan that are windows, by stream number.
+pub fn windows(plan: &[Stream]) -> Vec<usize> {
+    (0..plan.len()).filter(|&s| plan[s].op.is_window()).collect()
+}
+
+/// No "width outside 1 to 64", no "ninth window".
+pub fn keeps_window_rule(plan: &[Stream]) -> bool {
+    let windows = windows(plan);
+    windows.len() <= MOST_WINDOWS && windows.iter().all(|&s| (1..=WIDEST).contains(&plan[s].k))
+}
+
 /// A number without leading zeros, of at most `digits` digits.
 fn natural(word: &[u8], digits: usize) -> Option<u64> {
     let good = !word.is_empty() && word.len() <= digits && word.iter().all(u8::is_ascii_digit);
@@ -207,6 +227,10 @@ pub fn parse(text: &[u8]) -> Result<Plan, u32> {
     }
     if !fields_good {
         return Err(5);
+    }
+    // "18, [..] tested after 5 and before 6"
+    if !keeps_window_rule(&plan) {
+        return Err(18);
     }
     if keeps_cycle_rule(&plan) { Ok(plan) } else { Err(6) }
 }

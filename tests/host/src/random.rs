@@ -1,6 +1,6 @@
 //! Random numbers from a printed seed, and random plans.
 
-use crate::plan::{keeps_cycle_rule, Op, Plan, Stream, OPERATORS, SIGNALS};
+use crate::plan::{keeps_cycle_rule, keeps_window_rule, windows, Op, Plan, Stream, MOST_WINDOWS, OPERATORS, SIGNALS, WINDOWS};
 
 #[derive(Clone)]
 pub struct Random(u64);
@@ -63,9 +63,35 @@ impl Random {
             _ => self.below(9) as i64 + 1,
         }
     }
+
+    /// Mostly at one end or the other, so that sums leave the range and come back into it.
+    pub fn at_an_end(&mut self) -> i64 {
+        let near = self.below(4) as i64;
+        match self.below(8) {
+            0..=2 => i64::MAX - near,
+            3..=5 => i64::MIN + near,
+            6 => self.pick(&[1 << 62, -(1 << 62), 1 << 58, -(1 << 58)]),
+            _ => near - 2,
+        }
+    }
+
+    /// The width of a window: mostly small, now and then the least or the greatest.
+    pub fn width(&mut self) -> i64 {
+        match self.below(10) {
+            0 => 1,
+            1 => 64,
+            2 => 63 - self.below(48) as i64,
+            _ => 2 + self.below(4) as i64,
+        }
+    }
 }
 
-/// Three streams in a cycle: a recursion over the past by last, as a count or a sum, or a timer that sets itself again.
+/// Whether a window more is taken.
+fn has_room(plan: &Plan) -> bool {
+    windows(plan).len() < MOST_WINDOWS
+}
+
+/// Three streams in a cycle: a recursion over the past by last, as a count, a sum or a window, or a timer that sets itself again.
 fn recursion(random: &mut Random, plan: &mut Plan, order: &[usize], place: usize) {
     let lower = |random: &mut Random| order[random.below(place as u64) as usize];
     let (first, second, third) = (order[place], order[place + 1], order[place + 2]);
@@ -73,7 +99,9 @@ fn recursion(random: &mut Random, plan: &mut Plan, order: &[usize], place: usize
     let out = |random: &mut Random| random.chance(40);
     if random.chance(50) {
         plan[first] = Stream { op: Op::Last, a: third, b: trigger, k: 0, out: out(random) };
-        plan[second] = if random.chance(50) {
+        plan[second] = if random.chance(10) && has_room(plan) {
+            Stream { op: random.pick(&WINDOWS), a: first, b: 0, k: random.width(), out: out(random) }
+        } else if random.chance(50) {
             Stream { op: Op::Plus, a: first, b: 0, k: random.value(), out: out(random) }
         } else {
             let op = random.pick(&[Op::Add, Op::Sub, Op::Mul, Op::Add, Op::Div, Op::Rem, Op::Merge, Op::Le, Op::Sadd, Op::Ssub, Op::Srem, Op::Slt]);
@@ -91,12 +119,14 @@ fn recursion(random: &mut Random, plan: &mut Plan, order: &[usize], place: usize
 }
 
 /// A plan that keeps every rule: undelayed arguments go down a random order of the streams, delayed ones go anywhere. One in
-/// twenty-five has no streams.
+/// twenty-five has no streams, one in twenty many windows, often all eight.
 pub fn plan(random: &mut Random, most: usize) -> Plan {
     if random.chance(4) {
         return vec![];
     }
-    let n = if random.chance(15) { most } else { 1 + random.below(most as u64) as usize };
+    let many = most > MOST_WINDOWS && random.chance(5);
+    let least = if many { MOST_WINDOWS } else { 1 };
+    let n = if random.chance(15) { most } else { least + random.below((most + 1 - least) as u64) as usize };
     let mut order: Vec<usize> = (0..n).collect();
     for i in (1..n).rev() {
         order.swap(i, random.below(i as u64 + 1) as usize);
@@ -110,7 +140,7 @@ pub fn plan(random: &mut Random, most: usize) -> Plan {
             continue;
         }
         let s = order[place];
-        if place > inputs && n - place >= 3 && random.chance(30) {
+        if place > inputs && n - place >= 3 && !many && random.chance(30) {
             recursion(random, &mut plan, &order, place);
             skip = 2;
             continue;
@@ -125,6 +155,8 @@ pub fn plan(random: &mut Random, most: usize) -> Plan {
             Op::In
         } else if place == inputs || place == 0 {
             random.pick(&[Op::Unit, Op::Unit, Op::Nil, Op::In])
+        } else if many && random.chance(90) {
+            random.pick(&WINDOWS)
         } else {
             match random.below(100) {
                 0..=13 => Op::Last,
@@ -135,10 +167,12 @@ pub fn plan(random: &mut Random, most: usize) -> Plan {
                 61..=65 => Op::Time,
                 66..=69 => Op::Keep,
                 70..=72 => random.pick(&[Op::Div, Op::Rem, Op::Sdiv, Op::Srem]),
-                73..=81 => random.pick(&SIGNALS).0,
+                73..=80 => random.pick(&SIGNALS).0,
+                81..=86 => random.pick(&WINDOWS),
                 _ => random.pick(&OPERATORS).0,
             }
         };
+        let op = if op.is_window() && !has_room(&plan) { Op::Neg } else { op };
         let mut stream = Stream::new(op);
         if op.uses_a() {
             stream.a = if matches!(op, Op::Last | Op::Delay) { anywhere(random) } else { lower(random) };
@@ -147,7 +181,7 @@ pub fn plan(random: &mut Random, most: usize) -> Plan {
             stream.b = lower(random);
         }
         if op.uses_k() {
-            stream.k = random.value();
+            stream.k = if op.is_window() { random.width() } else { random.value() };
         }
         stream.out = op != Op::In && random.chance(40);
         plan[s] = stream;
@@ -167,6 +201,6 @@ pub fn plan(random: &mut Random, most: usize) -> Plan {
             plan[random.pick(&equations)].out = true;
         }
     }
-    assert!(keeps_cycle_rule(&plan));
+    assert!(keeps_cycle_rule(&plan) && keeps_window_rule(&plan));
     plan
 }

@@ -1,7 +1,9 @@
-//! What a worked case says of calls on a session: their numbers, the moves of a run, what an output hands out.
+//! What a worked case says of calls on a session: their numbers, the moves of a run, what an output hands out, bytes of the state;
+//! and load's number of a text.
 
-use crate::engine::{Answer, Call};
+use crate::engine::{engines, Answer, Call, STATE_LENGTH};
 use crate::history::Session;
+use crate::plan::parse;
 use Call::{Collect, Run};
 
 /// The calls with the numbers that they return.
@@ -27,4 +29,23 @@ pub fn collected(session: &mut Session, stream: u32, events: &[(u32, i64)]) {
 /// Run and collected to the end, all that was handed out is what the definition gives.
 pub fn as_defined(session: &mut Session) {
     assert!(session.rest(1000) && session.check_beginning() && session.check_rest());
+}
+
+/// Bytes of the state, from the first one named on.
+pub fn holds(session: &Session, from: usize, bytes: &[u8]) {
+    assert_eq!(&session.state()[from..from + bytes.len()], bytes, "from byte {from} on");
+}
+
+/// Bytes of a record, from the first one named on.
+pub fn record(session: &Session, stream: usize, from: usize, bytes: &[u8]) {
+    holds(session, 256 * stream + from, bytes);
+}
+
+/// Load's number, the same of both engines and by the rules.
+pub fn load(text: &str) -> u32 {
+    let number = parse(text.as_bytes()).err().unwrap_or(0);
+    for engine in engines() {
+        assert_eq!(engine.load(&mut vec![0; STATE_LENGTH], text.as_bytes()), number, "{} against the rules: {text:?}", engine.name);
+    }
+    number
 }

@@ -7,20 +7,28 @@ use host::engine::{engines, Answer, Call, BLOCK_LENGTH, STATE_LENGTH};
 use host::evaluator::HORIZON;
 use host::found::Found;
 use host::history::{any_write, Session};
+use host::layout::{self, WINDOW_NUMBERS};
 use host::model::Division;
-use host::plan::{parse, text_of};
+use host::plan::{parse, text_of, Stream, WINDOWS};
 use host::random::{plan, rounds, seed, Random};
 use host::registers::{line, started, writes, Act, Board};
 use std::ops::RangeInclusive;
 
 fn damaged_text(random: &mut Random) -> Vec<u8> {
-    let mut text = text_of(&plan(random, 32)).into_bytes();
+    let mut streams = plan(random, 32);
+    if random.chance(5) {
+        // about as many windows as are taken
+        for stream in streams.iter_mut().filter(|stream| stream.op.uses_a()).take(7 + random.below(4) as usize) {
+            *stream = Stream { op: random.pick(&WINDOWS), b: 0, k: random.width(), ..*stream };
+        }
+    }
+    let mut text = text_of(&streams).into_bytes();
     let lines = |text: &[u8]| text.split_inclusive(|&c| c == b'\n').map(<[u8]>::to_vec).collect::<Vec<_>>();
     for _ in 0..random.below(4) {
         match random.below(12) {
             0..=2 if !text.is_empty() => {
                 let at = random.below(text.len() as u64) as usize;
-                text[at] = random.pick(b"0123456789-=\n abkoinpltsude\r\0\xff");
+                text[at] = random.pick(b"0123456789-=\n abkoinpltsudewmx\r\0\xff");
             }
             3 if !text.is_empty() => {
                 text.remove(random.below(text.len() as u64) as usize);
@@ -42,8 +50,8 @@ fn damaged_text(random: &mut Random) -> Vec<u8> {
                     let i = random.below(all.len() as u64) as usize;
                     let key: Vec<u8> = all[i].iter().take_while(|&&c| c != b'=').copied().collect();
                     let value = random.pick(&[
-                        "0", "1", "2", "31", "32", "33", "100", "999", "1000", "-1", "-0", "00", "in", "nil", "unit", "last", "delay", "merge",
-                        "add", "neg", "plus", "sadd", "sdiv", "seq", "sneg", "sadds", "zz", "abcdef", "", "9223372036854775807",
+                        "0", "1", "2", "31", "32", "33", "64", "65", "100", "999", "1000", "-1", "-0", "00", "in", "nil", "unit", "last", "delay", "merge",
+                        "add", "neg", "plus", "sadd", "sdiv", "seq", "wsum", "wmin", "wmax", "sneg", "sadds", "wsums", "zz", "abcdef", "", "9223372036854775807",
                         "9223372036854775808", "-9223372036854775808", "-9223372036854775809", "18446744073709551617",
                     ]);
                     all[i] = [&key, &b"="[..], value.as_bytes(), b"\n"].concat();
@@ -60,7 +68,8 @@ fn damaged_text(random: &mut Random) -> Vec<u8> {
 
 #[test]
 fn damaged_texts() {
-    let (mut met, mut empty) = ([0u64; 7], 0u64);
+    // by number: 0 to 6 and 18, of which some by a ninth window
+    let (mut met, mut empty, mut ninth) = ([0u64; 19], 0u64, 0u64);
     let mut random = Random::of(10, 0);
     for _ in 0..rounds(40_000) {
         let text = damaged_text(&mut random);
@@ -68,6 +77,7 @@ fn damaged_texts() {
         let number = parsed.as_ref().err().copied().unwrap_or(0);
         met[number as usize] += 1;
         empty += text.is_empty() as u64;
+        ninth += (number == 18 && String::from_utf8_lossy(&text).matches("op=w").count() > 8) as u64;
         let text = Lent::of(&text);
         let mut ends = vec![];
         for engine in engines() {
@@ -84,8 +94,10 @@ fn damaged_texts() {
         }
         assert!(ends[0][..] == ends[1][..], "seed {}: the loaded states differ\n{}", seed(), String::from_utf8_lossy(&text));
     }
-    println!("seed {}: numbers 0 to 6 met {met:?} times, the text of no bytes {empty} times", seed());
-    assert!((met.iter().all(|&count| count > 0) && empty > 100) || rounds(40_000) < 40_000, "a number was never met: {met:?}, {empty}");
+    println!("seed {}: numbers 0 to 6 met {:?} times, 18 {} times, {ninth} of them with more than eight windows; the text of no bytes {empty} times", seed(), &met[..7], met[18]);
+    assert!(met[7..18].iter().all(|&count| count == 0));
+    let reached = [&met[..7], &[met[18], ninth]].concat();
+    assert!((reached.iter().all(|&count| count > 0) && empty > 100) || rounds(40_000) < 40_000, "a number was never met: {reached:?}, {empty}");
 }
 
 fn put(state: &mut [u8], at: usize, bytes: &[u8]) {
@@ -97,14 +109,14 @@ fn damage(random: &mut Random, state: &mut [u8], streams: usize) {
     let record = 256 * random.below(streams as u64) as usize;
     let bound = u64::from_le_bytes(state[record + 16..record + 24].try_into().unwrap());
     let count = state[record + 4] as usize;
-    match random.below(16) {
+    match random.below(18) {
         0 => {
             let at = random.below(STATE_LENGTH as u64) as usize;
             state[at] = random.next() as u8;
         }
         1 => {
             let at = record + random.below(64) as usize;
-            state[at] = random.pick(&[0, 1, 2, 16, 17, 19, 20, 27, 28, 255]);
+            state[at] = random.pick(&[0, 1, 2, 16, 17, 19, 20, 27, 28, 30, 31, 64, 65, 255]);
         }
         // another bound: often still above the held stamps
         2..=4 => {
@@ -121,7 +133,7 @@ fn damage(random: &mut Random, state: &mut [u8], streams: usize) {
             let mark = if random.chance(80) { random.below(bound.saturating_add(2).max(1)) } else { random.next() };
             put(state, record + 24, &mark.to_le_bytes());
         }
-        // what is kept: since, value and prior of a delay, one value of a last, two of a signal form
+        // what is kept: since, value and prior of a delay, one value of a last, two of a signal form, a window
         6..=8 => {
             let since = if random.chance(80) { random.below(bound.saturating_add(2).max(1)) } else { random.next() };
             if state[record] == 19 {
@@ -146,6 +158,8 @@ fn damage(random: &mut Random, state: &mut [u8], streams: usize) {
                 if random.chance(5) {
                     state[record + 48 + random.below(8) as usize] = 1;
                 }
+            } else if WINDOW_NUMBERS.contains(&state[record]) {
+                fill(random, state, record / 256);
             }
         }
         // a held event more, at the end or between; up to 16 and one beyond
@@ -172,7 +186,18 @@ fn damage(random: &mut Random, state: &mut [u8], streams: usize) {
             state[record + 4] -= 1;
         }
         // another operator of the same form, or other arguments
-        14 => state[record] = random.pick(&[8, 9, 10, 11, 12, 13, 14, 15, 16, 17, 18, 19, 20, 21, 23, 24, 27, 28, 4, 7]),
+        14 => state[record] = random.pick(&[8, 9, 10, 11, 12, 13, 14, 15, 16, 17, 18, 19, 20, 21, 23, 24, 27, 28, 31, 4, 7]),
+        // a window more, or another one, with its width; those behind it then lie elsewhere
+        15 => {
+            state[record] = random.pick(&[28, 29, 30]);
+            put(state, record + 8, &width(random).to_le_bytes());
+        }
+        // a byte where windows lie: of one that is there, or of any
+        16 => {
+            let window = if random.chance(50) { layout::window_at(state, record / 256) } else { 8192 + 512 * random.below(8) as usize };
+            let at = window + if random.chance(50) { random.below(32) } else { random.below(512) } as usize;
+            state[at.min(STATE_LENGTH - 1)] = random.next() as u8;
+        }
         _ => {
             let at = record + 1 + random.below(2) as usize;
             state[at] = random.below(streams as u64 + 1) as u8;
@@ -180,10 +205,40 @@ fn damage(random: &mut Random, state: &mut [u8], streams: usize) {
     }
 }
 
+/// Any width, mostly a good one.
+fn width(random: &mut Random) -> i64 {
+    if random.chance(90) { random.width() } else { random.pick(&[0, -1, 65, 66, 256, 257, 1 << 32 | 3, i64::MIN, i64::MAX]) }
+}
+
+/// Another fill of a window, up to its width and now and then above, with values of any kind and zeros or now and then a byte behind
+/// them.
+fn fill(random: &mut Random, state: &mut [u8], stream: usize) {
+    let at = layout::window_at(state, stream);
+    let width = (state[256 * stream + 8] as u64).min(64);
+    if at + 512 > STATE_LENGTH {
+        return;
+    }
+    let fill = match random.below(20) {
+        0 => width + 1 + random.below(3),
+        1 => random.below(256),
+        2..=8 => width,
+        _ => random.below(width + 1),
+    };
+    state[256 * stream + 5] = fill as u8;
+    let ends = random.chance(30);
+    for i in 0..64 {
+        let value = if ends { random.at_an_end() } else { random.value() };
+        put(state, at + 8 * i, &if (i as u64) < fill { value } else { 0 }.to_le_bytes());
+    }
+    if random.chance(5) && fill < 64 {
+        state[at + (8 * fill + random.below(512 - 8 * fill)) as usize] = 1;
+    }
+}
+
 /// One byte of a buffer of zeros: the first one, which may make a stream of it, or another, which never does.
 fn damage_zeros(random: &mut Random, state: &mut [u8]) {
     if random.chance(25) {
-        state[0] = 1 + random.below(30) as u8;
+        state[0] = 1 + random.below(33) as u8;
     } else {
         let near = if random.chance(50) { 256 } else { STATE_LENGTH as u64 - 1 };
         let at = 1 + random.below(near) as usize;
@@ -218,6 +273,74 @@ fn ahead_of_both(random: &mut Random, state: &mut [u8], streams: usize) {
         let value = if state[record + flag] == 1 { random.value() } else { 0 };
         put(state, record + at, &value.to_le_bytes());
     }
+}
+
+/// A window as no call leaves it: ahead of its argument or behind it, with values that it never took in, and with events of the
+/// argument below its bound and from it on.
+fn anywhere(random: &mut Random, state: &mut [u8], streams: usize) {
+    let windows: Vec<usize> = (0..streams).filter(|s| WINDOW_NUMBERS.contains(&state[256 * s])).collect();
+    if windows.is_empty() {
+        return;
+    }
+    let s = random.pick(&windows);
+    let (record, a) = (256 * s, state[256 * s + 1] as usize);
+    if a >= streams {
+        return;
+    }
+    if random.chance(40) {
+        state[record] = 28;
+    }
+    let known = layout::bound(state, a).clamp(random.below(30), 400);
+    put(state, 256 * a + 16, &known.to_le_bytes());
+    let own = layout::held(state, s).last().map_or(0, |(t, _)| *t as u64 + 1);
+    let bound = if random.chance(70) { known.saturating_sub(random.below(20)) } else { known + random.below(20) }.max(own);
+    put(state, record + 16, &bound.to_le_bytes());
+    put(state, record + 24, &[0; 8]);
+    if bound == 0 {
+        // a ninth one has no place
+        let at = layout::window_at(state, s);
+        if at < STATE_LENGTH {
+            put(state, at, &vec![0; 8 * state[record + 5].min(64) as usize]);
+        }
+        state[record + 5] = 0;
+    } else if random.chance(60) {
+        fill(random, state, s);
+    }
+    if random.chance(60) {
+        // readings of the argument near the bound, often with sums that are missing
+        let mut stamps: Vec<u32> = (0..1 + random.below(16)).map(|_| random.below(known + 1) as u32).filter(|t| (*t as u64) < known).collect();
+        stamps.sort();
+        stamps.dedup();
+        state[256 * a + 64..256 * a + 256].fill(0);
+        let at_one_end = random.chance(50);
+        for (j, t) in stamps.iter().enumerate() {
+            put(state, 256 * a + 64 + 12 * j, &t.to_le_bytes());
+            let value = if at_one_end { i64::MAX - random.below(3) as i64 } else if random.chance(60) { random.at_an_end() } else { random.value() };
+            put(state, 256 * a + 68 + 12 * j, &value.to_le_bytes());
+        }
+        state[256 * a + 4] = stamps.len() as u8;
+    }
+}
+
+/// What a window's fields have no meaning for: by the width, a fill above it, a fill with bound 0, an unused byte of the record, a byte
+/// behind the fill, a byte of a window that no stream has, a ninth window.
+const UNMEANT: [&str; 7] = ["width", "fill", "bound 0", "unused", "behind the fill", "no stream's", "ninth"];
+
+fn unmeant_windows(state: &[u8], streams: usize) -> [bool; 7] {
+    let windows: Vec<usize> = (0..streams).filter(|s| WINDOW_NUMBERS.contains(&state[256 * s])).collect();
+    let mut met = [false; 7];
+    for (rank, s) in windows.iter().enumerate() {
+        let record = &state[256 * s..256 * (s + 1)];
+        let (width, fill) = (i64::from_le_bytes(record[8..16].try_into().unwrap()), record[5] as usize);
+        met[0] |= !(1..=64).contains(&width);
+        met[1] |= (1..=64).contains(&width) && fill as i64 > width;
+        met[2] |= fill > 0 && layout::bound(state, *s) == 0;
+        met[3] |= record[6] != 0 || record[32..56].iter().any(|&x| x != 0);
+        met[4] |= rank < 8 && fill < 64 && state[8192 + 512 * rank + 8 * fill..8704 + 512 * rank].iter().any(|&x| x != 0);
+    }
+    met[5] = windows.len() < 8 && state[8192 + 512 * windows.len()..].iter().any(|&x| x != 0);
+    met[6] = windows.len() > 8;
+    met
 }
 
 /// A delay as no call leaves it: ahead of its second argument, with events of its own, since near the newest or anywhere.
@@ -286,6 +409,9 @@ fn damaged_states() {
     // signal forms: readings of an argument below the bound, which the form is not told; events from a kept value, with nothing
     // of that argument held; kept fields that the layout gives no meaning
     let (mut untold, mut from_kept, mut unmeant) = (0u64, 0u64, 0u64);
+    // windows: readings of an argument below the bound, which the window is not told; moves of one that take in an event, at once
+    // several with missing sums, or with held events of the argument below its bound; fields without a meaning, by kind
+    let (mut window_untold, mut taken_in, mut several, mut below_its, mut unmeant_by) = (0u64, 0u64, 0u64, 0u64, [0u64; 7]);
     // moves to which it matters that a quotient goes down
     let mut down = 0u64;
     // buffers of zeros, which are the plan of no streams; a first stream alone in them; bytes behind a first byte that is 0
@@ -313,7 +439,7 @@ fn damaged_states() {
         }
         for _ in 0..4 {
             let mut bytes = session.state().to_vec();
-            let of_a_kind = random.below(10);
+            let of_a_kind = random.below(12);
             if random.chance(2) {
                 // wiped
                 bytes.fill(0);
@@ -321,17 +447,20 @@ fn damaged_states() {
             if bytes[0] == 0 && random.chance(50) {
                 damage_zeros(&mut random, &mut bytes);
             } else {
-                for _ in 0..(of_a_kind > 6) as u64 + random.below(3) {
+                for _ in 0..(of_a_kind > 7) as u64 + random.below(3) {
                     damage(&mut random, &mut bytes, records);
                 }
             }
             match of_a_kind {
-                0..=4 => ahead(&mut random, &mut bytes, records),
-                5..=6 => ahead_of_both(&mut random, &mut bytes, records),
+                0..=3 => ahead(&mut random, &mut bytes, records),
+                4..=5 => ahead_of_both(&mut random, &mut bytes, records),
+                6..=7 => anywhere(&mut random, &mut bytes, records),
                 _ => {}
             }
             let mut states = [Lent::of(&bytes), Lent::of(&bytes)];
-            // a list of calls on the damaged state, which may go on as one that no call leaves
+            // a list of calls on the damaged state, which may go on as one that no call leaves; first a move of a window that was put
+            // anywhere
+            let mut first = (6..=7).contains(&of_a_kind);
             for _ in 0..12 {
                 let before = states[0].to_vec();
                 let mut s = random.below(records as u64 + 1) as u32;
@@ -345,10 +474,17 @@ fn damaged_states() {
                 if !forms.is_empty() && random.chance(20) {
                     s = random.pick(&forms) as u32;
                 }
+                // or a window, or its argument
+                let windows: Vec<usize> = (0..records).filter(|&w| WINDOW_NUMBERS.contains(&before[256 * w])).collect();
+                let moves_first = std::mem::take(&mut first) && !windows.is_empty();
+                if !windows.is_empty() && (moves_first || random.chance(50)) {
+                    s = random.pick(&windows) as u32;
+                    s = if !moves_first && random.chance(30) { before[256 * s as usize + 1] as u32 } else { s };
+                }
                 let own = (s as usize).min(records - 1);
                 let bound = host::layout::bound(&before, own).min(HORIZON);
                 let far = if random.chance(50) { 3 } else { 20 };
-                let (kind, call) = match random.below(10) {
+                let (kind, call) = match if moves_first { 3 } else { random.below(10) } {
                     0..=1 => (0, Call::Reading(s, (bound + random.below(far)).saturating_sub(1).min(u32::MAX as u64) as u32, random.value())),
                     2 => (1, Call::Progress(s, (bound + random.below(5)).saturating_sub(1))),
                     3..=5 => (2, Call::Move(s)),
@@ -445,6 +581,25 @@ fn damaged_states() {
                         _ => unmeant += no_meaning(&before[256 * f..256 * (f + 1)]) as u64,
                     }
                 }
+                for w in windows {
+                    let (a, y) = (before[256 * w + 1] as usize, layout::bound(&before, w));
+                    match call {
+                        Call::Reading(s, t, _) if wanted.number == 0 && s as usize == a => window_untold += ((t as u64) < y) as u64,
+                        Call::Move(s) if wanted.number == 0 && s as usize == w => {
+                            let to = layout::bound(&after, w);
+                            let passed = layout::held(&before, a).iter().filter(|(t, _)| (y..to).contains(&(*t as u64))).count();
+                            let events = layout::held(&after, w).len().saturating_sub(layout::held(&before, w).len());
+                            taken_in += (passed > 0) as u64;
+                            several += (passed > events + 1) as u64;
+                            below_its += (passed > 0 && layout::held(&before, a).iter().any(|(t, _)| (*t as u64) < y)) as u64;
+                        }
+                        _ => {}
+                    }
+                }
+                for (kind, met) in unmeant_windows(&before, records).into_iter().enumerate() {
+                    assert!(!met || found.is_none(), "{}: {}", UNMEANT[kind], story());
+                    unmeant_by[kind] += met as u64;
+                }
                 assert!(states[0][..] == states[1][..], "library and reference leave other states, {}\nlibrary\n{}\nreference\n{}", story(), shown(&states[0], records), shown(&states[1], records));
                 if answers[0].number != 0 {
                     assert!(states[0][..] == before[..], "written on a refusal, {}", story());
@@ -468,11 +623,17 @@ fn damaged_states() {
         seed()
     );
     println!("seed {}: signal forms, readings of an argument below the bound {untold}, events from a kept value {from_kept}, without meaning {unmeant}; moves and runs with a quotient that goes down {down}", seed());
+    println!(
+        "seed {}: windows, readings of the argument below the bound {window_untold}, moves that took something in {taken_in}, several missing sums {several}, \
+         with events below the bound {below_its}; without meaning {}",
+        seed(),
+        UNMEANT.iter().zip(unmeant_by).map(|(kind, count)| format!("{kind} {count}")).collect::<Vec<_>>().join(", ")
+    );
     println!("seed {}: writes, commands done {}, refused {}, refused 15 {}, refused 17 {}, others {}; found waiting {waited}", seed(), written[0], written[1], written[2], written[3], written[4]);
     println!("seed {}: calls on zeros {zeros}, on a first stream alone in them {alone}, on bytes behind a first byte that is 0 {headless}", seed());
     assert!(good > bad && moves > 0 && done.iter().all(|&count| count > 0));
     let reached = [below, at, above, edge, lower, before_since, untold, from_kept, unmeant, down, zeros, alone, headless];
-    let reached = [&reached[..], &written, &[waited]].concat();
+    let reached = [&reached[..], &written, &[waited, window_untold, taken_in, several, below_its], &unmeant_by].concat();
     assert!(reached.iter().all(|&count| count > 0) || rounds(15_000) < 15_000, "a kind of state was never met: {reached:?}");
 }
 
@@ -488,5 +649,11 @@ fn shown(state: &[u8], streams: usize) -> String {
                 host::layout::held(state, s)
             )
         })
+        .chain((0..8).map(|j| {
+            let window = &state[8192 + 512 * j..8704 + 512 * j];
+            let used = window.iter().rposition(|&x| x != 0).map_or(0, |at| at / 8 + 1);
+            let values = window.chunks(8).take(used).map(|v| i64::from_le_bytes(v.try_into().unwrap())).collect::<Vec<_>>();
+            if used == 0 { String::new() } else { format!("window {j}: {values:?}\n") }
+        }))
         .collect()
 }

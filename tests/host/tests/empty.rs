@@ -6,7 +6,7 @@ use host::engine::{engines, Answer, Call, STATE_LENGTH};
 use host::evaluator::{evaluate, HORIZON};
 use host::found::Found;
 use host::history::Session;
-use host::plan::{parse, short, text_of, OPERATORS};
+use host::plan::{parse, short, text_of, windows, OPERATORS};
 use host::random::rounds;
 use host::replay::replay;
 use host::worked::{as_defined, collected, numbers, runs};
@@ -141,11 +141,11 @@ fn case_3_8_a_refused_load_leaves_the_zeros() {
 
 // ---- load
 
-/// States of many kinds, each left by calls: full, ahead, with kept values, with 32 streams.
+/// States of many kinds, each left by calls: full, ahead, with kept values, with windows, with 32 streams.
 fn running() -> Vec<Session> {
     let mut all = vec![];
     let chain: Vec<String> = (0..32).map(|i| if i == 0 { "in".into() } else { format!("neg {} out", i - 1) }).collect();
-    for plan in ["in", "unit out", COUNT, "in; in; sadd 0 1 out; delay 0 1 out; last 0 1 out", &chain.join("; ")] {
+    for plan in ["in", "unit out", COUNT, "in; in; sadd 0 1 out; delay 0 1 out; last 0 1 out", "in; wsum 0 k3 out; wmin 1 k64 out", &chain.join("; ")] {
         let mut session = Session::load(&short(plan));
         for t in 0..17 {
             session.call(Reading(0, 3 * t + 1, -7));
@@ -177,7 +177,7 @@ fn no_bytes_over_a_running_state() {
         assert!(copy.rest(4_000) && copy.check_beginning() && copy.check_rest());
     }
     // over what is no state, too
-    for byte in [1, 27, 28, 255] {
+    for byte in [1, 27, 28, 30, 31, 255] {
         assert!(loaded(&[byte; STATE_LENGTH], b"") == (0, zeros()));
     }
     assert!(loaded(&zeros(), b"") == (0, zeros()));
@@ -362,14 +362,15 @@ fn the_first_byte_set_in_zeros() {
         if is {
             assert!(Session::load(&short(name)).state() == bytes);
         } else if name != "no operator" {
-            // as its text says: the number of a cycle
+            // as its text says: the number of a cycle, or of a width of 0
             let arguments = host::plan::Stream::new(OPERATORS[byte as usize - 1].0);
-            assert_eq!(parse(text_of(&[arguments]).as_bytes()), Err(6));
+            assert_eq!(parse(text_of(&[arguments]).as_bytes()), Err(if arguments.op.is_window() { 18 } else { 6 }));
         }
     }
 }
 
-/// A state that was wiped in part: where the first record has gone, the others are refused; where all have, it is no plan.
+/// A state that was wiped in part: where the first record has gone, the others are refused; where all have, and the windows behind
+/// them, it is no plan.
 #[test]
 fn records_wiped() {
     for session in running() {
@@ -379,11 +380,17 @@ fn records_wiped() {
         for call in CALLS {
             asked(&bytes, call, false, "the first byte wiped");
         }
+        let windowed = bytes[8192..].iter().any(|&x| x != 0);
+        assert_eq!(windowed, !windows(&session.plan).is_empty());
         for s in 0..n {
             bytes[256 * s..256 * (s + 1)].fill(0);
             for call in CALLS {
-                asked(&bytes, call, s + 1 == n, &format!("{} of {n} records wiped", s + 1));
+                asked(&bytes, call, s + 1 == n && !windowed, &format!("{} of {n} records wiped", s + 1));
             }
+        }
+        bytes[8192..].fill(0);
+        for call in CALLS {
+            asked(&bytes, call, true, "all wiped");
         }
     }
 }

@@ -1,6 +1,6 @@
 //! States that no call leaves, each worked out by hand from documents 01 and 02 and docs/DECISIONS.md: a delay ahead of its
-//! second argument, or with events of its own; a signal form ahead of an argument. Streams 0 and 1 are the inputs a and b, stream
-//! 2 is the delay or the form, an output.
+//! second argument, or with events of its own; a signal form or a window ahead of an argument. Streams 0 and 1 are the inputs a and
+//! b, stream 2 is the delay, the form or the window, an output.
 
 use host::buffer::Lent;
 use host::engine::{engines, Answer, Call, STATE_LENGTH};
@@ -9,6 +9,7 @@ use host::plan::{short, text_of};
 
 const DELAY: &str = "in; in; delay 0 1 out";
 const SUM: &str = "in; in; sadd 0 1 out";
+const OF_THREE: &str = "in; in; wsum 0 k3 out";
 
 fn record(bound: u64, held: &[(u32, i64)]) -> Record {
     Record { bound, held: held.iter().copied().collect(), ..Record::default() }
@@ -248,4 +249,84 @@ fn kept_values_without_a_meaning() {
     for changes in [&[(0, 8)][..], &[(0, 8), (5, 0)], &[(0, 8), (32, 0)]] {
         refused(&changed(changes));
     }
+}
+
+// ---- windows
+
+/// A window of three with these values, known to a bound.
+fn window(bound: u64, values: &[i64]) -> Record {
+    Record { window: values.to_vec(), ..record(bound, &[]) }
+}
+
+#[test]
+fn a_window_is_not_told_of_what_comes_in_below_its_bound() {
+    // a is known to 5, the window to 10: nobody waits for a's 4 at 7, and the window goes on with the values that it has
+    let state = bytes(OF_THREE, record(5, &[]), record(0, &[]), window(10, &[1, 2]));
+    let calls = [(Call::Move(2), number(12)), (Call::Reading(0, 7, 4), number(0)), (Call::Move(2), number(12)), (Call::Run(9), number(0))];
+    gives(&state, &calls, window(10, &[1, 2]));
+    // 1 + 2 + 8 at 12, then 2 + 8 + 16
+    let calls = [
+        (Call::Reading(0, 7, 4), number(0)), (Call::Reading(0, 12, 8), number(0)), (Call::Reading(0, 13, 16), number(0)), (Call::Move(2), number(0)),
+        (Call::Move(2), number(0)), (Call::Collect(2), value(12, 11)), (Call::Collect(2), value(13, 26)), (Call::Collect(2), number(14)),
+    ];
+    gives(&state, &calls, Record { mark: 14, ..window(14, &[2, 8, 16]) });
+}
+
+#[test]
+fn held_events_below_the_bound_are_in_the_window_already() {
+    // a holds 4 at 7 and 5 at 9, below the window's bound 10, and 6 at 10; the window never took the 4 in, and does not now
+    let state = bytes(OF_THREE, record(11, &[(7, 4), (9, 5), (10, 6)]), record(0, &[]), window(10, &[5]));
+    let calls = [(Call::Move(2), number(0)), (Call::Move(2), number(12)), (Call::Collect(2), value(10, 11)), (Call::Collect(2), number(14))];
+    gives(&state, &calls, Record { mark: 11, ..window(11, &[5, 6]) });
+    // without an event from its bound on it takes nothing in
+    let state = bytes(OF_THREE, record(15, &[(7, 4), (9, 5)]), record(0, &[]), window(10, &[5]));
+    let calls = [(Call::Move(2), number(0)), (Call::Collect(2), number(14)), (Call::Move(2), number(12))];
+    gives(&state, &calls, window(15, &[5]));
+    // as it takes in what lies at its bound: none kept, though a is long known
+    let state = bytes(OF_THREE, record(15, &[(10, 4), (11, 5)]), record(0, &[]), window(10, &[]));
+    let calls = [(Call::Run(9), Answer { moves: 3, ..number(0) }), (Call::Collect(2), value(10, 4)), (Call::Collect(2), value(11, 9))];
+    gives(&state, &calls, Record { mark: 12, ..window(15, &[4, 5]) });
+}
+
+#[test]
+fn a_full_window_takes_in_what_lies_below_the_waiting_event() {
+    // 16 events held. 5 + 6 + the greatest at 16 and 6 + twice the greatest at 17 are out of range; at 18 it is the greatest − 1
+    let held: Vec<(u32, i64)> = (0..16).map(|t| (t, 9)).collect();
+    let readings = [(16, i64::MAX), (17, i64::MAX), (18, i64::MIN)];
+    let full = |bound: u64, values: &[i64]| Record { window: values.to_vec(), ..record(bound, &held) };
+    let state = bytes(OF_THREE, record(20, &readings), record(0, &[]), full(16, &[4, 5, 6]));
+    let calls = [(Call::Move(2), number(0)), (Call::Move(2), number(12))];
+    gives(&state, &calls, full(18, &[6, i64::MAX, i64::MAX]));
+    // one collected: it comes in, and the least value with it
+    let calls = [(Call::Move(2), number(0)), (Call::Collect(2), value(0, 9)), (Call::Move(2), number(0)), (Call::Move(2), number(0))];
+    let held: Vec<(u32, i64)> = (1..16).map(|t| (t, 9)).chain([(18, i64::MAX - 1)]).collect();
+    gives(&state, &calls, Record { window: vec![i64::MAX, i64::MAX, i64::MIN], mark: 1, ..record(20, &held) });
+}
+
+#[test]
+fn values_that_no_run_has() {
+    // fewer values than a has had, zeros, and values that the window's own events contradict
+    for values in [&[][..], &[0], &[0, 0, 0], &[i64::MIN, i64::MIN, i64::MAX]] {
+        gives(&bytes(OF_THREE, record(9, &[]), record(0, &[]), window(9, values)), &[(Call::Run(9), number(0))], window(9, values));
+    }
+    // with bound 0 nothing is kept; more than three are never kept
+    for (bound, values) in [(0, &[0][..]), (0, &[1, 2, 3]), (9, &[1, 2, 3, 4]), (9, &[0; 64])] {
+        refused(&bytes(OF_THREE, record(9, &[]), record(0, &[]), window(bound, values)));
+    }
+    let good = bytes(OF_THREE, record(9, &[]), record(0, &[]), window(9, &[1, 0]));
+    let changed = |at: usize, byte: u8| {
+        let mut state = good.clone();
+        state[at] = byte;
+        state
+    };
+    // the fill above the width, below it with a value behind; behind the fill; another window; byte 6; words 32 to 55
+    for (at, byte) in [(512 + 5, 4), (512 + 5, 255), (512 + 5, 0), (8192 + 16, 1), (8192 + 511, 1), (8192 + 512, 1), (12_287, 1), (512 + 6, 1)] {
+        refused(&changed(at, byte));
+    }
+    for at in 32..56 {
+        refused(&changed(512 + at, 1));
+    }
+    // a 0 that is kept or not: a fill of 1 and of 3 have a meaning
+    gives(&changed(512 + 5, 1), &[(Call::Run(9), number(0))], window(9, &[1]));
+    gives(&changed(512 + 5, 3), &[(Call::Run(9), number(0))], window(9, &[1, 0, 0]));
 }

@@ -6,7 +6,7 @@ use host::evaluator::{evaluate, rounded, HORIZON};
 use host::history::{any_acts, Session};
 use host::layout;
 use host::model::Model;
-use host::plan::{short, text_of, Op};
+use host::plan::{short, text_of, windows, Op};
 use host::random::{plan, rounds, seed, Random};
 use host::registers::{Act, Board};
 
@@ -24,11 +24,13 @@ fn reaches(plan: &[host::plan::Stream], from: usize, to: usize) -> bool {
     false
 }
 
-/// Every call's number, results, bounds, held events, marks and kept latest values are those of the model on whole histories, and so
-/// are every write's number and all bytes of the block.
+/// Every call's number, results, bounds, held events, marks, kept latest values and windows are those of the model on whole
+/// histories, and so are every write's number and all bytes of the block.
 #[test]
 fn numbers_and_states_are_those_of_the_model_on_whole_histories() {
     let (mut calls, mut done, mut full, mut kept, mut down, mut empty) = (0u64, 0u64, 0u64, 0u64, 0u64, 0u64);
+    // windows that are full, plans with eight of them, events of an argument whose sum was missing
+    let (mut filled, mut eight, mut missing) = (0u64, 0u64, 0u64);
     // commands done and refused, writes refused, others
     let mut written = [0u64; 4];
     let all = rounds(5000);
@@ -60,8 +62,14 @@ fn numbers_and_states_are_those_of_the_model_on_whole_histories() {
                     assert_eq!(layout::latest(state, s), model.latest(s), "latest values of {s}\n{}", session.story());
                     kept += model.latest(s).iter().all(Option::is_some) as u64;
                 }
+                if plan[s].op.is_window() {
+                    assert_eq!(layout::window(state, s), model.window(s), "window of {s}\n{}", session.story());
+                    filled += (model.window(s).len() as i64 == plan[s].k && plan[s].k > 1) as u64;
+                }
             }
         }
+        eight += (windows(&plan).len() == 8) as u64;
+        missing += windows(&plan).into_iter().map(|s| board.calls.passed(s)).sum::<u64>();
         down += (0..plan.len()).map(|s| rounded(&plan, &board.calls.events, s)).sum::<u64>();
         if plan.is_empty() {
             assert!(session.state().iter().all(|&x| x == 0), "{}", session.story());
@@ -70,6 +78,8 @@ fn numbers_and_states_are_those_of_the_model_on_whole_histories() {
     }
     println!("seed {}: {calls} calls, {done} done, full streams met {full} times, signal forms that keep both values {kept}, divisions that go down {down}, plans of no streams {empty}", seed());
     println!("seed {}: commands done and refused, writes refused, others {written:?}", seed());
+    println!("seed {}: full windows met {filled} times, plans with eight windows {eight}, sums missing {missing}", seed());
+    assert!(filled > all && (all < 1000 || (eight > all / 250 && missing > all / 10)), "too few windows: {filled}, {eight}, {missing}");
     assert!(written.iter().all(|&count| count > all / 2), "too few writes of a kind: {written:?}");
     assert!(all < 1000 || empty > all / 50, "too few plans of no streams: {empty}");
     assert!(done * 3 > calls && full > 0 && kept > 0, "too many calls refused: {done} of {calls}");
@@ -81,7 +91,7 @@ fn numbers_and_states_are_those_of_the_model_on_whole_histories() {
 fn handed_out_is_a_beginning_and_complete_at_rest() {
     let (mut checked, mut rested, mut events, mut copies) = (0u64, 0u64, 0u64, 0u64);
     // how often the operators that look back had an event, and of lasts and delays how many read themselves through others
-    let (mut firings, mut lasts, mut signals, mut recursive) = (0u64, 0u64, 0u64, 0u64);
+    let (mut firings, mut lasts, mut signals, mut windowed, mut recursive) = (0u64, 0u64, 0u64, 0u64, 0u64);
     // and divisions an inexact quotient below zero
     let mut down = 0u64;
     let all = rounds(6000);
@@ -122,6 +132,7 @@ fn handed_out_is_a_beginning_and_complete_at_rest() {
                     Op::Last => lasts += streams[s].len() as u64,
                     op => {
                         signals += op.on_signals().map_or(0, |_| streams[s].len() as u64);
+                        windowed += if op.is_window() { streams[s].len() as u64 } else { 0 };
                         continue;
                     }
                 }
@@ -130,17 +141,17 @@ fn handed_out_is_a_beginning_and_complete_at_rest() {
         }
     }
     println!("seed {}: {all} lists, {checked} checked, {rested} at rest, {events} events handed out, {copies} copies put back", seed());
-    println!("seed {}: {firings} firings, {lasts} events of last, {recursive} of these streams in a cycle, {signals} events of signal forms, {down} divisions that go down", seed());
+    println!("seed {}: {firings} firings, {lasts} events of last, {recursive} of these streams in a cycle, {signals} events of signal forms, {windowed} of windows, {down} divisions that go down", seed());
     assert!(checked * 10 > all * 9 && rested * 2 > all && events > 5 * all && copies > 0);
-    assert!(firings > all / 2 && lasts > all && recursive > all / 10 && signals > all / 2);
+    assert!(firings > all / 2 && lasts > all && recursive > all / 10 && signals > all / 2 && windowed > all / 2);
     assert!(all < 1000 || down > all / 250, "too few divisions that go down: {down}");
 }
 
 /// Texts that load refuses, with their numbers.
-const REFUSED: [(&[u8], u32); 8] = [
+const REFUSED: [(&[u8], u32); 9] = [
     (&[b'x'; 2049], 1), (b"\n", 2), (b"plan=1\n", 2), (b"plan=1\nstreams=0\n", 3), (b"plan=1\nstreams=33\n", 3),
     (b"plan=1\nstreams=1\nop=no\na=0\nb=0\nk=0\nout=0\n", 4), (b"plan=1\nstreams=1\nop=in\na=0\nb=0\nk=0\nout=1\n", 5),
-    (b"plan=1\nstreams=1\nop=neg\na=0\nb=0\nk=0\nout=0\n", 6),
+    (b"plan=1\nstreams=1\nop=wsum\na=0\nb=0\nk=0\nout=0\n", 18), (b"plan=1\nstreams=1\nop=neg\na=0\nb=0\nk=0\nout=0\n", 6),
 ];
 
 /// One load after the other into the same buffers: one that is done starts a new list, with streams or without, and nothing of
@@ -254,7 +265,8 @@ fn the_order_of_inputs_does_not_matter() {
 /// which comes in when there is room; nothing is lost.
 #[test]
 fn a_full_stream_keeps_the_next_event_waiting() {
-    let mut full = 0u64;
+    // full streams with an event waiting, and those of them that are windows
+    let (mut full, mut waiting) = (0u64, 0u64);
     for round in 0..rounds(600) {
         let mut random = Random::of(5, round);
         // a chain of random length from the fast input to a stream that also reads the slow one
@@ -262,9 +274,12 @@ fn a_full_stream_keeps_the_next_event_waiting() {
         let mut parts = vec!["in".to_string(), "in".to_string()];
         for i in 0..length {
             let from = if i == 0 { 0 } else { i + 1 };
-            parts.push(format!("{} {}", random.pick(&["neg", "time", "plus", "set"]), from));
+            parts.push(format!("{} {}", random.pick(&["neg", "time", "plus", "set", "wsum", "wmin"]), from));
             if parts[i + 2].starts_with("plus") || parts[i + 2].starts_with("set") {
                 parts[i + 2] += &format!(" k{}", random.below(20) as i64 - 5);
+            }
+            if parts[i + 2].starts_with('w') {
+                parts[i + 2] += &format!(" k{}", random.width());
             }
         }
         let end = length + 1;
@@ -301,6 +316,10 @@ fn a_full_stream_keeps_the_next_event_waiting() {
             for s in 0..plan.len() {
                 assert_eq!(layout::bound(session.state(), s), model.bound[s], "bound of {s}\n{}", session.story());
                 assert_eq!(layout::held(session.state(), s), model.held(s), "held of {s}\n{}", session.story());
+                if plan[s].op.is_window() {
+                    assert_eq!(layout::window(session.state(), s), model.window(s), "window of {s}\n{}", session.story());
+                    waiting += model.full(s) as u64;
+                }
                 if model.full(s) {
                     full += 1;
                     // its bound has gone to the stamp of the waiting event, which is still to come
@@ -323,8 +342,8 @@ fn a_full_stream_keeps_the_next_event_waiting() {
         assert!(session.rest(100_000), "{}", session.story());
         assert!(session.check_beginning() && session.check_rest());
     }
-    println!("seed {}: full streams with an event waiting met {full} times", seed());
-    assert!(full > 0, "no full stream was met");
+    println!("seed {}: full streams with an event waiting met {full} times, windows {waiting}", seed());
+    assert!(full > 0 && waiting > 0, "no full stream was met");
 }
 
 /// Near the last stamp nothing wraps around.

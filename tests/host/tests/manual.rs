@@ -118,6 +118,16 @@ fn each_row_of_the_signals_table() {
     assert_eq!(rows, 5);
 }
 
+/// Of the last three: the mean, by their sum and how many they are, the least, the greatest and the spread.
+#[test]
+fn the_last_few_by_windows() {
+    let x = || events("300@1 310@2 305@3 330@4 299@9");
+    check("in; wsum 0 k3; set 0 k1; wsum 2 k3; div 1 3 out", &[x()], &events("300@1 305@2 305@3 315@4 311@9"));
+    check("in; wsum 0 k3; set 0 k1; wsum 2 k3 out", &[x()], &events("1@1 2@2 3@3 3@4 3@9"));
+    check("in; wmin 0 k3 out", &[x()], &events("300@1 300@2 300@3 305@4 299@9"));
+    check("in; wmin 0 k3; wmax 0 k3; sub 2 1 out", &[x()], &events("0@1 10@2 10@3 25@4 31@9"));
+}
+
 #[test]
 fn tessla_s_usual_operators() {
     let x = || events("5@2 7@4 1@9");

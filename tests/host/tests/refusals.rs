@@ -1,9 +1,9 @@
-//! Each number 1 to 15 with cases by hand, on both engines.
+//! Each number 1 to 15 and 18 with cases by hand, on both engines.
 
 use host::buffer::Lent;
 use host::engine::{engines, Answer, Call, STATE_LENGTH};
 use host::history::Session;
-use host::plan::{parse, short, text_of, SIGNALS};
+use host::plan::{parse, short, text_of, SIGNALS, WINDOWS};
 
 fn load(text: &[u8]) -> u32 {
     let number = match parse(text) {
@@ -72,7 +72,7 @@ fn number_2_form() {
     }
     assert_eq!(refused("plan=1\nstreams=33"), 2);
     assert_eq!(refused("plan=1\nstreams=0"), 2);
-    for name in ["", "IN", "In", "in ", "lasted", "delays", "abcdef", "l4st", "in-", "smerge", "sdelay", "Sadd", "sadd "] {
+    for name in ["", "IN", "In", "in ", "lasted", "delays", "abcdef", "l4st", "in-", "smerge", "sdelay", "Sadd", "sadd ", "wcount", "Wsum", "wmin "] {
         assert_eq!(refused(&with(&format!("op={name}"))), 2, "op={name}");
     }
     for field in ["a=", "a=00", "a=01", "a=-1", "a=1000", "b=", "b=00", "b=0000", "out=2", "out=", "out=00", "out=-1", "out=10"] {
@@ -111,7 +111,7 @@ fn number_3_streams() {
 
 #[test]
 fn number_4_operators() {
-    for name in ["x", "ins", "inn", "units", "abcde", "i", "merg", "dela", "sneg", "splus", "skeep", "slast", "sadds", "sad", "se", "seqs", "s"] {
+    for name in ["x", "ins", "inn", "units", "abcde", "i", "merg", "dela", "sneg", "splus", "skeep", "slast", "sadds", "sad", "se", "seqs", "s", "wsums", "wsu", "wavg", "wmi", "wma", "w", "sum", "swsum"] {
         assert_eq!(refused(&with(&format!("op={name}"))), 4, "op={name}");
     }
     // without its ending byte the form comes first; the first faulty line decides
@@ -137,6 +137,14 @@ fn number_5_fields() {
         assert_eq!(refused(&with(&format!("op={}", form.name()))), 5, "{} has no k", form.name());
         let two = |a: u32, b: u32| refused(&plan_of(&[IN, &format!("op={}\na={a}\nb={b}\nk=0\nout=1\n", form.name())]));
         assert_eq!((two(0, 0), two(2, 0), two(0, 2)), (0, 5, 5), "{}", form.name());
+    }
+    // a window uses a and k, and no b
+    for window in WINDOWS {
+        let one = |a: u32, b: u32, k: i64| refused(&plan_of(&[IN, &format!("op={}\na={a}\nb={b}\nk={k}\nout=1\n", window.name())]));
+        assert_eq!((one(0, 0, 5), one(0, 1, 5), one(2, 0, 5)), (0, 5, 5), "{}", window.name());
+        // 5 comes before 18, of the same stream or a later one
+        assert_eq!((one(0, 1, 0), one(2, 0, 65)), (5, 5), "{}", window.name());
+        assert_eq!(refused(&plan_of(&[IN, &format!("op={}\na=0\nb=0\nk=65\nout=1\n", window.name()), "op=neg\na=0\nb=0\nk=1\nout=0\n"])), 5);
     }
     // 5 comes before 6, wherever it stands
     assert_eq!(refused(&plan_of(&["op=neg\na=0\nb=0\nk=0\nout=0\n", "op=in\na=0\nb=0\nk=0\nout=1\n"])), 5);
@@ -176,6 +184,45 @@ fn number_6_cycles() {
     // every stream reads the next one twice: found in a few steps, or never in two to the power of 31
     let wide: Vec<String> = (0..32).map(|i| if i == 31 { "in".into() } else { format!("add {} {}", i + 1, i + 1) }).collect();
     assert_eq!(number(&wide.join("; ")), 0);
+}
+
+#[test]
+fn number_18_windows() {
+    let number = |plan: &str| refused(&text_of(&short(plan)));
+    for name in WINDOWS.map(|window| window.name()) {
+        for k in [1, 2, 63, 64] {
+            assert_eq!(number(&format!("in; {name} 0 k{k}")), 0, "{name} {k}");
+        }
+        // also where k's lowest bits are those of a good width
+        for k in [0, -1, 65, -64, 66, 128, 255, 256, 257, 1 << 16 | 5, 1 << 32 | 64, i64::MAX, i64::MIN, i64::MIN + 1] {
+            assert_eq!(number(&format!("in; {name} 0 k{k}")), 18, "{name} {k}");
+        }
+        // before 6, of the same stream or another; after 6 nothing
+        assert_eq!((number(&format!("{name} 0 k65")), number(&format!("{name} 0 k1"))), (18, 6));
+        assert_eq!((number(&format!("in; {name} 0 k0; neg 2")), number(&format!("in; {name} 0 k1; neg 2"))), (18, 6));
+        assert_eq!((number(&format!("in; {name} 2 k1; last 0 1")), number(&format!("in; {name} 2 k1; last 1 0"))), (6, 0));
+        // a width that is no value is a fault of form
+        assert_eq!(refused(&text_of(&short(&format!("in; {name} 0 k5"))).replace("k=5", "k=9223372036854775808")), 2);
+        assert_eq!(refused(&text_of(&short(&format!("in; {name} 0 k5"))).replace("k=5", "k=05")), 2);
+    }
+    // eight of any kinds are taken, nine are not, wherever they stand
+    let kinds = |n: usize| (0..n).map(|i| format!("{} 0 k{}", WINDOWS[i % 3].name(), 1 + 9 * i)).collect::<Vec<_>>();
+    let plan = |n: usize, between: &str| format!("in; {}", kinds(n).join(&format!("; {between}")));
+    for between in ["", "neg 0; ", "set 0 k65; plus 0 k0; "] {
+        for n in 1..=8 {
+            assert_eq!(number(&plan(n, between)), 0, "{n} windows");
+        }
+        for n in 9..=10 {
+            assert_eq!(number(&plan(n, between).replace("k82", "k64").replace("k73", "k64")), 18, "{n} windows");
+        }
+    }
+    let all = vec!["wmax 31 k64"; 31].join("; ") + "; in";
+    assert_eq!(number(&all), 18);
+    assert_eq!(number(&all.replacen("wmax 31 k64", "neg 31", 23)), 0);
+    assert_eq!(number(&all.replacen("wmax 31 k64", "neg 31", 22)), 18);
+    // nine windows before a cycle
+    assert_eq!(number(&(vec!["wmin 0 k1"; 9].join("; "))), 18);
+    assert_eq!(number(&(vec!["wmin 0 k1"; 8].join("; "))), 6);
 }
 
 fn numbers(session: &mut Session, calls: &[(Call, u32)]) {
@@ -296,22 +343,27 @@ fn number_15_lengths() {
 
 #[test]
 fn number_15_contents() {
-    let text = text_of(&short("in; neg 0 out; last 0 1; delay 0 2; sadd 0 1"));
+    let text = text_of(&short("in; neg 0 out; last 0 1; delay 0 2; sadd 0 1; wsum 0 k5"));
     let mut good = vec![0; STATE_LENGTH];
     assert_eq!(engines()[1].load(&mut good, text.as_bytes()), 0);
     // (byte, what it is set to): each one alone makes a state that load and the calls cannot leave
     let bad: &[(usize, u8, &str)] = &[
-        (0, 0, "no stream here, but streams after it"), (0, 28, "no operator"), (1, 1, "in has no a"), (2, 1, "in has no b"), (3, 1, "in is no output"),
-        (256 + 1, 5, "a not below the number of streams"), (256 + 1, 1, "a cycle"), (256 + 2, 1, "neg has no b"), (256 + 3, 2, "out is 0 or 1"),
+        (0, 0, "no stream here, but streams after it"), (0, 31, "no operator"), (1, 1, "in has no a"), (2, 1, "in has no b"), (3, 1, "in is no output"),
+        (256 + 1, 6, "a not below the number of streams"), (256 + 1, 1, "a cycle"), (256 + 2, 1, "neg has no b"), (256 + 3, 2, "out is 0 or 1"),
         (256 + 4, 17, "more than 16 held"), (256 + 4, 1, "a held stamp not below the bound 0"), (256 + 5, 1, "neg keeps nothing"), (256 + 7, 1, "unused"),
         (256 + 8, 1, "neg has no k"), (256 + 16 + 5, 1, "a bound above the horizon"), (256 + 24, 1, "a mark above the bound"), (24, 1, "a mark of no output"),
         (256 + 56, 1, "unused"), (256 + 64, 1, "an unused slot"), (256 + 255, 1, "an unused slot"), (512 + 5, 1, "kept with bound 0"), (512 + 5, 2, "a flag above 1"),
         (512 + 32, 1, "a value without its flag"), (768 + 32, 1, "since above the bound"), (768 + 40, 1, "a value without its flag"), (768 + 6, 1, "a prior with bound 0"),
-        (1024 + 1, 5, "a not below the number of streams"), (1024 + 2, 5, "b not below the number of streams"), (1024 + 1, 4, "a cycle"), (1024 + 2, 4, "a cycle"),
+        (1024 + 1, 6, "a not below the number of streams"), (1024 + 2, 6, "b not below the number of streams"), (1024 + 1, 4, "a cycle"), (1024 + 2, 4, "a cycle"),
         (1024 + 8, 1, "a signal form has no k"), (1024 + 5, 1, "kept with bound 0"), (1024 + 6, 1, "kept with bound 0"), (1024 + 5, 2, "a flag above 1"),
         (1024 + 6, 2, "a flag above 1"), (1024 + 32, 1, "a value without its flag"), (1024 + 47, 1, "a value without its flag"), (1024 + 48, 1, "unused"),
-        (1024 + 55, 1, "unused"), (1024, 28, "no operator"), (1024, 255, "no operator"), (1024, 0, "no stream here, but bytes after it"),
-        (1280, 28, "no operator"), (1281, 1, "behind the streams"), (12_287, 1, "behind the records"), (8192, 1, "behind the records"),
+        (1024 + 55, 1, "unused"), (1024, 31, "no operator"), (1024, 255, "no operator"), (1024, 0, "no stream here, but bytes after it"),
+        (1024, 28, "a width of 0"), (1280 + 1, 6, "a not below the number of streams"), (1280 + 1, 5, "a cycle"), (1280 + 2, 1, "a window has no b"),
+        (1280 + 5, 1, "kept with bound 0"), (1280 + 6, 1, "unused"), (1280 + 8, 0, "a width of 0"), (1280 + 8, 65, "a width above 64"), (1280 + 8, 255, "a width above 64"),
+        (1280 + 9, 1, "a width above 64"), (1280 + 12, 1, "a width above 64"), (1280 + 15, 255, "a width below 0"), (1280 + 32, 1, "unused"), (1280 + 40, 1, "unused"),
+        (1280 + 55, 1, "unused"), (1280 + 56, 1, "unused"), (1280, 31, "no operator"), (1280, 7, "neg has no k"), (1280, 0, "no stream here, but bytes after it"),
+        (1536, 31, "no operator"), (1537, 1, "behind the streams"), (8191, 1, "behind the streams"), (8192, 1, "behind the fill of window 0"),
+        (8703, 1, "behind the fill of window 0"), (8704, 1, "a window that no stream has"), (12_287, 1, "a window that no stream has"),
     ];
     for engine in engines() {
         assert_eq!(engine.call(&mut good.clone(), Call::Run(0)).number, 0);
@@ -327,7 +379,7 @@ fn number_15_contents() {
         // without streams all bytes are 0, and it is a state; with a byte left of what was loaded it is none
         let mut bytes = vec![0; STATE_LENGTH];
         assert_eq!(engine.call(&mut bytes, Call::Run(0)).number, 0);
-        for at in (1..1280).filter(|&at| good[at] != 0) {
+        for at in (1..1536).filter(|&at| good[at] != 0) {
             bytes[at] = good[at];
             assert_eq!(engine.call(&mut bytes, Call::Run(0)).number, 15, "{}: byte {at} alone", engine.name);
             bytes[at] = 0;

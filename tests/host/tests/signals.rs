@@ -1,30 +1,14 @@
 //! Document 02's Q-1: the signal forms sadd to seq. Cases worked out by hand, through the exported calls; and each form against
 //! the five streams that it stands for.
 
-use host::engine::{engines, Answer, Call, STATE_LENGTH};
+use host::engine::{Answer, Call};
 use host::evaluator::{evaluate, HORIZON};
 use host::history::Session;
 use host::layout;
-use host::plan::{parse, short, text_of, Op, Plan, Stream, SIGNALS};
+use host::plan::{short, text_of, Op, Plan, Stream, SIGNALS};
 use host::random::{plan, rounds, seed, Random};
-use host::worked::{as_defined, collected, numbers, runs};
+use host::worked::{as_defined, collected, load, numbers, record, runs};
 use Call::{Collect, Move, Progress, Reading, Run};
-
-// ---- what a case says
-
-/// Bytes of a record, from the first one named on.
-fn record(session: &Session, stream: usize, from: usize, bytes: &[u8]) {
-    assert_eq!(&session.state()[256 * stream + from..256 * stream + from + bytes.len()], bytes, "record {stream} from {from} on");
-}
-
-/// Load's number, the same of both engines and by the rules.
-fn load(text: &str) -> u32 {
-    let number = parse(text.as_bytes()).err().unwrap_or(0);
-    for engine in engines() {
-        assert_eq!(engine.load(&mut vec![0; STATE_LENGTH], text.as_bytes()), number, "{} against the rules: {text:?}", engine.name);
-    }
-    number
-}
 
 // ---- the cases
 

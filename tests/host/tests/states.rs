@@ -7,7 +7,7 @@ use host::found::{Found, Record};
 use host::history::{any_acts, Session};
 use host::layout;
 use host::model::Division;
-use host::plan::text_of;
+use host::plan::{text_of, windows};
 use host::random::{rounds, seed, Random};
 use host::registers::{Act, Block, Board, REFUSED, WAITING};
 use host::saved::{read, write, Saved};
@@ -25,7 +25,7 @@ fn files() -> Vec<PathBuf> {
 fn states() -> Vec<(String, Saved)> {
     let name = |path: &PathBuf| path.file_name().unwrap().to_string_lossy().into_owned();
     let states: Vec<(String, Saved)> = files().iter().map(|path| (name(path), read(&fs::read_to_string(path).unwrap()))).collect();
-    assert!(states.len() >= 13, "only {} saved states", states.len());
+    assert!(states.len() >= 16, "only {} saved states", states.len());
     states
 }
 
@@ -60,6 +60,7 @@ fn but_for_values((answers, state): &(Vec<Answer>, Vec<u8>)) -> (Vec<Answer>, Ve
         value: none(r.value),
         prior: none(r.prior),
         latest: r.latest.map(none),
+        window: vec![0; r.window.len()],
         ..r
     };
     let answers = answers.iter().map(|answer| Answer { value: 0, ..*answer }).collect();
@@ -307,6 +308,80 @@ fn a_full_input_goes_on_by_registers() {
     }
     replied(&mut session, 3, (31, -5), 0);
     assert!(session.rest(100) && session.check_beginning() && session.check_rest());
+}
+
+// ---- states saved before the windows
+
+/// What an earlier version left has nothing where windows keep their values.
+#[test]
+fn behind_the_records_of_an_earlier_state_all_is_0() {
+    for (name, saved) in states() {
+        let earlier = ["1.1-", "1.2-", "1.3-", "1.4-", "1.5-"].iter().any(|version| name.starts_with(version));
+        assert!(earlier, "{name}: of which version?");
+        assert!(saved.bytes[8192..].iter().all(|&x| x == 0) && windows(&saved.plan).is_empty(), "{name}");
+    }
+}
+
+/// Signal forms go on from the latest values that they keep, and so does a sum of three that is spelled out by lasts.
+#[test]
+fn signals_and_lasts_go_on() {
+    let mut session = Session::put_back(&named("1.5-signals.txt"));
+    // input 0 had 5, 7 and −9 at 1, 4 and 6, input 1 100 at 2 and is known to 5. At 6: the reading before is 7, the one before that 5,
+    // and −9 + 7 + 5. The forms wait for input 1
+    runs(&mut session, 64, 4);
+    collected(&mut session, 7, &[(6, 3)]);
+    collected(&mut session, 2, &[(4, 107)]);
+    collected(&mut session, 3, &[(2, 0), (4, 0)]);
+    // −9 + 100 at 6, below 100; −9 − 50 at 8, below −50
+    numbers(&mut session, &[(Call::Reading(1, 8, -50), 0), (Call::Progress(0, 9), 0), (Call::Run(64), 0)]);
+    collected(&mut session, 2, &[(6, 91), (8, -59)]);
+    collected(&mut session, 3, &[(6, 1), (8, 1)]);
+    assert!(session.rest(100) && session.check_beginning() && session.check_rest());
+}
+
+/// A timer that was set when the copy was made rings, or is cut by the next reading.
+#[test]
+fn a_pending_timer_goes_on() {
+    let saved = named("1.5-timers.txt");
+    // set at 3 to ring at 13; input 0 is known to 8
+    let mut session = Session::put_back(&saved);
+    numbers(&mut session, &[(Call::Progress(0, 14), 0), (Call::Run(64), 0)]);
+    collected(&mut session, 2, &[(13, 0)]);
+    collected(&mut session, 3, &[(3, 3)]);
+    collected(&mut session, 4, &[]);
+    assert!(session.rest(100) && session.check_beginning() && session.check_rest());
+    // a reading of 5 at 9: 9 + 10 in place of 13, and 9 + 5 of the other
+    let mut session = Session::put_back(&saved);
+    numbers(&mut session, &[(Call::Reading(0, 9, 5), 0)]);
+    runs(&mut session, 64, 4);
+    collected(&mut session, 2, &[]);
+    collected(&mut session, 3, &[(3, 3), (9, 9)]);
+    numbers(&mut session, &[(Call::Progress(0, 20), 0)]);
+    // set and time once, each timer rings and is silent after
+    runs(&mut session, 64, 1 + 2 + 1 + 2);
+    collected(&mut session, 2, &[(19, 0)]);
+    collected(&mut session, 4, &[(14, 0)]);
+    assert!(session.rest(100) && session.check_beginning() && session.check_rest());
+}
+
+/// Outputs that were full: what waited comes in as they are collected, and a reading is taken once both readers are past one.
+#[test]
+fn full_outputs_go_on() {
+    let mut session = Session::put_back(&named("1.5-full.txt"));
+    let first = |value: i64| Answer { value, ..Answer::default() };
+    numbers(&mut session, &[(Call::Reading(0, 32, 32), 9)]);
+    runs(&mut session, 64, 0);
+    // 16 · 3 at 16 comes in, 17 · 3 at 17 waits; neg is full still, and so is the input
+    assert_eq!(session.call(Call::Collect(2)), first(0));
+    runs(&mut session, 64, 1);
+    numbers(&mut session, &[(Call::Reading(0, 32, 32), 9)]);
+    assert_eq!(session.call(Call::Collect(3)), first(0));
+    runs(&mut session, 64, 1);
+    numbers(&mut session, &[(Call::Reading(0, 32, 32), 0), (Call::Reading(0, 33, 33), 9)]);
+    assert_eq!((layout::bound(session.state(), 2), layout::bound(session.state(), 3)), (17, 17));
+    assert!(session.rest(200) && session.check_beginning() && session.check_rest());
+    assert_eq!(session.handed[2], (0..=32).map(|t| (t, 3 * t as i64)).collect::<Vec<_>>());
+    assert_eq!(session.handed[3], (0..=32).map(|t| (t, -(t as i64))).collect::<Vec<_>>());
 }
 
 /// No test: to save a state with the library of today, write a file with the two lines of head, the plan and the calls, and

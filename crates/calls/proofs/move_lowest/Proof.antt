@@ -25,7 +25,7 @@ loop-holds : tie.Need-loop-holds Inv-loop μ-loop
 loop-holds c = (omega arith, refl, λ j h. absurd (omega arith))
 
 move-one-requires : tie.Need-move-one-requires Inv-loop μ-loop
-move-one-requires c κs = let a = c .before .before .before .before .args in let s = now (a .state) in let l = c .before .before .loop in let rf = In.room-for s (λ j. omega (arith, c .before .before .before .slice-known .given j)) (a .n) (c .before .before .before .before .pre) in (rw (ap length (l .inv .1)) rf, omega arith)
+move-one-requires c κs = let a = c .before .before .before .before .args in let s = now (a .state) in let l = c .before .before .loop in let rf = In.area-for s (λ j. omega (arith, c .before .before .before .slice-known .given j)) (a .n) (c .before .before .before .before .pre) in (rw (ap length (l .inv .1)) rf, omega arith)
 
 same-length : tie.Need-same-length Inv-loop μ-loop
 same-length c = let a = c .before .before .before .before .before .before .before .before .args in let s = now (a .state) in let l = c .before .before .before .before .before .before .loop in Turns.turn-length s (λ j. omega (arith, c .before .before .before .before .before .before .before .slice-known .given j)) (a .n) (c .before .before .before .before .before .before .before .before .pre) (l .state) (c .before .before .before .move-one .last .0) (l .inv .1) (c .before .before .before .move-one .result) (l .i) (omega arith) (c .before .before .before .move-one .ensures .0) (c .before .before .before .move-one .ensures .1) (c .if1 .taken) (l .inv .2)

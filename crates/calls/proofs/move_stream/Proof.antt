@@ -1,7 +1,7 @@
 use mathlib.Core.Path.{ap}
 use denote.Ref.{now}
 use Rattle.machine.specs.Calls.{moving}
-use Rattle.roundtrip.proofs.In.{room-for}
+use Rattle.roundtrip.proofs.In.{room-for, area-for}
 use Rattle.calls.specs.Reply.{Reply}
 use Rattle.calls.proofs.Replies
 use borrow.Author.Tests.{not-true, not-false}
@@ -25,7 +25,7 @@ returns : tie.Need-returns
 returns c = let a = c .before .before .before .before .args in let s = now (a .state) in let n = a .n in let h = c .before .before .before .before .pre in let p = MoveReplies.move-11 s (λ j. omega (arith, c .before .before .before .slice-known .given j)) n h (a .stream) (c .before .is-equation .result) (c .before .is-equation .ensures) (not-true (c .before .is-equation .result) (c .if1 .taken)) in let q = ap (λ (y : Reply). y .buffer) p in (ap (λ (y : Reply). y .number) p, (q, Replies.still s (λ j. omega (arith, c .before .before .before .slice-known .given j)) n h (moving (a .stream)) tt (s) q))
 
 move-one-requires : tie.Need-move-one-requires
-move-one-requires c κs = let a = c .before .before .before .before .before .args in let s = now (a .state) in let n = a .n in let h = c .before .before .before .before .before .pre in (room-for s (λ j. omega (arith, c .before .before .before .before .slice-known .given j)) n h, MoveReplies.move-there s (λ j. omega (arith, c .before .before .before .before .slice-known .given j)) n h (a .stream) (c .before .before .is-equation .result) (c .before .before .is-equation .ensures) (not-false (c .before .before .is-equation .result) (c .before .if1 .left)))
+move-one-requires c κs = let a = c .before .before .before .before .before .args in let s = now (a .state) in let n = a .n in let h = c .before .before .before .before .before .pre in (area-for s (λ j. omega (arith, c .before .before .before .before .slice-known .given j)) n h, MoveReplies.move-there s (λ j. omega (arith, c .before .before .before .before .slice-known .given j)) n h (a .stream) (c .before .before .is-equation .result) (c .before .before .is-equation .ensures) (not-false (c .before .before .is-equation .result) (c .before .if1 .left)))
 
 same-length-2 : tie.Need-same-length-2
 same-length-2 c = search needs

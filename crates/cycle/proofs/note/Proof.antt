@@ -1,10 +1,11 @@
+-- `cycle::note` meets its contract.
 use mathlib.Core.Path.{sym, ap, _∙_}
 use Prim.Native.Nat.{_*_}
 use denote.Ref.{now}
 use lib.Seq.{sets}
 use Rattle.meaning.specs.Arguments.{prompts}
 use Rattle.operators.specs.Operators.{argumentsOf}
-use Rattle.operators.proofs.Arms.{bare-prompts, late-prompts, both-prompts}
+use Rattle.operators.proofs.Arms.{bare-prompts, first-prompts, both-prompts, late-prompts}
 use Rattle.cycle.specs.Graph.{entryBy, entryOf}
 use borrow.Author.Needs.{needs}
 use Rattle.cycle.proofs.note.Statement.{statement}
@@ -18,9 +19,6 @@ group-of-requires c κs = search needs
 
 store-requires : tie.Need-store-requires
 store-requires c κs = search needs
-
-enum-told : tie.Need-enum-told
-enum-told c = search needs
 
 store-requires-2 : tie.Need-store-requires-2
 store-requires-2 c κs = search needs
@@ -43,7 +41,7 @@ same-length-2 c = search needs
 
 returns-2 : tie.Need-returns-2
 unfolding entryOf
-returns-2 c = c .before .before .store2 .ensures ∙ ap (λ l. sets (now (c .before .before .before .before .before .before .before .before .args .graph)) (3 * c .before .before .before .before .before .before .before .before .args .i) (entryBy l)) (ap (λ x. prompts (argumentsOf x (c .before .before .before .before .before .before .before .before .args .a) (c .before .before .before .before .before .before .before .before .args .b))) (sym (c .before .before .before .before .enum-told .given .1) ∙ c .before .before .before .before .before .before .group-of .ensures))
+returns-2 c = c .before .before .store2 .ensures ∙ ap (λ l. sets (now (c .before .before .before .before .before .before .before .args .graph)) (3 * c .before .before .before .before .before .before .before .args .i) (entryBy l)) (sym (first-prompts (c .before .before .before .before .before .group-of .result) (c .before .before .before .before .before .before .before .args .a) (c .before .before .before .before .before .before .before .args .b) (c .before .before .before .before .match .keys2)) ∙ ap (λ x. prompts (argumentsOf x (c .before .before .before .before .before .before .before .args .a) (c .before .before .before .before .before .before .before .args .b))) (c .before .before .before .before .before .group-of .ensures))
 
 same-length-3 : tie.Need-same-length-3
 same-length-3 c = search needs
@@ -66,7 +64,6 @@ note-spec =
     mul-at
     group-of-requires
     store-requires
-    enum-told
     store-requires-2
     store-requires-3
     store-requires-4

@@ -2,7 +2,7 @@
 use mathlib.Core.Path.{sym, ap, _∙_}
 use denote.Ref.{now}
 use Rattle.streams.specs.declared.Op.{Op}
-use Rattle.streams.specs.Look.{equation, ownOf, argOf}
+use Rattle.streams.specs.Look.{plain, ownOf, argOf}
 use Rattle.decide.specs.Search.{candidateOf}
 use Rattle.decide.proofs.Steps as step
 use borrow.Author.Needs.{needs}
@@ -37,7 +37,7 @@ due-at-requires : tie.Need-due-at-requires
 due-at-requires c κs = search needs
 
 returns : tie.Need-returns
-returns c = let x = c .before .before .before .before .before .before .before .args in let l = x .l in let o = ownOf (l .stream) in let a = argOf (l .abound) (now (x .a)) in c .due-at .ensures ∙ step.candidate-give o a 0 0 (x .give) (x .s) (c .before .before .if1 .taken) ∙ ap (λ (p : Op). candidateOf (x .give) (equation p) o a (x .s)) (sym (c .before .before .before .enum-told7 .given .1))
+returns c = let x = c .before .before .before .before .before .before .before .args in let l = x .l in let o = ownOf (l .stream) in let a = argOf (l .abound) (now (x .a)) in c .due-at .ensures ∙ step.candidate-give o a 0 0 (x .give) (x .s) (c .before .before .if1 .taken) ∙ ap (λ (p : Op). candidateOf (x .give) (plain p) o a (x .s)) (sym (c .before .before .before .enum-told7 .given .1))
 
 add-result : tie.Need-add-result
 add-result c = search needs
@@ -45,29 +45,35 @@ add-result c = search needs
 enum-told-8 : tie.Need-enum-told-8
 enum-told-8 c = search needs
 
+enum-told-9 : tie.Need-enum-told-9
+enum-told-9 c = search needs
+
 returns-2 : tie.Need-returns-2
-returns-2 c = let x = c .before .before .before .before .args in let l = x .l in let o = ownOf (l .stream) in let a = argOf (l .abound) (now (x .a)) in ap (λ (p : Op). candidateOf (x .give) (equation p) o a (x .s)) (sym (c .enum-told .given .1))
+returns-2 c = let x = c .before .before .before .before .args in let l = x .l in let o = ownOf (l .stream) in let a = argOf (l .abound) (now (x .a)) in ap (λ (p : Op). candidateOf (x .give) (plain p) o a (x .s)) (sym (c .enum-told .given .1))
 
 returns-3 : tie.Need-returns-3
-returns-3 c = let x = c .before .before .before .before .args in let l = x .l in let o = ownOf (l .stream) in let a = argOf (l .abound) (now (x .a)) in ap (λ (p : Op). candidateOf (x .give) (equation p) o a (x .s)) (sym (c .enum-told2 .given .1))
+returns-3 c = let x = c .before .before .before .before .args in let l = x .l in let o = ownOf (l .stream) in let a = argOf (l .abound) (now (x .a)) in ap (λ (p : Op). candidateOf (x .give) (plain p) o a (x .s)) (sym (c .enum-told2 .given .1))
 
 returns-4 : tie.Need-returns-4
-returns-4 c = let x = c .before .before .before .before .args in let l = x .l in let o = ownOf (l .stream) in let a = argOf (l .abound) (now (x .a)) in ap (λ (p : Op). candidateOf (x .give) (equation p) o a (x .s)) (sym (c .enum-told3 .given .1))
+returns-4 c = let x = c .before .before .before .before .args in let l = x .l in let o = ownOf (l .stream) in let a = argOf (l .abound) (now (x .a)) in ap (λ (p : Op). candidateOf (x .give) (plain p) o a (x .s)) (sym (c .enum-told3 .given .1))
 
 returns-5 : tie.Need-returns-5
-returns-5 c = let x = c .before .before .before .before .args in let l = x .l in let o = ownOf (l .stream) in let a = argOf (l .abound) (now (x .a)) in ap (λ (p : Op). candidateOf (x .give) (equation p) o a (x .s)) (sym (c .enum-told4 .given .1))
+returns-5 c = let x = c .before .before .before .before .args in let l = x .l in let o = ownOf (l .stream) in let a = argOf (l .abound) (now (x .a)) in ap (λ (p : Op). candidateOf (x .give) (plain p) o a (x .s)) (sym (c .enum-told4 .given .1))
 
 returns-6 : tie.Need-returns-6
-returns-6 c = let x = c .before .before .before .before .args in let l = x .l in let o = ownOf (l .stream) in let a = argOf (l .abound) (now (x .a)) in ap (λ (p : Op). candidateOf (x .give) (equation p) o a (x .s)) (sym (c .enum-told5 .given .1))
+returns-6 c = let x = c .before .before .before .before .args in let l = x .l in let o = ownOf (l .stream) in let a = argOf (l .abound) (now (x .a)) in ap (λ (p : Op). candidateOf (x .give) (plain p) o a (x .s)) (sym (c .enum-told5 .given .1))
 
 returns-7 : tie.Need-returns-7
-returns-7 c = let x = c .before .before .before .before .args in let l = x .l in let o = ownOf (l .stream) in let a = argOf (l .abound) (now (x .a)) in ap (λ (p : Op). candidateOf (x .give) (equation p) o a (x .s)) (sym (c .enum-told6 .given .1))
+returns-7 c = let x = c .before .before .before .before .args in let l = x .l in let o = ownOf (l .stream) in let a = argOf (l .abound) (now (x .a)) in ap (λ (p : Op). candidateOf (x .give) (plain p) o a (x .s)) (sym (c .enum-told6 .given .1))
 
 returns-8 : tie.Need-returns-8
-returns-8 c = let x = c .before .before .before .before .before .args in let l = x .l in let o = ownOf (l .stream) in let a = argOf (l .abound) (now (x .a)) in step.candidate-stop o a 0 0 (x .give) (x .s) (c .if1 .left) ∙ ap (λ (p : Op). candidateOf (x .give) (equation p) o a (x .s)) (sym (c .before .enum-told7 .given .1))
+returns-8 c = let x = c .before .before .before .before .before .args in let l = x .l in let o = ownOf (l .stream) in let a = argOf (l .abound) (now (x .a)) in step.candidate-stop o a 0 0 (x .give) (x .s) (c .if1 .left) ∙ ap (λ (p : Op). candidateOf (x .give) (plain p) o a (x .s)) (sym (c .before .enum-told7 .given .1))
 
 returns-9 : tie.Need-returns-9
-returns-9 c = let x = c .before .before .before .before .args in let l = x .l in let o = ownOf (l .stream) in let a = argOf (l .abound) (now (x .a)) in ap (λ (p : Op). candidateOf (x .give) (equation p) o a (x .s)) (sym (c .enum-told8 .given .1))
+returns-9 c = let x = c .before .before .before .before .args in let l = x .l in let o = ownOf (l .stream) in let a = argOf (l .abound) (now (x .a)) in ap (λ (p : Op). candidateOf (x .give) (plain p) o a (x .s)) (sym (c .enum-told8 .given .1))
+
+returns-10 : tie.Need-returns-10
+returns-10 c = let x = c .before .before .before .before .args in let l = x .l in let o = ownOf (l .stream) in let a = argOf (l .abound) (now (x .a)) in ap (λ (p : Op). candidateOf (x .give) (plain p) o a (x .s)) (sym (c .enum-told9 .given .1))
 
 pub candidate-spec : {M : Type 1} → statement M
 candidate-spec =
@@ -85,6 +91,7 @@ candidate-spec =
     returns
     add-result
     enum-told-8
+    enum-told-9
     returns-2
     returns-3
     returns-4
@@ -92,4 +99,5 @@ candidate-spec =
     returns-6
     returns-7
     returns-8
-    returns-9)
+    returns-9
+    returns-10)

@@ -3,7 +3,7 @@ use denote.Ref.{now}
 use Rattle.meaning.specs.Events.{has}
 use Rattle.layout.specs.Record.{decRaw}
 use Rattle.encoding.specs.Back.{heldOf}
-use Rattle.streams.specs.Look.{equation, ownOf, argOf}
+use Rattle.streams.specs.Look.{plain, ownOf, argOf}
 use Rattle.decide.proofs.Steps as step
 use borrow.Author.Needs.{needs}
 use Rattle.decide.proofs.passes.Statement.{statement}
@@ -16,13 +16,13 @@ is-some-requires : tie.Need-is-some-requires
 is-some-requires c κs = search needs
 
 returns : tie.Need-returns
-returns c = let x = c .before .before .before .before .before .args in let l = x .l in let e = equation (l .stream .op) in let o = ownOf (l .stream) in let A = now (x .a) in let B = now (x .b) in let a = argOf (l .abound) A in let b = argOf (l .bbound) B in c .is-some .ensures ∙ ap has (c .before .event-at .ensures) ∙ step.test-give e o a b (x .t) (x .give) (c .before .before .if1 .taken)
+returns c = let x = c .before .before .before .before .before .args in let l = x .l in let e = plain (l .stream .op) in let o = ownOf (l .stream) in let A = now (x .a) in let B = now (x .b) in let a = argOf (l .abound) A in let b = argOf (l .bbound) B in c .is-some .ensures ∙ ap has (c .before .event-at .ensures) ∙ step.test-give e o a b (x .t) (x .give) (c .before .before .if1 .taken)
 
 stops-requires : tie.Need-stops-requires
 stops-requires c κs = search needs
 
 returns-2 : tie.Need-returns-2
-returns-2 c = let x = c .before .before .before .before .args in let l = x .l in let e = equation (l .stream .op) in let o = ownOf (l .stream) in let A = now (x .a) in let B = now (x .b) in let a = argOf (l .abound) A in let b = argOf (l .bbound) B in c .stops .ensures (heldOf (decRaw A)) ∙ step.test-stop e o a b (x .t) (x .give) (c .before .if1 .left)
+returns-2 c = let x = c .before .before .before .before .args in let l = x .l in let e = plain (l .stream .op) in let o = ownOf (l .stream) in let A = now (x .a) in let B = now (x .b) in let a = argOf (l .abound) A in let b = argOf (l .bbound) B in c .stops .ensures (heldOf (decRaw A)) ∙ step.test-stop e o a b (x .t) (x .give) (c .before .if1 .left)
 
 pub passes-spec : {M : Type 1} → statement M
 passes-spec =

@@ -60,6 +60,9 @@ enum-known-op-3 c = search needs
 signal-at-requires : tie.Need-signal-at-requires
 signal-at-requires c κs = search needs
 
+enum-told-6 : tie.Need-enum-told-6
+enum-told-6 c = search needs
+
 returns : tie.Need-returns
 returns c = let x = c .before .before .before .before .before .args in let A = now (x .a) in let B = now (x .b) in let t = x .t in law.gives-arm (x .l) A B t (c .enum-told .given .1)
 
@@ -85,6 +88,9 @@ returns-7 c = let x = c .before .before .before .before .before .before .before 
 returns-8 : tie.Need-returns-8
 returns-8 c = let x = c .before .before .before .before .before .before .before .before .args in let A = now (x .a) in let B = now (x .b) in let t = x .t in c .signal-at .ensures ∙ law.gives-arm (x .l) A B t (c .before .before .before .op3 .given .1)
 
+returns-9 : tie.Need-returns-9
+returns-9 c = let x = c .before .before .before .before .before .args in let A = now (x .a) in let B = now (x .b) in let t = x .t in law.gives-arm (x .l) A B t (c .enum-told6 .given .1)
+
 pub event-at-spec : {M : Type 1} → statement M
 event-at-spec =
     tie.close
@@ -106,6 +112,7 @@ event-at-spec =
     delay-at-requires
     enum-known-op-3
     signal-at-requires
+    enum-told-6
     returns
     returns-2
     returns-3
@@ -113,4 +120,5 @@ event-at-spec =
     returns-5
     returns-6
     returns-7
-    returns-8)
+    returns-8
+    returns-9)

@@ -46,6 +46,9 @@ enum-told-8 c = search needs
 absorb-signal-requires : tie.Need-absorb-signal-requires
 absorb-signal-requires c κs = search needs
 
+enum-told-9 : tie.Need-enum-told-9
+enum-told-9 c = search needs
+
 returns : tie.Need-returns
 returns c = let x = c .before .before .before .before .before .args in let o = movedOf (x .k) (x .y) (now (x .o)) in let A = lookOf (decRaw (now (x .a))) in let B = lookOf (decRaw (now (x .b))) in ap (λ (p : Op). machine.absorb (equation p) o A B) (sym (c .enum-told .given .1))
 
@@ -73,6 +76,9 @@ returns-8 : tie.Need-returns-8
 unfolding lookOf toCell
 returns-8 c = let x = c .before .before .before .before .before .before .args in let o = movedOf (x .k) (x .y) (now (x .o)) in let A = lookOf (decRaw (now (x .a))) in let B = lookOf (decRaw (now (x .b))) in c .absorb-signal .ensures add (o .held) ∙ law.absorb-near (signal add 0 0) o A B 0 0 ∙ ap (λ (p : Op). machine.absorb (equation p) o A B) (sym (c .before .enum-told8 .given .1))
 
+returns-9 : tie.Need-returns-9
+returns-9 c = let x = c .before .before .before .before .before .args in let o = movedOf (x .k) (x .y) (now (x .o)) in let A = lookOf (decRaw (now (x .a))) in let B = lookOf (decRaw (now (x .b))) in ap (λ (p : Op). machine.absorb (equation p) o A B) (sym (c .enum-told9 .given .1))
+
 pub absorbed-spec : {M : Type 1} → statement M
 absorbed-spec =
     tie.close
@@ -88,6 +94,7 @@ absorbed-spec =
     absorb-delay-requires
     enum-told-8
     absorb-signal-requires
+    enum-told-9
     returns
     returns-2
     returns-3
@@ -95,4 +102,5 @@ absorbed-spec =
     returns-5
     returns-6
     returns-7
-    returns-8)
+    returns-8
+    returns-9)

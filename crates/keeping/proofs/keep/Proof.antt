@@ -52,6 +52,9 @@ enum-told-8 c = search needs
 keep-signal-requires : tie.Need-keep-signal-requires
 keep-signal-requires c κs = search needs
 
+enum-told-9 : tie.Need-enum-told-9
+enum-told-9 c = search needs
+
 returns : tie.Need-returns
 returns c = let a = c .before .before .before .args in let p = now (a .r) in let k = keptIn (a .k) in let r = decRaw p in Stores.none p (keptRow (equation (a .op)) k) (omega arith) (λ i. omega (arith, c .before .before .slice-known .given i)) (law.row-none k r (equation (a .op)) (ap (λ (o : Op). keeps (equation o)) (c .enum-told .given .1)))
 
@@ -85,6 +88,9 @@ same-length-3 c = search needs
 returns-8 : tie.Need-returns-8
 returns-8 c = let a = c .before .before .before .before .before .before .before .args in let p = now (a .r) in let k = keptIn (a .k) in let r = decRaw p in Stores.one p (c .before .before .keep-signal .last .0) (keptRow (equation (a .op)) k) (signalKept k) (c .before .before .keep-signal .ensures) (ap (λ (o : Op). keptRow (equation o) k r) (c .before .before .before .before .enum-told8 .given .1) ∙ law.row-signal k r _ _ _)
 
+returns-9 : tie.Need-returns-9
+returns-9 c = let a = c .before .before .before .args in let p = now (a .r) in let k = keptIn (a .k) in let r = decRaw p in Stores.none p (keptRow (equation (a .op)) k) (omega arith) (λ i. omega (arith, c .before .before .slice-known .given i)) (law.row-none k r (equation (a .op)) (ap (λ (o : Op). keeps (equation o)) (c .enum-told9 .given .1)))
+
 pub keep-spec : {M : Type 1} → statement M
 keep-spec =
     tie.close
@@ -102,6 +108,7 @@ keep-spec =
     keep-delay-requires
     enum-told-8
     keep-signal-requires
+    enum-told-9
     returns
     returns-2
     returns-3
@@ -112,4 +119,5 @@ keep-spec =
     same-length-2
     returns-7
     same-length-3
-    returns-8)
+    returns-8
+    returns-9)

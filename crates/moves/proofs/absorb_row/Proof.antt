@@ -45,6 +45,9 @@ enum-known-op-3 c = search needs
 keep-row-requires-3 : tie.Need-keep-row-requires-3
 keep-row-requires-3 c κs = search needs
 
+enum-told-6 : tie.Need-enum-told-6
+enum-told-6 c = search needs
+
 returns : tie.Need-returns
 returns c = let a = c .before .before .before .args in let n = a .n in let s = now (a .state) in let st = decode n s in let e = equation (a .op) in Steps.absorb-stays n (a .i) e (keptIn (a .k)) (a .y) s (omega arith) (λ j. omega (arith, c .before .before .slice-known .given j)) (ap (λ (o : Op). keeps (equation o)) (c .enum-told .given .1))
 
@@ -78,6 +81,9 @@ same-length-3 c = search needs
 returns-8 : tie.Need-returns-8
 returns-8 c = let a = c .before .before .before .before .before .before .before .before .args in let n = a .n in let s = now (a .state) in let st = decode n s in let e = equation (a .op) in c .before .before .keep-row3 .ensures ∙ ap (λ (o : Op). encode n (absorbedRaw n (a .i) (equation o) (keptIn (a .k)) (a .y) st)) (sym (c .before .before .before .before .before .op3 .given .1))
 
+returns-9 : tie.Need-returns-9
+returns-9 c = let a = c .before .before .before .args in let n = a .n in let s = now (a .state) in let st = decode n s in let e = equation (a .op) in Steps.absorb-stays n (a .i) e (keptIn (a .k)) (a .y) s (omega arith) (λ j. omega (arith, c .before .before .slice-known .given j)) (ap (λ (o : Op). keeps (equation o)) (c .enum-told6 .given .1))
+
 pub absorb-row-spec : {M : Type 1} → statement M
 absorb-row-spec =
     tie.close
@@ -93,6 +99,7 @@ absorb-row-spec =
     keep-row-requires-2
     enum-known-op-3
     keep-row-requires-3
+    enum-told-6
     returns
     returns-2
     returns-3
@@ -103,4 +110,5 @@ absorb-row-spec =
     same-length-2
     returns-7
     same-length-3
-    returns-8)
+    returns-8
+    returns-9)

@@ -6,8 +6,9 @@ use Rattle.layout.specs.Record.{Raw, encode, decode, num, rowAt, countF}
 use Rattle.layout.proofs.Laws.{record-row}
 use Rattle.streams.specs.Look.{lookOf, equation, keptIn}
 use Rattle.streams.proofs.Laws.{is-sound, look-bound}
-use Rattle.moves.specs.Move.{ownIn, aheadRaw, boundRaw, stepRaw, movedRaw}
+use Rattle.moves.specs.Move.{ownIn, aheadRaw, boundRaw, slidRaw, stepRaw, movedRaw}
 use Rattle.moves.proofs.Decides
+use Rattle.moves.proofs.Steps
 use borrow.Author.Needs.{needs}
 use native.Mathlib.Omega.{arith}
 use Rattle.moves.proofs.move_one.Statement.{statement}
@@ -50,17 +51,20 @@ same-length-2 : tie.Need-same-length-2
 same-length-2 c = search needs
 
 returns-2 : tie.Need-returns-2
-returns-2 c = let l0 = c .before .before .before .before .before .before .before .before .before .before .before .before .before .before .pre .0 in let l1 = c .before .before .before .before .before .before .before .before .before .before .before .before .before .before .pre .1 in let a = c .before .before .before .before .before .before .before .before .before .before .before .before .before .before .args in let n = a .n in let s = now (a .state) in let st = decode n s in let i = a .i in let mid = sym (record-row n s (now (c .before .before .before .before .before .before .before .before .before .before .before .row-at .result)) i (omega arith) (c .before .before .before .before .before .before .before .before .before .before .before .row-at .ensures .0)) in let at : min (c .before .before .before .before .before .before .before .before .before .before .word-at .result) horizon ≡ ownIn i st .bound = ap (λ (x : ℕ). min x horizon) (c .before .before .before .before .before .before .before .before .before .before .word-at .ensures) ∙ sym (look-bound _) ∙ ap (λ (r : Raw). lookOf r .bound) (sym mid) in let w = c .before .before .before .before .before .complete .result in let ew : equation (w .op) ≡ ownIn i st .eqn = c .before .before .before .before .before .complete .ensures .eqn ∙ ap (λ (r : Raw). lookOf r .eqn) (sym mid) in let low : w .bound ≡ ownIn i st .bound = c .before .before .before .before .before .complete .ensures .bound ∙ ap (λ (r : Raw). lookOf r .bound) (sym mid) in let kq : keptIn (w .kept) ≡ ownIn i st .kept = c .before .before .before .before .before .complete .ensures .kept ∙ ap (λ (r : Raw). lookOf r .kept) (sym mid) in let h : c .before .before .before .before .byte-at .result ≡ num countF (rowAt st i) = c .before .before .before .before .byte-at .ensures .0 ∙ ap (num countF) (sym mid) in let ah = c .before .before .ahead .ensures .0 ∙ Decides.ahead-is n i st (equation (w .op)) (w .bound) ew low (keptIn (w .kept)) kq in let u : c .before .bound-after .result ≡ boundRaw (aheadRaw n i st) (num countF (rowAt st i)) = c .before .bound-after .ensures .0 ∙ ap₂ boundRaw ah h in let e = Decides.can-stays n i st (sym u ∙ c .if2 .taken ∙ c .before .before .before .before .before .before .smaller .ensures ∙ at) in (sym e, sym (rw e))
+returns-2 c = let l0 = c .before .before .before .before .before .before .before .before .before .before .before .before .before .before .pre .0 in let l1 = c .before .before .before .before .before .before .before .before .before .before .before .before .before .before .pre .1 in let a = c .before .before .before .before .before .before .before .before .before .before .before .before .before .before .args in let n = a .n in let s = now (a .state) in let st = decode n s in let i = a .i in let mid = sym (record-row n s (now (c .before .before .before .before .before .before .before .before .before .before .before .row-at .result)) i (omega arith) (c .before .before .before .before .before .before .before .before .before .before .before .row-at .ensures .0)) in let at : min (c .before .before .before .before .before .before .before .before .before .before .word-at .result) horizon ≡ ownIn i st .bound = ap (λ (x : ℕ). min x horizon) (c .before .before .before .before .before .before .before .before .before .before .word-at .ensures) ∙ sym (look-bound _) ∙ ap (λ (r : Raw). lookOf r .bound) (sym mid) in let w = c .before .before .before .before .before .complete .result in let ew : equation (w .op) ≡ ownIn i st .eqn = c .before .before .before .before .before .complete .ensures .eqn ∙ ap (λ (r : Raw). lookOf r .eqn) (sym mid) in let low : w .bound ≡ ownIn i st .bound = c .before .before .before .before .before .complete .ensures .bound ∙ ap (λ (r : Raw). lookOf r .bound) (sym mid) in let kq : keptIn (w .kept) ≡ ownIn i st .kept = c .before .before .before .before .before .complete .ensures .kept ∙ ap (λ (r : Raw). lookOf r .kept) (sym mid) in let h : c .before .before .before .before .byte-at .result ≡ num countF (rowAt st i) = c .before .before .before .before .byte-at .ensures .0 ∙ ap (num countF) (sym mid) in let ah = c .before .before .ahead .ensures .0 ∙ Decides.ahead-is n i st (equation (w .op)) (w .bound) ew low (keptIn (w .kept)) kq in let u : c .before .bound-after .result ≡ boundRaw (aheadRaw n i st) (num countF (rowAt st i)) = c .before .bound-after .ensures .0 ∙ ap₂ boundRaw ah h in let bq : c .before .before .before .before .before .before .smaller .result ≡ ownIn i st .bound = c .before .before .before .before .before .before .smaller .ensures ∙ at in let e = Decides.can-stays n i st (sym u ∙ c .if2 .taken ∙ bq) in (sym e, sym (rw e))
+
+slide-requires : tie.Need-slide-requires
+slide-requires c κs = search needs
 
 make-requires : tie.Need-make-requires
-make-requires c κs = let l0 = c .before .before .before .before .before .before .before .before .before .before .before .before .before .before .before .before .pre .0 in let l1 = c .before .before .before .before .before .before .before .before .before .before .before .before .before .before .before .before .pre .1 in let a = c .before .before .before .before .before .before .before .before .before .before .before .before .before .before .before .before .args in let n = a .n in let s = now (a .state) in let st = decode n s in let i = a .i in let mid = sym (record-row n s (now (c .before .before .before .before .before .before .before .before .before .before .before .before .before .row-at .result)) i (omega arith) (c .before .before .before .before .before .before .before .before .before .before .before .before .before .row-at .ensures .0)) in let w = c .before .before .before .before .before .before .before .complete .result in let kq : keptIn (w .kept) ≡ ownIn i st .kept = c .before .before .before .before .before .before .before .complete .ensures .kept ∙ ap (λ (r : Raw). lookOf r .kept) (sym mid) in (omega arith, omega arith, c .before .before .before .before .ahead .ensures .1, kq)
+make-requires c κs = let l0 = c .before .before .before .before .before .before .before .before .before .before .before .before .before .before .before .before .before .before .before .before .pre .0 in let l1 = c .before .before .before .before .before .before .before .before .before .before .before .before .before .before .before .before .before .before .before .before .pre .1 in let a = c .before .before .before .before .before .before .before .before .before .before .before .before .before .before .before .before .before .before .before .before .args in let n = a .n in let s = now (a .state) in let st = decode n s in let i = a .i in let mid = sym (record-row n s (now (c .before .before .before .before .before .before .before .before .before .before .before .before .before .before .before .before .before .row-at .result)) i (omega arith) (c .before .before .before .before .before .before .before .before .before .before .before .before .before .before .before .before .before .row-at .ensures .0)) in let at : min (c .before .before .before .before .before .before .before .before .before .before .before .before .before .before .before .before .word-at .result) horizon ≡ ownIn i st .bound = ap (λ (x : ℕ). min x horizon) (c .before .before .before .before .before .before .before .before .before .before .before .before .before .before .before .before .word-at .ensures) ∙ sym (look-bound _) ∙ ap (λ (r : Raw). lookOf r .bound) (sym mid) in let is : equation (c .before .before .before .before .before .before .before .before .before .before .before .before .before .before .before .operator-at .result) ≡ ownIn i st .eqn = c .before .before .before .before .before .before .before .before .before .before .before .before .before .before .before .operator-at .ensures ∙ ap (λ (r : Raw). lookOf r .eqn) (sym mid) in let w = c .before .before .before .before .before .before .before .before .before .before .before .complete .result in let ew : equation (w .op) ≡ ownIn i st .eqn = c .before .before .before .before .before .before .before .before .before .before .before .complete .ensures .eqn ∙ ap (λ (r : Raw). lookOf r .eqn) (sym mid) in let low : w .bound ≡ ownIn i st .bound = c .before .before .before .before .before .before .before .before .before .before .before .complete .ensures .bound ∙ ap (λ (r : Raw). lookOf r .bound) (sym mid) in let kq : keptIn (w .kept) ≡ ownIn i st .kept = c .before .before .before .before .before .before .before .before .before .before .before .complete .ensures .kept ∙ ap (λ (r : Raw). lookOf r .kept) (sym mid) in let bq : c .before .before .before .before .before .before .before .before .before .before .before .before .smaller .result ≡ ownIn i st .bound = c .before .before .before .before .before .before .before .before .before .before .before .before .smaller .ensures ∙ at in let sl = c .before .before .before .slide .ensures ∙ (λ j. encode n (slidRaw n i (is j) (bq j) (c .before .before .before .before .before .before .before .bound-after .result) st)) in (omega arith, omega arith, c .before .before .before .before .before .before .before .before .ahead .ensures .1, kq ∙ Steps.slid-kept n i (omega arith) (c .before .before .before .slide .last .0) s (λ j. omega (arith, c .before .before .before .before .before .before .before .before .before .before .before .before .before .before .before .before .before .before .before .slice-known .given j)) (c .before .before .before .before .before .before .before .bound-after .result) sl)
 
 same-length-3 : tie.Need-same-length-3
 same-length-3 c = search needs
 
 returns-3 : tie.Need-returns-3
 unfolding movedRaw
-returns-3 c = let l0 = c .before .before .before .before .before .before .before .before .before .before .before .before .before .before .before .before .before .before .before .pre .0 in let l1 = c .before .before .before .before .before .before .before .before .before .before .before .before .before .before .before .before .before .before .before .pre .1 in let a = c .before .before .before .before .before .before .before .before .before .before .before .before .before .before .before .before .before .before .before .args in let n = a .n in let s = now (a .state) in let st = decode n s in let i = a .i in let mid = sym (record-row n s (now (c .before .before .before .before .before .before .before .before .before .before .before .before .before .before .before .before .row-at .result)) i (omega arith) (c .before .before .before .before .before .before .before .before .before .before .before .before .before .before .before .before .row-at .ensures .0)) in let at : min (c .before .before .before .before .before .before .before .before .before .before .before .before .before .before .before .word-at .result) horizon ≡ ownIn i st .bound = ap (λ (x : ℕ). min x horizon) (c .before .before .before .before .before .before .before .before .before .before .before .before .before .before .before .word-at .ensures) ∙ sym (look-bound _) ∙ ap (λ (r : Raw). lookOf r .bound) (sym mid) in let is : equation (c .before .before .before .before .before .before .before .before .before .before .before .before .before .before .operator-at .result) ≡ ownIn i st .eqn = c .before .before .before .before .before .before .before .before .before .before .before .before .before .before .operator-at .ensures ∙ ap (λ (r : Raw). lookOf r .eqn) (sym mid) in let w = c .before .before .before .before .before .before .before .before .before .before .complete .result in let ew : equation (w .op) ≡ ownIn i st .eqn = c .before .before .before .before .before .before .before .before .before .before .complete .ensures .eqn ∙ ap (λ (r : Raw). lookOf r .eqn) (sym mid) in let low : w .bound ≡ ownIn i st .bound = c .before .before .before .before .before .before .before .before .before .before .complete .ensures .bound ∙ ap (λ (r : Raw). lookOf r .bound) (sym mid) in let kq : keptIn (w .kept) ≡ ownIn i st .kept = c .before .before .before .before .before .before .before .before .before .before .complete .ensures .kept ∙ ap (λ (r : Raw). lookOf r .kept) (sym mid) in let h : c .before .before .before .before .before .before .before .before .before .byte-at .result ≡ num countF (rowAt st i) = c .before .before .before .before .before .before .before .before .before .byte-at .ensures .0 ∙ ap (num countF) (sym mid) in let ah = c .before .before .before .before .before .before .before .ahead .ensures .0 ∙ Decides.ahead-is n i st (equation (w .op)) (w .bound) ew low (keptIn (w .kept)) kq in let u : c .before .before .before .before .before .before .bound-after .result ≡ boundRaw (aheadRaw n i st) (num countF (rowAt st i)) = c .before .before .before .before .before .before .bound-after .ensures .0 ∙ ap₂ boundRaw ah h in let e = Decides.can-moves n i st (λ q. c .before .before .before .before .before .if2 .left (u ∙ q ∙ sym (c .before .before .before .before .before .before .before .before .before .before .before .smaller .ensures ∙ at))) in (sym e, c .before .before .make .ensures ∙ ap (encode n) (λ j. stepRaw n i (is j) (kq j) (ah j) (h j) st) ∙ sym (rw e))
+returns-3 c = let l0 = c .before .before .before .before .before .before .before .before .before .before .before .before .before .before .before .before .before .before .before .before .before .before .before .pre .0 in let l1 = c .before .before .before .before .before .before .before .before .before .before .before .before .before .before .before .before .before .before .before .before .before .before .before .pre .1 in let a = c .before .before .before .before .before .before .before .before .before .before .before .before .before .before .before .before .before .before .before .before .before .before .before .args in let n = a .n in let s = now (a .state) in let st = decode n s in let i = a .i in let mid = sym (record-row n s (now (c .before .before .before .before .before .before .before .before .before .before .before .before .before .before .before .before .before .before .before .before .row-at .result)) i (omega arith) (c .before .before .before .before .before .before .before .before .before .before .before .before .before .before .before .before .before .before .before .before .row-at .ensures .0)) in let at : min (c .before .before .before .before .before .before .before .before .before .before .before .before .before .before .before .before .before .before .before .word-at .result) horizon ≡ ownIn i st .bound = ap (λ (x : ℕ). min x horizon) (c .before .before .before .before .before .before .before .before .before .before .before .before .before .before .before .before .before .before .before .word-at .ensures) ∙ sym (look-bound _) ∙ ap (λ (r : Raw). lookOf r .bound) (sym mid) in let is : equation (c .before .before .before .before .before .before .before .before .before .before .before .before .before .before .before .before .before .before .operator-at .result) ≡ ownIn i st .eqn = c .before .before .before .before .before .before .before .before .before .before .before .before .before .before .before .before .before .before .operator-at .ensures ∙ ap (λ (r : Raw). lookOf r .eqn) (sym mid) in let w = c .before .before .before .before .before .before .before .before .before .before .before .before .before .before .complete .result in let ew : equation (w .op) ≡ ownIn i st .eqn = c .before .before .before .before .before .before .before .before .before .before .before .before .before .before .complete .ensures .eqn ∙ ap (λ (r : Raw). lookOf r .eqn) (sym mid) in let low : w .bound ≡ ownIn i st .bound = c .before .before .before .before .before .before .before .before .before .before .before .before .before .before .complete .ensures .bound ∙ ap (λ (r : Raw). lookOf r .bound) (sym mid) in let kq : keptIn (w .kept) ≡ ownIn i st .kept = c .before .before .before .before .before .before .before .before .before .before .before .before .before .before .complete .ensures .kept ∙ ap (λ (r : Raw). lookOf r .kept) (sym mid) in let h : c .before .before .before .before .before .before .before .before .before .before .before .before .before .byte-at .result ≡ num countF (rowAt st i) = c .before .before .before .before .before .before .before .before .before .before .before .before .before .byte-at .ensures .0 ∙ ap (num countF) (sym mid) in let ah = c .before .before .before .before .before .before .before .before .before .before .before .ahead .ensures .0 ∙ Decides.ahead-is n i st (equation (w .op)) (w .bound) ew low (keptIn (w .kept)) kq in let u : c .before .before .before .before .before .before .before .before .before .before .bound-after .result ≡ boundRaw (aheadRaw n i st) (num countF (rowAt st i)) = c .before .before .before .before .before .before .before .before .before .before .bound-after .ensures .0 ∙ ap₂ boundRaw ah h in let bq : c .before .before .before .before .before .before .before .before .before .before .before .before .before .before .before .smaller .result ≡ ownIn i st .bound = c .before .before .before .before .before .before .before .before .before .before .before .before .before .before .before .smaller .ensures ∙ at in let e = Decides.can-moves n i st (λ q. c .before .before .before .before .before .before .before .before .before .if2 .left (u ∙ q ∙ sym bq)) in let sl = c .before .before .before .before .before .before .slide .ensures ∙ (λ j. encode n (slidRaw n i (is j) (bq j) (u j) st)) in (sym e, Steps.made-is n i (omega arith) s (λ j. omega (arith, c .before .before .before .before .before .before .before .before .before .before .before .before .before .before .before .before .before .before .before .before .before .before .slice-known .given j)) (c .before .before .before .before .before .before .slide .last .0) (c .before .before .make .last .0) (boundRaw (aheadRaw n i st) (num countF (rowAt st i))) sl (c .before .before .make .ensures ∙ (λ j. encode n (stepRaw n i (is j) (kq j) (ah j) (h j) (decode n (c .before .before .before .before .before .before .slide .last .0))))) ∙ sym (rw e))
 
 pub move-one-spec : {M : Type 1} → statement M
 move-one-spec =
@@ -79,6 +83,7 @@ move-one-spec =
     bound-after-requires
     same-length-2
     returns-2
+    slide-requires
     make-requires
     same-length-3
     returns-3)

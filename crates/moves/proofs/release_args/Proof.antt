@@ -51,6 +51,12 @@ enum-known-op-5 c = search needs
 release-two-requires-4 : tie.Need-release-two-requires-4
 release-two-requires-4 c κs = search needs
 
+enum-known-op-6 : tie.Need-enum-known-op-6
+enum-known-op-6 c = search needs
+
+release-one-requires-2 : tie.Need-release-one-requires-2
+release-one-requires-2 c κs = search needs
+
 returns : tie.Need-returns
 returns c = let a = c .before .before .before .args in let n = a .n in let s = now (a .state) in Steps.args-none n 0 (omega arith) s (λ j. omega (arith, c .before .before .slice-known .given j)) (omega arith) ∙ ap (λ (p : Op). encode n (releasedArgs n (reads (equation p)) (decode n s))) (sym (c .enum-told .given .1))
 
@@ -90,6 +96,12 @@ same-length-5 c = search needs
 returns-8 : tie.Need-returns-8
 returns-8 c = let a = c .before .before .before .before .before .before .before .before .args in let n = a .n in let s = now (a .state) in c .before .before .release-two4 .ensures ∙ ap (λ (p : Op). encode n (releasedArgs n (reads (equation p)) (decode n s))) (sym (c .before .before .before .before .before .op5 .given .1))
 
+same-length-6 : tie.Need-same-length-6
+same-length-6 c = search needs
+
+returns-9 : tie.Need-returns-9
+returns-9 c = let a = c .before .before .before .before .before .before .before .before .args in let n = a .n in let s = now (a .state) in c .before .before .release-one2 .ensures ∙ ap (λ (p : Op). encode n (releasedArgs n (reads (equation p)) (decode n s))) (sym (c .before .before .before .before .before .op6 .given .1))
+
 pub release-args-spec : {M : Type 1} → statement M
 release-args-spec =
     tie.close
@@ -107,6 +119,8 @@ release-args-spec =
     release-two-requires-3
     enum-known-op-5
     release-two-requires-4
+    enum-known-op-6
+    release-one-requires-2
     returns
     returns-2
     returns-3
@@ -119,4 +133,6 @@ release-args-spec =
     same-length-4
     returns-7
     same-length-5
-    returns-8)
+    returns-8
+    same-length-6
+    returns-9)

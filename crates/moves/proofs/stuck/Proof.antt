@@ -54,6 +54,12 @@ enum-known-op-5 c = search needs
 not-ahead-requires-2 : tie.Need-not-ahead-requires-2
 not-ahead-requires-2 c κs = search needs
 
+enum-known-op-6 : tie.Need-enum-known-op-6
+enum-known-op-6 c = search needs
+
+bound-of-requires-4 : tie.Need-bound-of-requires-4
+bound-of-requires-4 c κs = search needs
+
 returns : tie.Need-returns
 returns c = let a = c .before .before .before .args in let n = a .n in let y = a .bound in let st = decode n (now (a .state)) in λ q. by (λ (e : Eqn). limitRaw n e (min y horizon) st ≤ min y horizon) (ap equation (c .enum-told .given .1)) (omega arith)
 
@@ -78,6 +84,9 @@ returns-7 c = let a = c .before .before .before .before .before .args in let n =
 returns-8 : tie.Need-returns-8
 returns-8 c = let a = c .before .before .before .before .before .args in let n = a .n in let y = a .bound in let st = decode n (now (a .state)) in λ q. by (λ (e : Eqn). limitRaw n e (min y horizon) st ≤ min y horizon) (ap equation (c .before .before .op5 .given .1)) (c .not-ahead2 .ensures q)
 
+returns-9 : tie.Need-returns-9
+returns-9 c = let a = c .before .before .before .before .before .args in let n = a .n in let y = a .bound in let st = decode n (now (a .state)) in λ q. by (λ (e : Eqn). limitRaw n e (min y horizon) st ≤ min y horizon) (ap equation (c .before .before .op6 .given .1)) (Decides.low _ (c .bound-of4 .result) y (Decides.other-low n _ st (c .bound-of4 .result) (c .bound-of4 .ensures)) (leb-true (c .bound-of4 .result) y q))
+
 pub stuck-spec : {M : Type 1} → statement M
 stuck-spec =
     tie.close
@@ -95,6 +104,8 @@ stuck-spec =
     bound-of-requires-3
     enum-known-op-5
     not-ahead-requires-2
+    enum-known-op-6
+    bound-of-requires-4
     returns
     returns-2
     returns-3
@@ -102,4 +113,5 @@ stuck-spec =
     returns-5
     returns-6
     returns-7
-    returns-8)
+    returns-8
+    returns-9)

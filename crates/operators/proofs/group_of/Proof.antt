@@ -1,7 +1,7 @@
 -- `operators::group_of` meets its contract.
 use mathlib.Core.Path.{refl, sym}
 use Rattle.operators.specs.Operators.{groupOf}
-use Rattle.operators.specs.declared.Group.the-variants.{Absent, Input, Plain, One, Two, Last, Delay, Signal}
+use Rattle.operators.specs.declared.Group.the-variants.{Absent, Input, Plain, One, Two, Last, Delay, Signal, Window}
 use Rattle.operators.proofs.Laws.{group-range, absent-above}
 use native.Mathlib.Omega.{arith}
 use Rattle.operators.proofs.group_of.Statement.{statement}
@@ -40,9 +40,23 @@ unfolding groupOf
 returns-8 c = sym (group-range Signal 20 8 refl (c .before .before .before .before .before .args .number) (omega arith) (omega arith))
 
 returns-9 : tie.Need-returns-9
-returns-9 c = sym (absent-above (c .before .before .before .before .before .args .number) (omega arith))
+unfolding groupOf
+returns-9 c = sym (group-range Window 28 3 refl (c .before .before .before .before .before .before .args .number) (omega arith) (omega arith))
+
+returns-10 : tie.Need-returns-10
+returns-10 c = sym (absent-above (c .before .before .before .before .before .before .args .number) (omega arith))
 
 pub group-of-spec : {M : Type 1} → statement M
 group-of-spec =
     tie.close
-    (tie.spec returns returns-2 returns-3 returns-4 returns-5 returns-6 returns-7 returns-8 returns-9)
+    (tie.spec
+    returns
+    returns-2
+    returns-3
+    returns-4
+    returns-5
+    returns-6
+    returns-7
+    returns-8
+    returns-9
+    returns-10)

@@ -14,6 +14,9 @@ enum-known-f c = search needs
 note-stream-requires : tie.Need-note-stream-requires
 note-stream-requires c κs = search needs
 
+weight-requires : tie.Need-weight-requires
+weight-requires c κs = search needs
+
 enum-known-r : tie.Need-enum-known-r
 enum-known-r c = search needs
 
@@ -22,7 +25,7 @@ same-length c = search needs
 
 returns : tie.Need-returns
 unfolding turn
-returns c = (rw (sym (c .before .before .before .before .before .before .before .read-stream .ensures) ∙ c .before .before .before .before .before .f .given .1, c .before .before .note-stream .ensures .0), rw (sym (c .before .before .before .before .before .before .before .read-stream .ensures) ∙ c .before .before .before .before .before .f .given .1) (c .before .before .note-stream .ensures .1))
+returns c = (rw (sym (c .before .before .before .before .before .before .before .before .read-stream .ensures) ∙ c .before .before .before .before .before .before .f .given .1, c .before .before .before .note-stream .ensures .0, c .weight .ensures), rw (sym (c .before .before .before .before .before .before .before .before .read-stream .ensures) ∙ c .before .before .before .before .before .before .f .given .1) (c .before .before .before .note-stream .ensures .1))
 
 returns-2 : tie.Need-returns-2
 unfolding turn
@@ -35,6 +38,7 @@ read-turn-spec =
     read-stream-requires
     enum-known-f
     note-stream-requires
+    weight-requires
     enum-known-r
     same-length
     returns

@@ -78,6 +78,12 @@ enum-told-8 c = search needs
 nothing-requires-5 : tie.Need-nothing-requires-5
 nothing-requires-5 c κs = search needs
 
+enum-told-9 : tie.Need-enum-told-9
+enum-told-9 c = search needs
+
+nothing-requires-6 : tie.Need-nothing-requires-6
+nothing-requires-6 c κs = search needs
+
 returns : tie.Need-returns
 returns c = let r = decRaw (now (c .before .before .before .before .before .args .r)) in c .latest .ensures ∙ ap (λ (x : Option ℤ). withPrev x noKept) (c .before .value-at .ensures) ∙ sym (law.kept-last r _ _ (sym (ap equation (c .before .before .enum-told .given .1)) ∙ c .before .before .before .before .before .pre .1))
 
@@ -101,6 +107,9 @@ returns-7 c = let r = decRaw (now (c .before .before .before .before .args .r)) 
 
 returns-8 : tie.Need-returns-8
 returns-8 c = let r = decRaw (now (c .before .before .before .before .args .r)) in c .nothing5 .ensures ∙ sym (law.kept-none r _ (sym (ap equation (c .before .enum-told8 .given .1)) ∙ c .before .before .before .before .pre .1) refl)
+
+returns-9 : tie.Need-returns-9
+returns-9 c = let r = decRaw (now (c .before .before .before .before .args .r)) in c .nothing6 .ensures ∙ sym (law.kept-none r _ (sym (ap equation (c .before .enum-told9 .given .1)) ∙ c .before .before .before .before .pre .1) refl)
 
 pub kept-at-spec : {M : Type 1} → statement M
 kept-at-spec =
@@ -128,6 +137,8 @@ kept-at-spec =
     nothing-requires-4
     enum-told-8
     nothing-requires-5
+    enum-told-9
+    nothing-requires-6
     returns
     returns-2
     returns-3
@@ -135,4 +146,5 @@ kept-at-spec =
     returns-5
     returns-6
     returns-7
-    returns-8)
+    returns-8
+    returns-9)

@@ -114,8 +114,20 @@ unfolding numberPacked placePacked pack
 returns-27 c = sym (ap numberPacked (c .match .keys27))
 
 returns-28 : tie.Need-returns-28
+unfolding numberPacked placePacked pack
+returns-28 c = sym (ap numberPacked (c .match .keys28))
+
+returns-29 : tie.Need-returns-29
+unfolding numberPacked placePacked pack
+returns-29 c = sym (ap numberPacked (c .match .keys29))
+
+returns-30 : tie.Need-returns-30
+unfolding numberPacked placePacked pack
+returns-30 c = sym (ap numberPacked (c .match .keys30))
+
+returns-31 : tie.Need-returns-31
 unfolding pack
-returns-28 c = no-operator (c .before .args .code) (c .match .rest)
+returns-31 c = no-operator (c .before .args .code) (c .match .rest)
 
 pub operator-spec : {M : Type 1} → statement M
 operator-spec =
@@ -148,4 +160,7 @@ operator-spec =
     returns-25
     returns-26
     returns-27
-    returns-28)
+    returns-28
+    returns-29
+    returns-30
+    returns-31)

@@ -1,0 +1,41 @@
+-- The cells of records: as many as the records, with their equations.
+use Prim.Native.Nat.{ℕ, suc}
+use mathlib.Core.Path.{_≡_, refl, ap, _∙_}
+use mathlib.Core.Bool.{Bool, true, false}
+use mathlib.Core.List.{List, [], _∷_, map}
+use lib.ListN.{length, take, drop}
+use Rattle.machine.specs.State.{planOf, withPassed}
+use Rattle.operators.specs.Operators.{groupOf, isWindow}
+use Rattle.layout.specs.Record.{Raw, num, opF, flagF}
+use Rattle.layout.specs.Windows.{windowLength}
+use Rattle.encoding.specs.Back.{toCell, passedOf, cells}
+
+-- of a record that is a window, and of one that is none
+pub cells-window : (r : Raw) (rs : List Raw) (b : List ℕ) → isWindow (groupOf (num opF r)) ≡ true
+    → cells (r ∷ rs) b ≡ withPassed (passedOf (num flagF r) (take windowLength b)) (toCell r) ∷ cells rs (drop windowLength b)
+unfolding cells
+cells-window r rs b e = rw e
+
+pub cells-other : (r : Raw) (rs : List Raw) (b : List ℕ) → isWindow (groupOf (num opF r)) ≡ false → cells (r ∷ rs) b ≡ toCell r ∷ cells rs b
+unfolding cells
+cells-other r rs b e = rw e
+
+pub cells-none : (b : List ℕ) → cells [] b ≡ []
+unfolding cells
+cells-none b = refl
+
+pub cells-plan : (rs : List Raw) (b : List ℕ) → planOf (cells rs b) ≡ planOf (map toCell rs)
+cells-plan [] b = ap planOf (cells-none b)
+cells-plan (r ∷ rs) b = go (isWindow (groupOf (num opF r))) refl (cells-plan rs (drop windowLength b)) (cells-plan rs b)
+  where
+    go : (w : Bool) → isWindow (groupOf (num opF r)) ≡ w → planOf (cells rs (drop windowLength b)) ≡ planOf (map toCell rs) → planOf (cells rs b) ≡ planOf (map toCell rs) → planOf (cells (r ∷ rs) b) ≡ planOf (map toCell (r ∷ rs))
+    go true e p q = ap planOf (cells-window r rs b e) ∙ ap (_∷_ (toCell r .eqn)) p
+    go false e p q = ap planOf (cells-other r rs b e) ∙ ap (_∷_ (toCell r .eqn)) q
+
+pub cells-length : (rs : List Raw) (b : List ℕ) → length (cells rs b) ≡ length rs
+cells-length [] b = ap length (cells-none b)
+cells-length (r ∷ rs) b = go (isWindow (groupOf (num opF r))) refl (cells-length rs (drop windowLength b)) (cells-length rs b)
+  where
+    go : (w : Bool) → isWindow (groupOf (num opF r)) ≡ w → length (cells rs (drop windowLength b)) ≡ length rs → length (cells rs b) ≡ length rs → length (cells (r ∷ rs) b) ≡ suc (length rs)
+    go true e p q = ap length (cells-window r rs b e) ∙ ap suc p
+    go false e p q = ap length (cells-other r rs b e) ∙ ap suc q

@@ -1,0 +1,57 @@
+-- `windows::best_word` meets its contract.
+use Prim.Native.Nat.{ℕ, _+_, _-_, _≤_}
+use mathlib.Core.Path.{_≡_, refl, sym, ap, _∙_}
+use denote.Ref.{now}
+use Rattle.layout.specs.Windows.{decWindow}
+use Rattle.layout.proofs.Windows.{window-many}
+use Rattle.windows.specs.Window.{raised, heights, bestOf}
+use Rattle.windows.proofs.Bests.{best-turn, best-end}
+use borrow.Author.Needs.{needs}
+use native.Mathlib.Omega.{arith}
+use Rattle.windows.proofs.best_word.Statement.{statement}
+use Rattle.windows.proofs.best_word.Tie as tie
+
+abbrev Inv-loop : tie.InvT-loop
+Inv-loop greater w i n b best₀ j₀ best j = (i ≤ j) × (j ≤ n) × (bestOf greater best (heights j n (decWindow w)) ≡ bestOf greater b (heights i n (decWindow w)))
+
+abbrev μ-loop : tie.MeasureT-loop
+μ-loop greater w i n b best₀ j₀ best j = n - j
+
+loop-holds : tie.Need-loop-holds Inv-loop μ-loop
+loop-holds c = (omega arith, omega arith, refl)
+
+window-word-requires : tie.Need-window-word-requires Inv-loop μ-loop
+window-word-requires c κs = (omega arith, omega arith)
+
+raise-requires : tie.Need-raise-requires Inv-loop μ-loop
+raise-requires c κs = search needs
+
+better-of-requires : tie.Need-better-of-requires Inv-loop μ-loop
+better-of-requires c κs = search needs
+
+add-j : tie.Need-add-j Inv-loop μ-loop
+add-j c = omega arith
+
+loop-less : tie.Need-loop-less Inv-loop μ-loop
+loop-less c = omega arith
+
+loop-again : tie.Need-loop-again Inv-loop μ-loop
+loop-again c = let a = c .before .before .before .before .before .before .args in let l = c .before .before .before .before .loop in let ws = decWindow (now (a .w)) in let many = window-many (now (a .w)) in (omega arith, omega arith, ap (λ (m : ℕ). bestOf (a .greater) m (heights (l .j + 1) (a .n) ws)) (c .better-of .ensures) ∙ best-turn (a .greater) ws (l .j) (a .n) (l .best) (c .before .raise .result) (omega arith) (omega arith) (c .before .raise .ensures ∙ ap raised (c .before .before .window-word .ensures)) ∙ l .inv .2)
+
+returns : tie.Need-returns Inv-loop μ-loop
+returns c = let a = c .before .before .before .args in let l = c .before .loop in let ws = decWindow (now (a .w)) in let many = window-many (now (a .w)) in let e : a .n ≡ l .j = omega arith in sym (best-end (a .greater) ws (a .n) (l .best)) ∙ ap (λ (m : ℕ). bestOf (a .greater) (l .best) (heights m (a .n) ws)) e ∙ l .inv .2
+
+pub best-word-spec : {M : Type 1} → statement M
+best-word-spec =
+    tie.close
+    (tie.spec
+    Inv-loop
+    μ-loop
+    loop-holds
+    window-word-requires
+    raise-requires
+    better-of-requires
+    add-j
+    loop-less
+    loop-again
+    returns)
