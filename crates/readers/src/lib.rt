@@ -1,31 +1,38 @@
 // One step on bytes: an event appended, the readers told, and what nobody waits for let go.
 ghost use mathlib.Core.Path.{_≡_};
-ghost use Prim.Native.Nat.{_*_, _+_, _≤_, _<_, max};
+ghost use Prim.Native.Nat.{_*_, _+_, _≤_, _<_};
 ghost use lib.ListN.{length};
 ghost use Rattle.layout.specs.Record as layout;
-ghost use Rattle.layout.specs.Record.{encRaw, decRaw, encode, decode, changeAll};
-ghost use Rattle.readers.specs.Step.{readsRow, toldLast, toldAt, setPoint, toldSince, toldDelay, toldRow, leastRow, waitingRow, releasedRow, offered};
+ghost use Rattle.layout.specs.Record.{encRaw, decRaw, encode, decode, changeAll, num, opF};
+ghost use Rattle.operators.specs.Operators.{groupOf};
+ghost use Rattle.machine.specs.Step.{leastReader};
+ghost use Rattle.encoding.specs.Back.{stateOf};
+ghost use Rattle.readers.specs.Step.{readsRow, toldLast, toldAt, setPoint, toldSince, toldDelay, toldRow, readersEnd, lastWaits, waitingRow, releasedRow, offered};
 use limits::Bound;
 use operators::Group;
 
-// Whether a record reads stream s.
+// The group of a record's operator.
+fn group_at(r: &[u8]) -> Group
+    requires { ⌜ length (now r) ≡ 256 ⌝ }
+    ensures { λ x. ⌜ x ≡ groupOf (num opF (decRaw (now (r .entry)))) ⌝ }
+{
+    operators::group_of(layout::byte_at(r, layout::OP))
+}
+
+// Whether a record reads stream s. Most records have s in neither place, and their operator is not looked at.
 pub fn reads(r: &[u8], s: u64) -> bool
     requires { ⌜ length (now r) ≡ 256 ⌝ }
     ensures { λ x. ⌜ x ≡ readsRow s (decRaw (now (r .entry))) ⌝ }
 {
-    let g = operators::group_of(layout::byte_at(r, layout::OP));
-    if !operators::takes_first(g) {
-        return false;
-    }
     let a = layout::byte_at(r, layout::A);
     if a == s {
-        return true;
-    }
-    if !operators::takes_second(g) {
-        return false;
+        return operators::takes_first(group_at(r));
     }
     let b = layout::byte_at(r, layout::B);
-    b == s
+    if b == s {
+        return operators::takes_second(group_at(r));
+    }
+    false
 }
 
 // A last keeps the value of its first argument's event.
@@ -109,8 +116,7 @@ fn tell(r: &mut [u8], s: u64, t: u32, v: u64)
     requires { ⌜ length (now r) ≡ 256 ⌝ }
     ensures { λ _. ⌜ now (r .exit) ≡ encRaw (toldRow s t v (decRaw (now (r .entry)))) ⌝ }
 {
-    let op = layout::byte_at(r, layout::OP);
-    match operators::group_of(op) {
+    match group_at(r) {
         Group::Last => {
             if (t as u64) < layout::word_at(r, layout::BOUND) {
                 tell_last(r, s, v);
@@ -139,22 +145,46 @@ pub fn tell_all(state: &mut [u8], n: usize, s: u64, t: u32, v: u64)
     }
 }
 
-// The least bound of the readers of stream s, the horizon if none of the n records reads it. Where it is not above floor
-// any number up to floor will do, so that the first such reader ends the search.
-fn least_reader(state: &[u8], n: usize, s: u64, floor: u64) -> u64
+// One past the last of the n records that reads stream s; 0 if none does.
+fn readers_end(state: &[u8], n: usize, s: u64) -> usize
     requires { ⌜ n * 256 ≤ length (now state) ⌝ }
-    ensures { λ x. ⌜ max x floor ≡ max (leastRow s (decode n (now (state .entry)) .rows)) floor ⌝ }
+    ensures { λ x. ⌜ (x ≡ readersEnd s (decode n (now (state .entry)) .rows)) × (x ≤ n) ⌝ }
+{
+    let mut i = n;
+    while 0 < i {
+        let r = layout::row_at(state, i - 1);
+        if reads(r, s) {
+            return i;
+        }
+        i -= 1;
+    }
+    0
+}
+
+// Whether the last reader, the record before end, waits for an event at t.
+fn last_waits(state: &[u8], n: usize, end: usize, t: u64) -> bool
+    requires { ⌜ (n * 256 ≤ length (now state)) × (end ≤ n) ⌝ }
+    ensures { λ x. ⌜ x ≡ lastWaits end t (decode n (now (state .entry)) .rows) ⌝ }
+{
+    if end == 0 {
+        return false;
+    }
+    let bound = layout::word_at(layout::row_at(state, end - 1), layout::BOUND);
+    bound <= t
+}
+
+// The least bound of the readers of stream s, the horizon if no stream reads it. No record from end on reads it.
+pub fn least_reader(state: &[u8], n: usize, s: u64, end: usize) -> u64
+    requires { ⌜ (n * 256 ≤ length (now state)) × (end ≤ n) × (readersEnd s (decode n (now state) .rows) ≤ end) ⌝ }
+    ensures { λ x. ⌜ x ≡ leastReader s (stateOf n (now (state .entry))) ⌝ }
 {
     let mut least = Bound::HORIZON;
-    let mut i = n;
+    let mut i = end;
     while 0 < i {
         i -= 1;
         let r = layout::row_at(state, i);
         if reads(r, s) {
             let bound = layout::word_at(r, layout::BOUND);
-            if bound <= floor {
-                return bound;
-            }
             if bound < least {
                 least = bound;
             }
@@ -164,7 +194,7 @@ fn least_reader(state: &[u8], n: usize, s: u64, floor: u64) -> u64
 }
 
 // The least bound of a record's readers, with collection of an output as one reader more.
-fn waiting(r: &[u8], least: u64) -> u64
+pub fn waiting(r: &[u8], least: u64) -> u64
     requires { ⌜ length (now r) ≡ 256 ⌝ }
     ensures { λ x. ⌜ x ≡ waitingRow least (decRaw (now (r .entry))) ⌝ }
 {
@@ -179,7 +209,8 @@ fn waiting(r: &[u8], least: u64) -> u64
     least
 }
 
-// Lets go what nobody waits for of stream i.
+// Lets go what nobody waits for of stream i. While the last reader waits for the oldest event, nothing is let go; it moves
+// last in a run, so most releases end there. Else the least bound of the readers is worked out, once for all held events.
 pub fn release_row(state: &mut [u8], n: usize, i: usize)
     requires { ⌜ (n * 256 ≤ length (now state)) × (i < n) ⌝ }
     ensures { λ _. ⌜ now (state .exit) ≡ encode n (releasedRow i (decode n (now (state .entry)))) ⌝ }
@@ -189,8 +220,13 @@ pub fn release_row(state: &mut [u8], n: usize, i: usize)
     if count == 0 {
         return;
     }
+    let s = i as u64;
+    let last = readers_end(state, n, s);
     let first = layout::stamp_at(r, 0);
-    let least = least_reader(state, n, i as u64, first);
+    if last_waits(state, n, last, first) {
+        return;
+    }
+    let least = least_reader(state, n, s, last);
     let w = waiting(r, least);
     let at = i * layout::RECORD;
     let end = at + layout::RECORD;

@@ -6,6 +6,7 @@ use Rattle.layout.proofs.Laws.{record-row, lent, encode-decode}
 use Rattle.readers.specs.Step.{waitingRow}
 use Rattle.queue.specs.Queue.{released}
 use Rattle.readers.proofs.Rounds
+use Rattle.readers.proofs.States
 use borrow.Author.Needs.{needs}
 use native.Mathlib.Omega.{arith}
 use Rattle.readers.proofs.release_row.Statement.{statement}
@@ -16,7 +17,9 @@ use Rattle.layout.proofs.byte_at.Reads as byte-at-reads
 use Rattle.layout.proofs.row_at.Reads as row-at-reads
 use Rattle.layout.proofs.stamp_at.Reads as stamp-at-reads
 use Rattle.queue.proofs.drop_below.Reads as drop-below-reads
+use Rattle.readers.proofs.last_waits.Reads as last-waits-reads
 use Rattle.readers.proofs.least_reader.Reads as least-reader-reads
+use Rattle.readers.proofs.readers_end.Reads as readers-end-reads
 use Rattle.readers.proofs.waiting.Reads as waiting-reads
 
 row-at-requires : tie.Need-row-at-requires
@@ -31,8 +34,20 @@ same-length c = search needs
 returns : tie.Need-returns
 returns c = let a = c .before .before .before .before .before .args in let s = now (a .state) in let i = a .i in let row = record-row (a .n) s (now (c .before .before .row-at .result)) i (omega arith) (c .before .before .row-at .ensures .0) in sym (ap (encode (a .n)) (Rounds.release-row-none i (decode (a .n) s) (ap (num countF) (sym row) ∙ sym (c .before .byte-at .ensures .0) ∙ c .if1 .taken)) ∙ encode-decode (a .n) s (omega arith) (λ j. omega (arith, c .before .before .before .before .slice-known .given j)))
 
+readers-end-requires : tie.Need-readers-end-requires
+readers-end-requires c κs = search needs
+
 stamp-at-requires : tie.Need-stamp-at-requires
 stamp-at-requires c κs = search needs
+
+last-waits-requires : tie.Need-last-waits-requires
+last-waits-requires c κs = search needs
+
+same-length-2 : tie.Need-same-length-2
+same-length-2 c = search needs
+
+returns-2 : tie.Need-returns-2
+returns-2 c = let a = c .before .before .before .before .before .before .before .before .before .args in let s = now (a .state) in let i = a .i in let row = record-row (a .n) s (now (c .before .before .before .before .before .before .row-at .result)) i (omega arith) (c .before .before .before .before .before .before .row-at .ensures .0) in let st = decode (a .n) s in sym (ap (encode (a .n)) (Rounds.release-row-waits i (c .before .before .stamp-at .result) st (c .before .before .stamp-at .ensures .0 ∙ ap (λ (r : Raw). slotAt 0 r .stamp) row) (Rounds.least-waits i (c .before .before .before .readers-end .result) (c .before .before .stamp-at .result) (st .rows) (c .before .before .before .readers-end .ensures .0) (sym (c .before .last-waits .ensures) ∙ c .if2 .taken))) ∙ encode-decode (a .n) s (omega arith) (λ j. omega (arith, c .before .before .before .before .before .before .before .before .slice-known .given j)))
 
 least-reader-requires : tie.Need-least-reader-requires
 least-reader-requires c κs = search needs
@@ -58,11 +73,11 @@ part-drop-below-end c = search needs
 drop-below-requires : tie.Need-drop-below-requires
 drop-below-requires c κs = search needs
 
-same-length-2 : tie.Need-same-length-2
-same-length-2 c = search needs
+same-length-3 : tie.Need-same-length-3
+same-length-3 c = search needs
 
-returns-2 : tie.Need-returns-2
-returns-2 c = let a = c .before .before .before .before .before .before .before .before .before .before .before .before .args in let s = now (a .state) in let i = a .i in let row = record-row (a .n) s (now (c .before .before .before .before .before .before .before .before .before .row-at .result)) i (omega arith) (c .before .before .before .before .before .before .before .before .before .row-at .ensures .0) in let w = c .before .before .before .before .waiting .result in let least = c .before .before .before .before .before .least-reader .result in lent (a .n) s (c .before .before .drop-below .last .0) i (i * 256 + 256 - i * 256) (released w) (omega arith) (omega arith) (λ j. omega (arith, c .before .before .before .before .before .before .before .before .before .before .before .slice-known .given j)) (omega arith) (c .before .before .drop-below .ensures) ∙ ap (encode (a .n)) (sym (Rounds.release-row-is i w least (c .before .before .before .before .before .before .stamp-at .result) (decode (a .n) s) (c .before .before .before .before .before .before .stamp-at .ensures .0 ∙ ap (λ (r : Raw). slotAt 0 r .stamp) row) (c .before .before .before .before .before .least-reader .ensures) (c .before .before .before .before .waiting .ensures ∙ ap (waitingRow least) row)))
+returns-3 : tie.Need-returns-3
+returns-3 c = let a = c .before .before .before .before .before .before .before .before .before .before .before .before .before .before .before .args in let s = now (a .state) in let i = a .i in let row = record-row (a .n) s (now (c .before .before .before .before .before .before .before .before .before .before .before .before .row-at .result)) i (omega arith) (c .before .before .before .before .before .before .before .before .before .before .before .before .row-at .ensures .0) in let w = c .before .before .before .before .waiting .result in let least = c .before .before .before .before .before .least-reader .result in lent (a .n) s (c .before .before .drop-below .last .0) i (i * 256 + 256 - i * 256) (released w) (omega arith) (omega arith) (λ j. omega (arith, c .before .before .before .before .before .before .before .before .before .before .before .before .before .before .slice-known .given j)) (omega arith) (c .before .before .drop-below .ensures) ∙ ap (encode (a .n)) (sym (Rounds.release-row-is i w least (decode (a .n) s) (c .before .before .before .before .before .least-reader .ensures ∙ sym (States.least-state i (a .n) s)) (c .before .before .before .before .waiting .ensures ∙ ap (waitingRow least) row)))
 
 pub release-row-spec : {M : Type 1} → statement M
 release-row-spec =
@@ -72,7 +87,11 @@ release-row-spec =
     byte-at-requires
     same-length
     returns
+    readers-end-requires
     stamp-at-requires
+    last-waits-requires
+    same-length-2
+    returns-2
     least-reader-requires
     waiting-requires
     mul-at
@@ -81,5 +100,5 @@ release-row-spec =
     part-drop-below-start
     part-drop-below-end
     drop-below-requires
-    same-length-2
-    returns-2)
+    same-length-3
+    returns-3)
