@@ -1,24 +1,28 @@
 -- Who reads a stream, and up to which bound, is the same of the records as of the machine's state that the bytes give: of every
 -- buffer, whatever it holds.
-use Prim.Native.Nat.{ℕ, zero, suc, _<_, min}
-use mathlib.Core.Path.{_≡_, refl, sym, ap, ap₂, _∙_}
-use mathlib.Core.Bool.{Bool, true, false, cond}
+use Prim.Native.Nat.{ℕ, zero, suc, _*_, _<_}
+use mathlib.Core.Path.{_≡_, refl, sym, ap, _∙_}
+use mathlib.Core.Bool.{Bool, true, false}
 use mathlib.Core.List.{List, [], _∷_, map}
 use native.Mathlib.Omega.{arith}
+use lib.Dec.{T}
 use lib.ListN.{length, getD, drop}
 use mir.Syntax.{w64}
 use mir.Val.{toZ}
 use Rattle.meaning.specs.Arguments.{Argument}
-use Rattle.meaning.specs.Plan.{Eqn}
+use Rattle.meaning.proofs.Tests.{is-true}
+use Rattle.le.specs.Bytes.{part}
 use Rattle.machine.specs.State.{Cell, State, cellAt}
 use Rattle.machine.specs.Step.{anyOf, readsIt, leastReader}
+use Rattle.machine.specs.Waiting.{Reader}
+use Rattle.machine.proofs.Waiting.{reads-among, among-reads}
 use Rattle.operators.specs.Operators.{groupOf, isWindow}
 use Rattle.operators.proofs.Laws.{arguments-by-number}
-use Rattle.layout.specs.Record.{Raw, noRaw, num, decode, rowAt, opF, aF, bF, kF, boundF}
+use Rattle.layout.specs.Record.{Raw, noRaw, num, decRaw, decode, opF, aF, bF, kF, boundF}
 use Rattle.layout.specs.Windows.{windowLength}
-use Rattle.layout.proofs.Laws.{rows-many}
+use Rattle.layout.proofs.Laws.{rows-many, record-row}
 use Rattle.encoding.specs.Back.{toCell, cells, areaOf, stateOf}
-use Rattle.encoding.proofs.Cells.{cells-window, cells-other, cells-none}
+use Rattle.encoding.proofs.Cells.{cells-window, cells-other, cells-none, cells-length}
 use Rattle.readers.specs.Step.{readsRow, lowered, leastRow}
 
 reads-cell : (s : ℕ) (r : Raw) → readsRow s r ≡ readsIt s (toCell r .eqn)
@@ -46,3 +50,39 @@ least-cells s (r ∷ rs) b = cells-case r rs b (λ M. lowered s r (leastRow s rs
 pub least-state : (s n : ℕ) (p : List ℕ) → leastRow s (decode n p .rows) ≡ leastReader s (stateOf n p)
 unfolding stateOf
 least-state s n p = least-cells s (decode n p .rows) (areaOf (decode n p .spare))
+
+-- ---- one record among them
+
+cells-at : (rs : List Raw) (b : List ℕ) (i : ℕ) → i < length rs → (cellAt (cells rs b) i .eqn ≡ toCell (getD rs i noRaw) .eqn) × (cellAt (cells rs b) i .bound ≡ toCell (getD rs i noRaw) .bound)
+cells-at [] b i h = absurd (omega arith)
+cells-at (r ∷ rs) b zero h = cells-case r rs b (λ M. (cellAt M 0 .eqn ≡ toCell r .eqn) × (cellAt M 0 .bound ≡ toCell r .bound)) (λ c d e f. (e, f))
+cells-at (r ∷ rs) b (suc i) h =
+    cells-case r rs b (λ M. (cellAt M (suc i) .eqn ≡ toCell (getD rs i noRaw) .eqn) × (cellAt M (suc i) .bound ≡ toCell (getD rs i noRaw) .bound)) (λ c d e f. cells-at rs d i (omega arith))
+
+-- record i lies in q
+module _ (s n : ℕ) (p q : List ℕ) (i : ℕ) (h : i < n) (own : q ≡ part p (i * 256) 256) where
+  row : decRaw q ≡ getD (decode n p .rows) i noRaw
+  row = record-row n p q i h own
+
+  at : (cellAt (stateOf n p) i .eqn ≡ toCell (decRaw q) .eqn) × (cellAt (stateOf n p) i .bound ≡ toCell (decRaw q) .bound)
+  unfolding stateOf
+  at =
+      let x = cells-at (decode n p .rows) (areaOf (decode n p .spare)) i (rw (rows-many n p) h) in
+      (x .0 ∙ ap (λ (r : Raw). toCell r .eqn) (sym row), x .1 ∙ ap (λ (r : Raw). toCell r .bound) (sym row))
+
+  long : i < length (stateOf n p)
+  unfolding stateOf
+  long = rw (cells-length (decode n p .rows) (areaOf (decode n p .spare)), rows-many n p) h
+
+  pub row-bound : cellAt (stateOf n p) i .bound ≡ num boundF (decRaw q)
+  unfolding toCell
+  row-bound = at .1
+
+  pub row-reader : readsRow s (decRaw q) ≡ true → Reader (stateOf n p) s i
+  row-reader e = (long, reads-among s (cellAt (stateOf n p) i .eqn) (is-true (readsIt s (cellAt (stateOf n p) i .eqn)) (ap (readsIt s) (at .0) ∙ sym (reads-cell s (decRaw q)) ∙ e)))
+
+  pub row-other : readsRow s (decRaw q) ≡ false → Reader (stateOf n p) s i → ⊥
+  row-other e k =
+      let x : readsIt s (cellAt (stateOf n p) i .eqn) ≡ false = ap (readsIt s) (at .0) ∙ sym (reads-cell s (decRaw q)) ∙ e in
+      let y : T (readsIt s (cellAt (stateOf n p) i .eqn)) = among-reads s (cellAt (stateOf n p) i .eqn) (k .1) in
+      rw x at y
