@@ -22,7 +22,7 @@ use Rattle.layout.specs.Record.{Raw, noRaw, num, decRaw, decode, opF, aF, bF, k
 use Rattle.layout.specs.Windows.{windowLength}
 use Rattle.layout.proofs.Laws.{rows-many, record-row}
 use Rattle.encoding.specs.Back.{toCell, cells, areaOf, stateOf}
-use Rattle.encoding.proofs.Cells.{cells-window, cells-other, cells-none, cells-length}
+use Rattle.encoding.proofs.Cells.{cells-window, cells-other, cells-none, state-length}
 use Rattle.readers.specs.Step.{readsRow, lowered, leastRow}
 
 reads-cell : (s : ℕ) (r : Raw) → readsRow s r ≡ readsIt s (toCell r .eqn)
@@ -70,16 +70,12 @@ module _ (s n : ℕ) (p q : List ℕ) (i : ℕ) (h : i < n) (own : q ≡ part p 
       let x = cells-at (decode n p .rows) (areaOf (decode n p .spare)) i (rw (rows-many n p) h) in
       (x .0 ∙ ap (λ (r : Raw). toCell r .eqn) (sym row), x .1 ∙ ap (λ (r : Raw). toCell r .bound) (sym row))
 
-  long : i < length (stateOf n p)
-  unfolding stateOf
-  long = rw (cells-length (decode n p .rows) (areaOf (decode n p .spare)), rows-many n p) h
-
   pub row-bound : cellAt (stateOf n p) i .bound ≡ num boundF (decRaw q)
   unfolding toCell
   row-bound = at .1
 
   pub row-reader : readsRow s (decRaw q) ≡ true → Reader (stateOf n p) s i
-  row-reader e = (long, reads-among s (cellAt (stateOf n p) i .eqn) (is-true (readsIt s (cellAt (stateOf n p) i .eqn)) (ap (readsIt s) (at .0) ∙ sym (reads-cell s (decRaw q)) ∙ e)))
+  row-reader e = (rw (state-length n p) h, reads-among s (cellAt (stateOf n p) i .eqn) (is-true (readsIt s (cellAt (stateOf n p) i .eqn)) (ap (readsIt s) (at .0) ∙ sym (reads-cell s (decRaw q)) ∙ e)))
 
   pub row-other : readsRow s (decRaw q) ≡ false → Reader (stateOf n p) s i → ⊥
   row-other e k =
