@@ -94,7 +94,8 @@ pub fn release_least(state: &mut [u8], n: usize, i: usize)
     ensures { λ _. ⌜ now (state .exit) ≡ encode n (releasedRow i (decode n (now (state .entry)))) ⌝ }
 {
     let r = layout::row_at(state, i);
-    let least = readers::least_reader(state, n, i as u64, n);
+    let last = readers::last_reader(state, n, i as u64);
+    let least = readers::least_reader(state, n, i as u64, last);
     let w = readers::waiting(r, least);
     let at = i * layout::RECORD;
     let end = at + layout::RECORD;

@@ -148,13 +148,17 @@ module _ (s : ℕ) (r : Raw) where
     unfolding lowered
     lower-le e = rw e (omega arith)
 
-    pub lower-less : readsRow s r ≡ true → num boundF r < acc → lowered s r acc ≡ num boundF r
+    pub lower-yes : readsRow s r ≡ true → lowered s r acc ≡ min (num boundF r) acc
     unfolding lowered
-    lower-less e h = rw e (omega arith)
+    lower-yes e = rw e
 
-    pub lower-else : readsRow s r ≡ true → acc ≤ num boundF r → lowered s r acc ≡ acc
+    pub lowered-le : lowered s r acc ≤ acc
     unfolding lowered
-    lower-else e h = rw e (omega arith)
+    lowered-le = go (readsRow s r)
+      where
+        go : (b : Bool) → cond b (min (num boundF r) acc) acc ≤ acc
+        go true = omega arith
+        go false = omega arith
 
 module _ (least : ℕ) (r : Raw) where
   pub waiting-in : num outF r ≡ 0 → waitingRow least r ≡ least

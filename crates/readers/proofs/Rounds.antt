@@ -4,149 +4,190 @@ use mathlib.Core.Path.{_≡_, refl, sym, ap, ap₂, _∙_}
 use mathlib.Core.List.{List, [], _∷_}
 use mathlib.Core.Bool.{Bool, true, false, cond}
 use native.Mathlib.Omega.{arith}
-use native.Mathlib.Decide.{decLt}
-use lib.Dec.{leb, eqb}
-use lib.ListN.{length, getD, set, drop, drop-of-length-le}
-use lib.Seq.{drop-cons, set-getD}
-use borrow.Author.Tests.{ne-eqb, leb-true}
+use lib.Dec.{leb}
+use lib.ListN.{length, getD, set}
+use lib.Seq.{set-getD}
+use borrow.Author.Tests.{leb-true}
 use Rattle.meaning.specs.Events.{horizon}
 use Rattle.meaning.proofs.Tests.{is-true}
 use Rattle.machine.specs.State.{room}
 use Rattle.le.specs.Bytes.{part, Bytes}
 use Rattle.layout.specs.Record.{Raw, Raws, noRaw, num, decRaw, encode, decode, rowAt, change, changeAll, slotAt, outF, countF, boundF, nextF}
-use Rattle.layout.proofs.Laws.{rows-many, record-row, raws-ok, row-ok, change-ok, changeAll-ok, whole-then}
-use Rattle.readers.specs.Step.{readsRow, toldRow, lowered, leastRow, readersEnd, lastWaits, waitingRow, releasedRow, offered}
+use Rattle.layout.proofs.Laws.{rows-many, row-at, record-row, raws-ok, row-ok, change-ok, changeAll-ok, whole-then}
+use Rattle.readers.specs.Step.{readsRow, toldRow, lowered, leastRow, lastReader, waitsBefore, waitingRow, releasedRow, offered}
 use Rattle.queue.specs.Queue.{pushed, released}
 use Rattle.queue.proofs.Drops.{push-ok, below-none, below-first, release-none}
-use Rattle.readers.proofs.Leaves.{lower-no, lower-le, waiting-le, told-ok}
+use Rattle.readers.proofs.Leaves.{lowered-le, lower-no, lower-yes, lower-le, waiting-le, told-ok}
 
--- ---- where the readers end
+-- ---- the last reader among the first records
 
-module _ (s : ℕ) (r : Raw) (rs : List Raw) where
-  end-none : readersEnd s rs ≡ 0 → readsRow s r ≡ false → readersEnd s (r ∷ rs) ≡ 0
-  unfolding readersEnd
-  end-none e f = rw (readersEnd, e, f)
+module _ (s : ℕ) (rs : List Raw) (i : ℕ) where
+  last-here : readsRow s (getD rs i noRaw) ≡ true → lastReader s rs (suc i) ≡ suc i
+  unfolding lastReader
+  last-here e = rw (lastReader, e)
 
-  end-here : readersEnd s rs ≡ 0 → readsRow s r ≡ true → readersEnd s (r ∷ rs) ≡ 1
-  unfolding readersEnd
-  end-here e f = rw (readersEnd, e, f)
+  last-not : readsRow s (getD rs i noRaw) ≡ false → lastReader s rs (suc i) ≡ lastReader s rs i
+  unfolding lastReader
+  last-not e = rw (lastReader, e)
 
-  end-later : 0 < readersEnd s rs → readersEnd s (r ∷ rs) ≡ suc (readersEnd s rs)
-  unfolding readersEnd
-  end-later h = rw (readersEnd, ne-eqb (readersEnd s rs) 0 (λ e. omega arith))
+last-none : (s : ℕ) (rs : List Raw) → lastReader s rs 0 ≡ 0
+unfolding lastReader
+last-none s rs = refl
 
-end-nil : (s : ℕ) → readersEnd s [] ≡ 0
-unfolding readersEnd
-end-nil s = refl
-
-pub end-top : (s : ℕ) (rs : List Raw) → readersEnd s rs ≤ length rs
-end-top s [] = rw (end-nil s) (omega arith)
-end-top s (r ∷ rs) = go (decLt 0 (readersEnd s rs)) (readsRow s r) refl (end-top s rs)
+last-top : (s : ℕ) (rs : List Raw) (i : ℕ) → lastReader s rs i ≤ i
+last-top s rs zero = rw (last-none s rs) (omega arith)
+last-top s rs (suc i) = go (readsRow s (getD rs i noRaw)) refl (last-top s rs i)
   where
-    go : Dec (0 < readersEnd s rs) → (b : Bool) → readsRow s r ≡ b → readersEnd s rs ≤ length rs → readersEnd s (r ∷ rs) ≤ suc (length rs)
-    go (yes h) b e l = rw (end-later s r rs h) (omega arith)
-    go (no h) true e l = rw (end-here s r rs (omega arith) e) (omega arith)
-    go (no h) false e l = rw (end-none s r rs (omega arith) e) (omega arith)
+    go : (b : Bool) → readsRow s (getD rs i noRaw) ≡ b → lastReader s rs i ≤ i → lastReader s rs (suc i) ≤ suc i
+    go true e h = rw (last-here s rs i e) (omega arith)
+    go false e h = rw (last-not s rs i e) (omega arith)
 
--- the last of the rest is the last of all
-end-lift : (s j m : ℕ) (rs : List Raw) → readersEnd s (drop j rs) ≡ suc m → readersEnd s rs ≡ j + suc m
-end-lift s zero m rs e = let h : readersEnd s rs ≡ suc m = e in omega arith
-end-lift s (suc j) m [] e = absurd (nothing (sym (end-nil s) ∙ e))
+-- the last one up to the last one is the last one
+last-again : (s : ℕ) (rs : List Raw) (i : ℕ) → lastReader s rs (lastReader s rs i) ≡ lastReader s rs i
+last-again s rs zero = ap (lastReader s rs) (last-none s rs)
+last-again s rs (suc i) = go (readsRow s (getD rs i noRaw)) refl (last-again s rs i)
   where
-    nothing : 0 ≡ suc m → ⊥
-    nothing z = omega arith
-end-lift s (suc j) m (r ∷ rs) e = let h = end-lift s j m rs e in let k = end-later s r rs (omega arith) in omega arith
+    go : (b : Bool) → readsRow s (getD rs i noRaw) ≡ b → lastReader s rs (lastReader s rs i) ≡ lastReader s rs i → lastReader s rs (lastReader s rs (suc i)) ≡ lastReader s rs (suc i)
+    go true e h = ap (lastReader s rs) (last-here s rs i e)
+    go false e h = ap (lastReader s rs) (last-not s rs i e) ∙ h ∙ sym (last-not s rs i e)
 
--- from the last record down: q holds the record before
+-- it reads s
+last-reads : (s : ℕ) (rs : List Raw) (i : ℕ) → lastReader s rs (suc i) ≡ suc i → readsRow s (getD rs i noRaw) ≡ true
+last-reads s rs i e = go (readsRow s (getD rs i noRaw)) refl
+  where
+    go : (b : Bool) → readsRow s (getD rs i noRaw) ≡ b → b ≡ true
+    go true f = refl
+    go false f = let x = last-not s rs i f in let y = last-top s rs i in absurd (omega arith)
+
+-- the first k records are the same, however many are read
+last-prefix : (s n m : ℕ) (p : List ℕ) (k : ℕ) → k ≤ n → k ≤ m → lastReader s (decode n p .rows) k ≡ lastReader s (decode m p .rows) k
+last-prefix s n m p zero h l = last-none s (decode n p .rows) ∙ sym (last-none s (decode m p .rows))
+last-prefix s n m p (suc k) h l = go (readsRow s (getD (decode n p .rows) k noRaw)) refl (last-prefix s n m p k (omega arith) (omega arith))
+  where
+    same : getD (decode n p .rows) k noRaw ≡ getD (decode m p .rows) k noRaw
+    same = row-at n p k (omega arith) ∙ sym (row-at m p k (omega arith))
+
+    go : (b : Bool) → readsRow s (getD (decode n p .rows) k noRaw) ≡ b → lastReader s (decode n p .rows) k ≡ lastReader s (decode m p .rows) k → lastReader s (decode n p .rows) (suc k) ≡ lastReader s (decode m p .rows) (suc k)
+    go true e ih = last-here s (decode n p .rows) k e ∙ sym (last-here s (decode m p .rows) k (ap (readsRow s) (sym same) ∙ e))
+    go false e ih = last-not s (decode n p .rows) k e ∙ ih ∙ sym (last-not s (decode m p .rows) k (ap (readsRow s) (sym same) ∙ e))
+
+-- from the last record down: q holds the record before i
 module _ (s n : ℕ) (p q : List ℕ) (i : ℕ) (h : 0 < i) (l : i ≤ n) (own : q ≡ part p ((i - 1) * 256) 256) where
-  rest : drop (i - 1) (decode n p .rows) ≡ decRaw q ∷ drop i (decode n p .rows)
-  rest =
-      let rows = decode n p .rows in
-      let f : suc (i - 1) ≡ i = omega arith in
-      let m : i - 1 < length rows = rw (rows-many n p) (omega arith) in
-      drop-cons rows (i - 1) noRaw m ∙ ap₂ _∷_ (sym (record-row n p q (i - 1) (omega arith) own)) (ap (λ (j : ℕ). drop j rows) f)
+  before : suc (i - 1) ≡ i
+  before = omega arith
 
-  pub end-turn : readersEnd s (drop i (decode n p .rows)) ≡ 0 → readsRow s (decRaw q) ≡ false → readersEnd s (drop (i - 1) (decode n p .rows)) ≡ 0
-  end-turn e f = ap (readersEnd s) rest ∙ end-none s (decRaw q) (drop i (decode n p .rows)) e f
+  reads-before : {b : Bool} → readsRow s (decRaw q) ≡ b → readsRow s (getD (decode n p .rows) (i - 1) noRaw) ≡ b
+  reads-before e = ap (readsRow s) (sym (record-row n p q (i - 1) (omega arith) own)) ∙ e
 
-  pub end-found : readersEnd s (drop i (decode n p .rows)) ≡ 0 → readsRow s (decRaw q) ≡ true → i ≡ readersEnd s (decode n p .rows)
-  end-found e f =
-      let x = end-lift s (i - 1) 0 (decode n p .rows) (ap (readersEnd s) rest ∙ end-here s (decRaw q) (drop i (decode n p .rows)) e f) in
-      omega arith
+  pub last-found : lastReader s (decode n p .rows) i ≡ lastReader s (decode n p .rows) n → readsRow s (decRaw q) ≡ true → i ≡ lastReader s (decode n p .rows) n
+  last-found inv e = sym (ap (lastReader s (decode n p .rows)) (sym before) ∙ last-here s (decode n p .rows) (i - 1) (reads-before e) ∙ before) ∙ inv
 
-  pub least-turn : (acc acc′ : ℕ) → acc ≡ leastRow s (drop i (decode n p .rows)) → acc′ ≡ lowered s (decRaw q) acc → acc′ ≡ leastRow s (drop (i - 1) (decode n p .rows))
-  unfolding leastRow
-  least-turn acc acc′ inv e = e ∙ ap (lowered s (decRaw q)) inv ∙ sym (ap (leastRow s) rest)
+  pub last-turn : lastReader s (decode n p .rows) i ≡ lastReader s (decode n p .rows) n → readsRow s (decRaw q) ≡ false → lastReader s (decode n p .rows) (i - 1) ≡ lastReader s (decode n p .rows) n
+  last-turn inv e = sym (ap (lastReader s (decode n p .rows)) (sym before) ∙ last-not s (decode n p .rows) (i - 1) (reads-before e)) ∙ inv
 
-pub end-start : (s n : ℕ) (p : List ℕ) → readersEnd s (drop n (decode n p .rows)) ≡ 0
-end-start s n p = ap (readersEnd s) (drop-of-length-le (decode n p .rows) {i = n} (rw (rows-many n p) (omega arith))) ∙ end-nil s
+pub last-end : (s n i : ℕ) (p : List ℕ) → i ≡ 0 → lastReader s (decode n p .rows) i ≡ lastReader s (decode n p .rows) n → 0 ≡ lastReader s (decode n p .rows) n
+last-end s n i p e inv = sym (ap (lastReader s (decode n p .rows)) e ∙ last-none s (decode n p .rows)) ∙ inv
 
-pub end-all : (s n i : ℕ) (p : List ℕ) → i ≡ 0 → readersEnd s (drop i (decode n p .rows)) ≡ 0 → readersEnd s (decode n p .rows) ≡ 0
-end-all s n i p e inv = rw e at inv
+-- ---- the least bound of the readers, from the last one down
 
--- ---- the least bound of the readers
+-- the least bound of the readers among the first i records
+abbrev pub leastOf : ℕ → List Raw → ℕ → ℕ
+leastOf s rs zero = horizon
+leastOf s rs (suc i) = lowered s (getD rs i noRaw) (leastOf s rs i)
 
-lowered-le : (s : ℕ) (r : Raw) (acc : ℕ) → lowered s r acc ≤ acc
+lowered-both : (s : ℕ) (r x : Raw) (acc : ℕ) → lowered s r (lowered s x acc) ≡ lowered s x (lowered s r acc)
 unfolding lowered
-lowered-le s r acc = go (readsRow s r)
+lowered-both s r x acc = go (readsRow s r) (readsRow s x)
   where
-    go : (b : Bool) → cond b (min (num boundF r) acc) acc ≤ acc
-    go true = omega arith
-    go false = omega arith
+    go : (b d : Bool) → cond b (min (num boundF r) (cond d (min (num boundF x) acc) acc)) (cond d (min (num boundF x) acc) acc) ≡ cond d (min (num boundF x) (cond b (min (num boundF r) acc) acc)) (cond b (min (num boundF r) acc) acc)
+    go true true = omega arith
+    go true false = refl
+    go false d = refl
 
--- behind the last reader it is the horizon
-least-none : (s : ℕ) (rs : List Raw) → readersEnd s rs ≡ 0 → leastRow s rs ≡ horizon
+least-first : (s : ℕ) (r : Raw) (rs : List Raw) (i : ℕ) → leastOf s (r ∷ rs) (suc i) ≡ lowered s r (leastOf s rs i)
+least-first s r rs zero = refl
+least-first s r rs (suc i) = ap (lowered s (getD rs i noRaw)) (least-first s r rs i) ∙ lowered-both s (getD rs i noRaw) r (leastOf s rs i)
+
+least-all : (s : ℕ) (rs : List Raw) → leastOf s rs (length rs) ≡ leastRow s rs
 unfolding leastRow
-least-none s [] e = refl
-least-none s (r ∷ rs) e = go (decLt 0 (readersEnd s rs)) (readsRow s r) refl (least-none s rs)
+least-all s [] = refl
+least-all s (r ∷ rs) = least-first s r rs (length rs) ∙ ap (lowered s r) (least-all s rs)
+
+-- those behind the last reader do not count
+least-skip : (s : ℕ) (rs : List Raw) (i : ℕ) → leastOf s rs i ≡ leastOf s rs (lastReader s rs i)
+least-skip s rs zero = ap (leastOf s rs) (sym (last-none s rs))
+least-skip s rs (suc i) = go (readsRow s (getD rs i noRaw)) refl (least-skip s rs i)
   where
-    go : Dec (0 < readersEnd s rs) → (b : Bool) → readsRow s r ≡ b → (readersEnd s rs ≡ 0 → leastRow s rs ≡ horizon) → lowered s r (leastRow s rs) ≡ horizon
-    go (yes h) b f ih = let x = end-later s r rs h in absurd (omega arith)
-    go (no h) true f ih = let x = end-here s r rs (omega arith) f in absurd (omega arith)
-    go (no h) false f ih = lower-no s r (leastRow s rs) f ∙ ih (omega arith)
+    go : (b : Bool) → readsRow s (getD rs i noRaw) ≡ b → leastOf s rs i ≡ leastOf s rs (lastReader s rs i) → leastOf s rs (suc i) ≡ leastOf s rs (lastReader s rs (suc i))
+    go true e h = ap (leastOf s rs) (sym (last-here s rs i e))
+    go false e h = lower-no s (getD rs i noRaw) (leastOf s rs i) e ∙ h ∙ ap (leastOf s rs) (sym (last-not s rs i e))
 
-least-behind : (s k : ℕ) (rs : List Raw) → readersEnd s rs ≤ k → leastRow s (drop k rs) ≡ horizon
-least-behind s zero rs h = least-none s rs (omega arith)
-least-behind s (suc k) [] h = least-none s [] (end-nil s)
-least-behind s (suc k) (r ∷ rs) h = least-behind s k rs (go (decLt 0 (readersEnd s rs)))
+-- what holds between two turns: acc is the least bound of the readers from record i on, and before i there is a reader, unless
+-- there is none
+pub record Downward (s n : ℕ) (p : List ℕ) (acc i : ℕ) : Type 0 where
+  pub few : i ≤ n
+  pub top : acc ≤ horizon
+  pub there : lastReader s (decode n p .rows) i ≡ i
+  pub all : min acc (leastOf s (decode n p .rows) i) ≡ leastRow s (decode n p .rows)
+
+pub down-start : (s n last : ℕ) (p : List ℕ) → last ≡ lastReader s (decode n p .rows) n → Downward s n p horizon last
+down-start s n last p e =
+    let rs = decode n p .rows in
+    let t = last-top s rs n in
+    let a : leastOf s rs last ≡ leastRow s rs = ap (leastOf s rs) e ∙ sym (least-skip s rs n) ∙ ap (leastOf s rs) (sym (rows-many n p)) ∙ least-all s rs in
+    let u = least-top s rs last in
+    record { few = omega arith; top = omega arith; there = ap (lastReader s rs) e ∙ last-again s rs n ∙ sym e; all = omega arith }
   where
-    go : Dec (0 < readersEnd s rs) → readersEnd s rs ≤ k
-    go (yes d) = let x = end-later s r rs d in omega arith
-    go (no d) = omega arith
+    least-top : (s : ℕ) (rs : List Raw) (i : ℕ) → leastOf s rs i ≤ horizon
+    least-top s rs zero = omega arith
+    least-top s rs (suc i) = let x = least-top s rs i in let y = lowered-le s (getD rs i noRaw) (leastOf s rs i) in omega arith
 
-pub least-start : (s n k : ℕ) (p : List ℕ) → readersEnd s (decode n p .rows) ≤ k → horizon ≡ leastRow s (drop k (decode n p .rows))
-least-start s n k p h = sym (least-behind s k (decode n p .rows) h)
+-- q holds the reader before i, with bound b; the next one is found among those before it
+pub down-turn : (s n acc acc′ b i j : ℕ) (p q : List ℕ) → Downward s n p acc i → 0 < i → q ≡ part p ((i - 1) * 256) 256 → b ≡ num boundF (decRaw q)
+    → acc′ ≡ min b acc → j ≡ lastReader s (decode (i - 1) p .rows) (i - 1) → Downward s n p acc′ j
+down-turn s n acc acc′ b i j p q d h own eb ea ej =
+    let rs = decode n p .rows in
+    let f = d .few in
+    let k : suc (i - 1) ≡ i = omega arith in
+    let e : j ≡ lastReader s rs (i - 1) = ej ∙ last-prefix s (i - 1) n p (i - 1) (omega arith) (omega arith) in
+    let t = last-top s rs (i - 1) in
+    let yes = last-reads s rs (i - 1) (ap (lastReader s rs) k ∙ d .there ∙ sym k) in
+    let r = getD rs (i - 1) noRaw in
+    let eq : b ≡ num boundF r = eb ∙ ap (num boundF) (record-row n p q (i - 1) (omega arith) own) in
+    let m : leastOf s rs i ≡ min (num boundF r) (leastOf s rs (i - 1)) = ap (leastOf s rs) (sym k) ∙ lower-yes s r (leastOf s rs (i - 1)) yes in
+    let z : leastOf s rs (i - 1) ≡ leastOf s rs j = least-skip s rs (i - 1) ∙ ap (leastOf s rs) (sym e) in
+    let w = d .all in
+    let v = d .top in
+    record { few = omega arith; top = omega arith; there = ap (lastReader s rs) e ∙ last-again s rs (i - 1) ∙ sym e; all = omega arith }
 
-pub least-end : (s n acc : ℕ) (p : List ℕ) (i : ℕ) → i ≡ 0 → acc ≡ leastRow s (drop i (decode n p .rows)) → acc ≡ leastRow s (decode n p .rows)
-least-end s n acc p i e inv = rw e at inv
+pub down-end : (s n acc i : ℕ) (p : List ℕ) → Downward s n p acc i → i ≡ 0 → acc ≡ leastRow s (decode n p .rows)
+down-end s n acc i p d e =
+    let z : leastOf s (decode n p .rows) i ≡ horizon = ap (leastOf s (decode n p .rows)) e in
+    let w = d .all in
+    let v = d .top in
+    omega arith
 
--- it is not above the bound of the last reader
-least-last : (s j : ℕ) (rs : List Raw) → readersEnd s rs ≡ suc j → leastRow s rs ≤ num boundF (getD rs j noRaw)
-unfolding leastRow
-least-last s j [] e = let x = end-nil s in absurd (omega arith)
-least-last s j (r ∷ rs) e = go j e (decLt 0 (readersEnd s rs)) (readsRow s r) refl (λ (m : ℕ). least-last s m rs)
-  where
-    go : (j : ℕ) → readersEnd s (r ∷ rs) ≡ suc j → Dec (0 < readersEnd s rs) → (b : Bool) → readsRow s r ≡ b → ((m : ℕ) → readersEnd s rs ≡ suc m → leastRow s rs ≤ num boundF (getD rs m noRaw))
-        → lowered s r (leastRow s rs) ≤ num boundF (getD (r ∷ rs) j noRaw)
-    go zero e (yes h) b f ih = let x = end-later s r rs h in absurd (omega arith)
-    go (suc j) e (yes h) b f ih = let x = end-later s r rs h in let y = ih j (omega arith) in let z = lowered-le s r (leastRow s rs) in omega arith
-    go zero e (no h) true f ih = lower-le s r (leastRow s rs) f
-    go (suc j) e (no h) true f ih = let x = end-here s r rs (omega arith) f in absurd (omega arith)
-    go j e (no h) false f ih = let x = end-none s r rs (omega arith) f in absurd (omega arith)
+-- ---- the last reader's bound
 
--- so if that one waits at t, it is not above t
-pub least-waits : (s end t : ℕ) (rs : List Raw) → end ≡ readersEnd s rs → lastWaits end t rs ≡ true → leastRow s rs ≤ t
-unfolding lastWaits
-least-waits s zero t rs e h = absurd (is-true false h)
-least-waits s (suc j) t rs e h = let x = least-last s j rs (sym e) in let y = leb-true (num boundF (getD rs j noRaw)) t h in omega arith
+-- if the last reader waits at t, the least bound is not above t
+pub least-waits : (s n last t : ℕ) (p : List ℕ) → last ≡ lastReader s (decode n p .rows) n → waitsBefore last t (decode n p .rows) ≡ true → leastRow s (decode n p .rows) ≤ t
+unfolding waitsBefore
+least-waits s n zero t p e h = absurd (is-true false h)
+least-waits s n (suc i) t p e h =
+    let rs = decode n p .rows in
+    let d = down-start s n (suc i) p e in
+    let yes = last-reads s rs i (d .there) in
+    let m : leastOf s rs (suc i) ≤ num boundF (getD rs i noRaw) = lower-le s (getD rs i noRaw) (leastOf s rs i) yes in
+    let l = leb-true (num boundF (getD rs i noRaw)) t h in
+    let w = d .all in
+    omega arith
 
--- what the last reader's bound says
-pub waits-none : (t : ℕ) (rs : List Raw) → lastWaits 0 t rs ≡ false
-unfolding lastWaits
+pub waits-none : (t : ℕ) (rs : List Raw) → waitsBefore 0 t rs ≡ false
+unfolding waitsBefore
 waits-none t rs = refl
 
-pub waits-is : (n end t b : ℕ) (p q : List ℕ) → 0 < end → end ≤ n → q ≡ part p ((end - 1) * 256) 256 → b ≡ num boundF (decRaw q) → leb b t ≡ lastWaits end t (decode n p .rows)
-unfolding lastWaits
+pub waits-is : (n i t b : ℕ) (p q : List ℕ) → 0 < i → i ≤ n → q ≡ part p ((i - 1) * 256) 256 → b ≡ num boundF (decRaw q) → leb b t ≡ waitsBefore i t (decode n p .rows)
+unfolding waitsBefore
 waits-is n zero t b p q h l own e = absurd (omega arith)
 waits-is n (suc j) t b p q h l own e =
     let f : suc j - 1 ≡ j = omega arith in

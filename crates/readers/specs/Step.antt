@@ -67,16 +67,16 @@ unfolding lowered
 leastRow s [] = horizon
 leastRow s (r ∷ rs) = lowered s r (leastRow s rs)
 
--- one past the last record that reads s, 0 if none does
-unfoldable pub readersEnd : ℕ → List Raw → ℕ
+-- one past the last of the first n records that reads s, 0 if none does
+unfoldable pub lastReader : ℕ → List Raw → ℕ → ℕ
 unfolding readsRow
-readersEnd s [] = 0
-readersEnd s (r ∷ rs) = cond (eqb (readersEnd s rs) 0) (cond (readsRow s r) 1 0) (suc (readersEnd s rs))
+lastReader s rs zero = 0
+lastReader s rs (suc n) = cond (readsRow s (getD rs n noRaw)) (suc n) (lastReader s rs n)
 
 -- whether the record before this one waits for an event at t; before the first there is none
-unfoldable pub lastWaits : ℕ → ℕ → List Raw → Bool
-lastWaits zero t rs = false
-lastWaits (suc j) t rs = leb (num boundF (getD rs j noRaw)) t
+unfoldable pub waitsBefore : ℕ → ℕ → List Raw → Bool
+waitsBefore zero t rs = false
+waitsBefore (suc i) t rs = leb (num boundF (getD rs i noRaw)) t
 
 -- with collection as one reader more
 unfoldable pub waitingRow : ℕ → Raw → ℕ

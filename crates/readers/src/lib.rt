@@ -7,7 +7,7 @@ ghost use Rattle.layout.specs.Record.{encRaw, decRaw, encode, decode, changeAll
 ghost use Rattle.operators.specs.Operators.{groupOf};
 ghost use Rattle.machine.specs.Step.{leastReader};
 ghost use Rattle.encoding.specs.Back.{stateOf};
-ghost use Rattle.readers.specs.Step.{readsRow, toldLast, toldAt, setPoint, toldSince, toldDelay, toldRow, readersEnd, lastWaits, waitingRow, releasedRow, offered};
+ghost use Rattle.readers.specs.Step.{readsRow, toldLast, toldAt, setPoint, toldSince, toldDelay, toldRow, lastReader, waitsBefore, waitingRow, releasedRow, offered};
 use limits::Bound;
 use operators::Group;
 
@@ -146,14 +146,13 @@ pub fn tell_all(state: &mut [u8], n: usize, s: u64, t: u32, v: u64)
 }
 
 // One past the last of the n records that reads stream s; 0 if none does.
-fn readers_end(state: &[u8], n: usize, s: u64) -> usize
+pub fn last_reader(state: &[u8], n: usize, s: u64) -> usize
     requires { ⌜ n * 256 ≤ length (now state) ⌝ }
-    ensures { λ x. ⌜ (x ≡ readersEnd s (decode n (now (state .entry)) .rows)) × (x ≤ n) ⌝ }
+    ensures { λ x. ⌜ (x ≡ lastReader s (decode n (now (state .entry)) .rows) n) × (x ≤ n) ⌝ }
 {
     let mut i = n;
     while 0 < i {
-        let r = layout::row_at(state, i - 1);
-        if reads(r, s) {
+        if reads(layout::row_at(state, i - 1), s) {
             return i;
         }
         i -= 1;
@@ -161,34 +160,30 @@ fn readers_end(state: &[u8], n: usize, s: u64) -> usize
     0
 }
 
-// Whether the last reader, the record before end, waits for an event at t.
-fn last_waits(state: &[u8], n: usize, end: usize, t: u64) -> bool
-    requires { ⌜ (n * 256 ≤ length (now state)) × (end ≤ n) ⌝ }
-    ensures { λ x. ⌜ x ≡ lastWaits end t (decode n (now (state .entry)) .rows) ⌝ }
+// Whether the record before record i waits for an event at t. Before the first there is none.
+fn waits_before(state: &[u8], n: usize, i: usize, t: u64) -> bool
+    requires { ⌜ (n * 256 ≤ length (now state)) × (i ≤ n) ⌝ }
+    ensures { λ x. ⌜ x ≡ waitsBefore i t (decode n (now (state .entry)) .rows) ⌝ }
 {
-    if end == 0 {
+    if i == 0 {
         return false;
     }
-    let bound = layout::word_at(layout::row_at(state, end - 1), layout::BOUND);
+    let bound = layout::word_at(layout::row_at(state, i - 1), layout::BOUND);
     bound <= t
 }
 
-// The least bound of the readers of stream s, the horizon if no stream reads it. No record from end on reads it.
-pub fn least_reader(state: &[u8], n: usize, s: u64, end: usize) -> u64
-    requires { ⌜ (n * 256 ≤ length (now state)) × (end ≤ n) × (readersEnd s (decode n (now state) .rows) ≤ end) ⌝ }
+// The least bound of the readers of stream s, the horizon if no stream reads it: from the last reader, before record last, to the
+// first.
+pub fn least_reader(state: &[u8], n: usize, s: u64, last: usize) -> u64
+    requires { ⌜ (n * 256 ≤ length (now state)) × (last ≡ lastReader s (decode n (now state) .rows) n) ⌝ }
     ensures { λ x. ⌜ x ≡ leastReader s (stateOf n (now (state .entry))) ⌝ }
 {
     let mut least = Bound::HORIZON;
-    let mut i = end;
+    let mut i = last;
     while 0 < i {
-        i -= 1;
-        let r = layout::row_at(state, i);
-        if reads(r, s) {
-            let bound = layout::word_at(r, layout::BOUND);
-            if bound < least {
-                least = bound;
-            }
-        }
+        let bound = layout::word_at(layout::row_at(state, i - 1), layout::BOUND);
+        least = limits::smaller(bound, least);
+        i = last_reader(state, i - 1, s);
     }
     least
 }
@@ -221,9 +216,9 @@ pub fn release_row(state: &mut [u8], n: usize, i: usize)
         return;
     }
     let s = i as u64;
-    let last = readers_end(state, n, s);
+    let last = last_reader(state, n, s);
     let first = layout::stamp_at(r, 0);
-    if last_waits(state, n, last, first) {
+    if waits_before(state, n, last, first) {
         return;
     }
     let least = least_reader(state, n, s, last);

@@ -2,7 +2,7 @@ use Prim.Native.Nat.{_+_, _-_, _*_}
 use mathlib.Core.Path.{sym, ap, _∙_}
 use denote.Ref.{now}
 use Rattle.layout.specs.Record.{encode, decode}
-use Rattle.layout.proofs.Laws.{rows-many, record-row, lent}
+use Rattle.layout.proofs.Laws.{record-row, lent}
 use Rattle.readers.specs.Step.{waitingRow}
 use Rattle.queue.specs.Queue.{released}
 use Rattle.readers.proofs.Rounds
@@ -15,14 +15,18 @@ use Rattle.plain.proofs.release_least.Reads as reads
 use Rattle.plain.proofs.release_least.Lts as lts
 use Rattle.layout.proofs.row_at.Reads as row-at-reads
 use Rattle.queue.proofs.drop_below.Reads as drop-below-reads
+use Rattle.readers.proofs.last_reader.Reads as last-reader-reads
 use Rattle.readers.proofs.least_reader.Reads as least-reader-reads
 use Rattle.readers.proofs.waiting.Reads as waiting-reads
 
 row-at-requires : tie.Need-row-at-requires
 row-at-requires c κs = search needs
 
+last-reader-requires : tie.Need-last-reader-requires
+last-reader-requires c κs = search needs
+
 least-reader-requires : tie.Need-least-reader-requires
-least-reader-requires c κs = let a = c .before .before .before .args in let x = Rounds.end-top (a .i) (decode (a .n) (now (a .state)) .rows) in let y = rows-many (a .n) (now (a .state)) in (omega arith, omega arith, omega arith)
+least-reader-requires c κs = search needs
 
 waiting-requires : tie.Need-waiting-requires
 waiting-requires c κs = search needs
@@ -49,13 +53,14 @@ same-length : tie.Need-same-length
 same-length c = search needs
 
 returns : tie.Need-returns
-returns c = let a = c .before .before .before .before .before .before .before .before .before .args in let s = now (a .state) in let i = a .i in let row = record-row (a .n) s (now (c .before .before .before .before .before .before .row-at .result)) i (omega arith) (c .before .before .before .before .before .before .row-at .ensures .0) in let w = c .before .before .before .before .waiting .result in let least = c .before .before .before .before .before .least-reader .result in lent (a .n) s (c .before .before .drop-below .last .0) i (i * 256 + 256 - i * 256) (released w) (omega arith) (omega arith) (λ j. omega (arith, c .before .before .before .before .before .before .before .before .slice-known .given j)) (omega arith) (c .before .before .drop-below .ensures) ∙ ap (encode (a .n)) (sym (Rounds.release-row-is i w least (decode (a .n) s) (c .before .before .before .before .before .least-reader .ensures ∙ sym (States.least-state i (a .n) s)) (c .before .before .before .before .waiting .ensures ∙ ap (waitingRow least) row)))
+returns c = let a = c .before .before .before .before .before .before .before .before .before .before .args in let s = now (a .state) in let i = a .i in let row = record-row (a .n) s (now (c .before .before .before .before .before .before .before .row-at .result)) i (omega arith) (c .before .before .before .before .before .before .before .row-at .ensures .0) in let w = c .before .before .before .before .waiting .result in let least = c .before .before .before .before .before .least-reader .result in lent (a .n) s (c .before .before .drop-below .last .0) i (i * 256 + 256 - i * 256) (released w) (omega arith) (omega arith) (λ j. omega (arith, c .before .before .before .before .before .before .before .before .before .slice-known .given j)) (omega arith) (c .before .before .drop-below .ensures) ∙ ap (encode (a .n)) (sym (Rounds.release-row-is i w least (decode (a .n) s) (c .before .before .before .before .before .least-reader .ensures ∙ sym (States.least-state i (a .n) s)) (c .before .before .before .before .waiting .ensures ∙ ap (waitingRow least) row)))
 
 pub release-least-spec : {M : Type 1} → statement M
 release-least-spec =
     tie.close
     (tie.spec
     row-at-requires
+    last-reader-requires
     least-reader-requires
     waiting-requires
     mul-at

@@ -17,10 +17,10 @@ use Rattle.layout.proofs.byte_at.Reads as byte-at-reads
 use Rattle.layout.proofs.row_at.Reads as row-at-reads
 use Rattle.layout.proofs.stamp_at.Reads as stamp-at-reads
 use Rattle.queue.proofs.drop_below.Reads as drop-below-reads
-use Rattle.readers.proofs.last_waits.Reads as last-waits-reads
+use Rattle.readers.proofs.last_reader.Reads as last-reader-reads
 use Rattle.readers.proofs.least_reader.Reads as least-reader-reads
-use Rattle.readers.proofs.readers_end.Reads as readers-end-reads
 use Rattle.readers.proofs.waiting.Reads as waiting-reads
+use Rattle.readers.proofs.waits_before.Reads as waits-before-reads
 
 row-at-requires : tie.Need-row-at-requires
 row-at-requires c κs = search needs
@@ -34,20 +34,20 @@ same-length c = search needs
 returns : tie.Need-returns
 returns c = let a = c .before .before .before .before .before .args in let s = now (a .state) in let i = a .i in let row = record-row (a .n) s (now (c .before .before .row-at .result)) i (omega arith) (c .before .before .row-at .ensures .0) in sym (ap (encode (a .n)) (Rounds.release-row-none i (decode (a .n) s) (ap (num countF) (sym row) ∙ sym (c .before .byte-at .ensures .0) ∙ c .if1 .taken)) ∙ encode-decode (a .n) s (omega arith) (λ j. omega (arith, c .before .before .before .before .slice-known .given j)))
 
-readers-end-requires : tie.Need-readers-end-requires
-readers-end-requires c κs = search needs
+last-reader-requires : tie.Need-last-reader-requires
+last-reader-requires c κs = search needs
 
 stamp-at-requires : tie.Need-stamp-at-requires
 stamp-at-requires c κs = search needs
 
-last-waits-requires : tie.Need-last-waits-requires
-last-waits-requires c κs = search needs
+waits-before-requires : tie.Need-waits-before-requires
+waits-before-requires c κs = search needs
 
 same-length-2 : tie.Need-same-length-2
 same-length-2 c = search needs
 
 returns-2 : tie.Need-returns-2
-returns-2 c = let a = c .before .before .before .before .before .before .before .before .before .args in let s = now (a .state) in let i = a .i in let row = record-row (a .n) s (now (c .before .before .before .before .before .before .row-at .result)) i (omega arith) (c .before .before .before .before .before .before .row-at .ensures .0) in let st = decode (a .n) s in sym (ap (encode (a .n)) (Rounds.release-row-waits i (c .before .before .stamp-at .result) st (c .before .before .stamp-at .ensures .0 ∙ ap (λ (r : Raw). slotAt 0 r .stamp) row) (Rounds.least-waits i (c .before .before .before .readers-end .result) (c .before .before .stamp-at .result) (st .rows) (c .before .before .before .readers-end .ensures .0) (sym (c .before .last-waits .ensures) ∙ c .if2 .taken))) ∙ encode-decode (a .n) s (omega arith) (λ j. omega (arith, c .before .before .before .before .before .before .before .before .slice-known .given j)))
+returns-2 c = let a = c .before .before .before .before .before .before .before .before .before .args in let s = now (a .state) in let i = a .i in let row = record-row (a .n) s (now (c .before .before .before .before .before .before .row-at .result)) i (omega arith) (c .before .before .before .before .before .before .row-at .ensures .0) in let st = decode (a .n) s in sym (ap (encode (a .n)) (Rounds.release-row-waits i (c .before .before .stamp-at .result) st (c .before .before .stamp-at .ensures .0 ∙ ap (λ (r : Raw). slotAt 0 r .stamp) row) (Rounds.least-waits i (a .n) (c .before .before .before .last-reader .result) (c .before .before .stamp-at .result) s (c .before .before .before .last-reader .ensures .0) (sym (c .before .waits-before .ensures) ∙ c .if2 .taken))) ∙ encode-decode (a .n) s (omega arith) (λ j. omega (arith, c .before .before .before .before .before .before .before .before .slice-known .given j)))
 
 least-reader-requires : tie.Need-least-reader-requires
 least-reader-requires c κs = search needs
@@ -87,9 +87,9 @@ release-row-spec =
     byte-at-requires
     same-length
     returns
-    readers-end-requires
+    last-reader-requires
     stamp-at-requires
-    last-waits-requires
+    waits-before-requires
     same-length-2
     returns-2
     least-reader-requires
