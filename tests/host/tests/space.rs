@@ -135,8 +135,8 @@ fn case_6_8_as_before_after_every_call() {
     assert_eq!(one_by_one(&format!("in; in; {}", ["keep 0 1"; 30].join("; "))), (30, KEEPS));
 }
 
-const NEGS: u64 = 0;
-const KEEPS: u64 = 0;
+const NEGS: u64 = 10_052_264_997_629_545_187;
+const KEEPS: u64 = 8_708_994_515_386_552_028;
 
 // ---- readers of every kind
 
