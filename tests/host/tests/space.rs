@@ -156,7 +156,8 @@ fn any_reader(random: &mut Random) -> Stream {
 #[test]
 fn held_until_every_readers_bound_is_above() {
     let (mut kept, mut gone, mut part) = (0, 0, 0);
-    for round in 0..rounds(3000) {
+    let all = rounds(3000);
+    for round in 0..all {
         let mut random = Random::of(60, round);
         let n = 2 + random.below(31) as usize;
         let mut plan: Plan = vec![Stream::new(Op::In), Stream::new(Op::In)];
@@ -193,5 +194,5 @@ fn held_until_every_readers_bound_is_above() {
             _ => part += 1,
         }
     }
-    assert!(kept > 100 && gone > 100 && part > 100, "{kept} {gone} {part}");
+    assert!(all < 300 || [kept, gone, part].iter().all(|&some| some * 20 > all), "{kept} {gone} {part} of {all}");
 }
