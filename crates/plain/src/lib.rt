@@ -93,11 +93,6 @@ pub fn release_least(state: &mut [u8], n: usize, i: usize)
     requires { ⌜ (n * 256 ≤ length (now state)) × (i < n) ⌝ }
     ensures { λ _. ⌜ now (state .exit) ≡ encode n (releasedRow i (decode n (now (state .entry)))) ⌝ }
 {
-    let r = layout::row_at(state, i);
     let last = readers::last_reader(state, n, i as u64);
-    let least = readers::least_reader(state, n, i as u64, last);
-    let w = readers::waiting(r, least);
-    let at = i * layout::RECORD;
-    let end = at + layout::RECORD;
-    queue::drop_below(&mut state[at..end], w);
+    readers::release_below(state, n, i, last);
 }

@@ -174,7 +174,7 @@ fn waits_before(state: &[u8], n: usize, i: usize, t: u64) -> bool
 
 // The least bound of the readers of stream s, the horizon if no stream reads it: from the last reader, before record last, to the
 // first.
-pub fn least_reader(state: &[u8], n: usize, s: u64, last: usize) -> u64
+fn least_reader(state: &[u8], n: usize, s: u64, last: usize) -> u64
     requires { ⌜ (n * 256 ≤ length (now state)) × (last ≡ lastReader s (decode n (now state) .rows) n) ⌝ }
     ensures { λ x. ⌜ x ≡ leastReader s (stateOf n (now (state .entry))) ⌝ }
 {
@@ -189,7 +189,7 @@ pub fn least_reader(state: &[u8], n: usize, s: u64, last: usize) -> u64
 }
 
 // The least bound of a record's readers, with collection of an output as one reader more.
-pub fn waiting(r: &[u8], least: u64) -> u64
+fn waiting(r: &[u8], least: u64) -> u64
     requires { ⌜ length (now r) ≡ 256 ⌝ }
     ensures { λ x. ⌜ x ≡ waitingRow least (decRaw (now (r .entry))) ⌝ }
 {
@@ -204,8 +204,21 @@ pub fn waiting(r: &[u8], least: u64) -> u64
     least
 }
 
-// Lets go what nobody waits for of stream i. While the last reader waits for the oldest event, nothing is let go; it moves
-// last in a run, so most releases end there. Else the least bound of the readers is worked out, once for all held events.
+// Lets go what nobody waits for of stream i, whose last reader is the record before last: the least bound of the readers is worked
+// out once, for all held events.
+pub fn release_below(state: &mut [u8], n: usize, i: usize, last: usize)
+    requires { ⌜ (n * 256 ≤ length (now state)) × (i < n) × (last ≡ lastReader i (decode n (now state) .rows) n) ⌝ }
+    ensures { λ _. ⌜ now (state .exit) ≡ encode n (releasedRow i (decode n (now (state .entry)))) ⌝ }
+{
+    let least = least_reader(state, n, i as u64, last);
+    let w = waiting(layout::row_at(state, i), least);
+    let at = i * layout::RECORD;
+    let end = at + layout::RECORD;
+    queue::drop_below(&mut state[at..end], w);
+}
+
+// Lets go what nobody waits for of stream i. Nothing is let go while nothing is held, or while the last reader waits for the oldest
+// event: in a run that one moves last, so most releases end there.
 pub fn release_row(state: &mut [u8], n: usize, i: usize)
     requires { ⌜ (n * 256 ≤ length (now state)) × (i < n) ⌝ }
     ensures { λ _. ⌜ now (state .exit) ≡ encode n (releasedRow i (decode n (now (state .entry)))) ⌝ }
@@ -215,17 +228,12 @@ pub fn release_row(state: &mut [u8], n: usize, i: usize)
     if count == 0 {
         return;
     }
-    let s = i as u64;
-    let last = last_reader(state, n, s);
+    let last = last_reader(state, n, i as u64);
     let first = layout::stamp_at(r, 0);
     if waits_before(state, n, last, first) {
         return;
     }
-    let least = least_reader(state, n, s, last);
-    let w = waiting(r, least);
-    let at = i * layout::RECORD;
-    let end = at + layout::RECORD;
-    queue::drop_below(&mut state[at..end], w);
+    release_below(state, n, i, last);
 }
 
 // Appends the event (t, v) to stream i, tells its readers, and lets go what nobody waits for.
