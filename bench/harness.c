@@ -324,14 +324,17 @@ static uint32_t fingerprint(const uint8_t *s) {
     return h;
 }
 
-/* 16 readings of stream 0 that all its readers wait for, run to rest, with `moves` moves. An input beside it has nothing there */
-static void space(const char *name, const char *form, unsigned long moves) {
+/* 16 readings of stream 0 that all its readers wait for; after so many moves run to rest, with so many more. An input beside it has
+   nothing there */
+static void space(const char *name, const char *form, uint32_t before, unsigned long moves) {
     static struct plan p;
+    uint32_t made;
     make(&p, name, form);
     if (tessla_load(start, sizeof start, (const uint8_t *)p.text, strlen(p.text)) != 0) fail(p.name);
     for (uint32_t t = 0; t < TESSLA_ROOM; t++)
         if (tessla_offer_reading(start, sizeof start, 0, 3 * t, 5) != 0) fail("offer");
     if (p.inputs > 1 && tessla_offer_progress(start, sizeof start, 1, 3 * TESSLA_ROOM) != 0) fail("progress");
+    if (tessla_run(start, sizeof start, before, &made) != 0 || made != before) fail(p.name);
     if (all_to_rest(&p, 1) != used * moves) fail(p.name);
     if (alone) printf("%s|bytes|%08x|0|0\n", p.name, fingerprint(copies[0]));
 }
@@ -339,10 +342,11 @@ static void space(const char *name, const char *form, unsigned long moves) {
 static void spaces(void) {
     char form[TESSLA_TEXT_LIMIT] = "in";
     for (unsigned i = 0; i < 31; i++) strcat(form, "; neg 0");
-    space("31 readers, one let go at a time", form, 31 * TESSLA_ROOM);
+    space("31 readers, one let go at a time", form, 0, 31 * TESSLA_ROOM);
     strcpy(form, "in; in");
     for (unsigned i = 0; i < 30; i++) strcat(form, "; keep 0 1");
-    space("30 readers, 16 let go at once", form, 30);
+    space("30 readers, 16 let go at once", form, 0, 30);
+    space("30 readers, the move that lets 16 go", form, 29, 1);
 }
 
 /* "harness readers": only the runs in which readers pass held events */
