@@ -36,8 +36,8 @@ pub record SpaceTest : Type 0 where
   pub holds : (M : State) (s : ℕ) → TellsWaiting M s (leastReader s M)
   pub once : (M : State) (s w : ℕ) → w ≤ horizon → TellsWaiting M s w → w ≡ leastReader s M
 
--- "a stream's least reader bound (the horizon if no stream reads it)": the same number by what it is among the bounds, in
--- every state whose bounds are not above the horizon
+-- "a stream's least reader bound", "the horizon if no stream reads it": the same number by what it is among the bounds, in every
+-- state whose bounds are not above the horizon
 pub record LeastBound (M : State) (s w : ℕ) : Type 0 where
   pub least : (r : ℕ) → Reader M s r → w ≤ cellAt M r .bound
   pub one : ((r : ℕ) × Reader M s r × (cellAt M r .bound ≡ w)) ⊎ (((r : ℕ) → Reader M s r → ⊥) × (w ≡ horizon))

@@ -173,13 +173,9 @@ module _ (least : ℕ) (r : Raw) where
       go true = omega arith
       go false = omega arith
 
-  pub waiting-less : (num outF r ≡ 0 → ⊥) → num nextF r < least → waitingRow least r ≡ num nextF r
+  pub waiting-out : (num outF r ≡ 0 → ⊥) → waitingRow least r ≡ min (num nextF r) least
   unfolding waitingRow
-  waiting-less h k = rw (ne-eqb _ _ h) (omega arith)
-
-  pub waiting-else : (num outF r ≡ 0 → ⊥) → least ≤ num nextF r → waitingRow least r ≡ least
-  unfolding waitingRow
-  waiting-else h k = rw (ne-eqb _ _ h) (omega arith)
+  waiting-out h = rw (ne-eqb _ _ h)
 
 -- ---- every leaf keeps the numbers within their widths
 

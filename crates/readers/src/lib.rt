@@ -198,10 +198,7 @@ fn waiting(r: &[u8], least: u64) -> u64
         return least;
     }
     let next = layout::word_at(r, layout::NEXT);
-    if next < least {
-        return next;
-    }
-    least
+    limits::smaller(next, least)
 }
 
 // Lets go what nobody waits for of stream i, whose last reader is the record before last: the least bound of the readers is worked
