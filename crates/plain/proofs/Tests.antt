@@ -26,13 +26,9 @@ use Rattle.readers.specs.Step.{readsRow, leastRow, waitingRow, releasedRow}
 use Rattle.readers.proofs.Leaves.{waiting-le}
 use Rattle.encoding.proofs.Cells.{state-length}
 use Rattle.readers.proofs.States.{least-state, row-bound, row-reader, row-other}
-use Rattle.plain.specs.Free.{heldIn, freeIn}
+use Rattle.plain.specs.Free.{waitsRow, uncollectedRow, heldIn, freeIn}
 
 -- ---- one record
-
--- a record that reads s and whose bound is not above t
-abbrev pub waitsRow : (s t : ℕ) → Raw → Bool
-waitsRow s t r = cond (readsRow s r) (leb (num boundF r) t) false
 
 -- no reader before record i waits
 abbrev pub NoneBefore : (n : ℕ) → List ℕ → (s t i : ℕ) → Type 0
@@ -87,7 +83,7 @@ module _ (least t : ℕ) (r : Raw) where
   pub waits-reader : least ≤ t → waitingRow least r ≤ t
   waits-reader h = let x = waiting-le least r in omega arith
 
-  pub waits-collected : cond (eqb (num outF r) 0) false (leb (num nextF r) t) ≡ true → waitingRow least r ≤ t
+  pub waits-collected : uncollectedRow t r ≡ true → waitingRow least r ≤ t
   unfolding waitingRow
   waits-collected e = go (eqb (num outF r) 0) e
     where
@@ -95,7 +91,7 @@ module _ (least t : ℕ) (r : Raw) where
       go true q = absurd (is-true false q)
       go false q = let x = leb-true (num nextF r) t q in omega arith
 
-  pub nobody-waits : t < least → cond (eqb (num outF r) 0) false (leb (num nextF r) t) ≡ false → t < waitingRow least r
+  pub nobody-waits : t < least → uncollectedRow t r ≡ false → t < waitingRow least r
   unfolding waitingRow
   nobody-waits h e = go (eqb (num outF r) 0) e
     where

@@ -1,20 +1,19 @@
 // The space test done otherwise, for the measurement alone: over all readers for every event, and by the least bound without a
 // shortcut. Both leave the bytes that the engine's release leaves.
 ghost use mathlib.Core.Path.{_≡_};
-ghost use mathlib.Core.Bool.{true, false, cond};
+ghost use mathlib.Core.Bool.{true};
 ghost use Prim.Native.Nat.{_*_, _≤_, _<_};
-ghost use lib.Dec.{leb, eqb};
 ghost use lib.ListN.{length};
 ghost use Rattle.machine.specs.Waiting.{SomeReaderWaits};
-ghost use Rattle.layout.specs.Record.{decRaw, encode, decode, num, outF, boundF, nextF};
+ghost use Rattle.layout.specs.Record.{decRaw, encode, decode};
 ghost use Rattle.encoding.specs.Back.{stateOf};
-ghost use Rattle.readers.specs.Step.{readsRow, releasedRow};
-ghost use Rattle.plain.specs.Free.{heldIn, freeIn};
+ghost use Rattle.readers.specs.Step.{releasedRow};
+ghost use Rattle.plain.specs.Free.{waitsRow, uncollectedRow, heldIn, freeIn};
 
 // Whether a record reads stream s and its bound is not above t.
 fn waits(r: &[u8], s: u64, t: u64) -> bool
     requires { ⌜ length (now r) ≡ 256 ⌝ }
-    ensures { λ x. ⌜ x ≡ cond (readsRow s (decRaw (now (r .entry)))) (leb (num boundF (decRaw (now (r .entry)))) t) false ⌝ }
+    ensures { λ x. ⌜ x ≡ waitsRow s t (decRaw (now (r .entry))) ⌝ }
 {
     let reader = readers::reads(r, s);
     if !reader {
@@ -43,7 +42,7 @@ fn some_waits(state: &[u8], n: usize, s: u64, t: u64) -> bool
 // Whether collection waits for an event at t: the record is an output, and nothing so late is collected.
 fn uncollected(r: &[u8], t: u64) -> bool
     requires { ⌜ length (now r) ≡ 256 ⌝ }
-    ensures { λ x. ⌜ x ≡ cond (eqb (num outF (decRaw (now (r .entry)))) 0) false (leb (num nextF (decRaw (now (r .entry)))) t) ⌝ }
+    ensures { λ x. ⌜ x ≡ uncollectedRow t (decRaw (now (r .entry))) ⌝ }
 {
     let out = layout::byte_at(r, layout::OUT);
     if out == 0 {
