@@ -143,6 +143,20 @@ static void prepare(const struct plan *p, unsigned batch) {
     }
 }
 
+/* every copy of the start to rest: what a move costs, or a whole run. Gives the moves of all copies together */
+static unsigned long all_to_rest(const struct plan *p, int whole) {
+    unsigned long total = 0;
+    uint32_t moves;
+    spread();
+    begin();
+    for (unsigned i = 0; i < used; i++) {
+        tessla_run(copies[i], TESSLA_STATE_LENGTH, 100000, &moves);
+        total += moves;
+    }
+    end(p->name, whole ? "run to rest" : "run to rest, a move", whole ? used : total, p->streams);
+    return total;
+}
+
 static void registered(uint8_t *s, uint32_t at, uint8_t byte) {
     if (tessla_register_write(s, TESSLA_STATE_LENGTH, block, sizeof block, at, byte) != 0) fail("register write");
 }
@@ -215,15 +229,7 @@ static void operations(const struct plan *p) {
             if (tessla_move(copies[i], TESSLA_STATE_LENGTH, order[j]) != 0) fail("move");
     end(p->name, "move", (unsigned long)used * made, p->streams);
 
-    spread();
-    unsigned long total = 0;
-    begin();
-    for (unsigned i = 0; i < used; i++) {
-        tessla_run(copies[i], TESSLA_STATE_LENGTH, 100000, &moves);
-        total += moves;
-    }
-    end(p->name, "run to rest, a move", total, p->streams);
-    if (total != (unsigned long)used * made) fail("run and moves differ");
+    if (all_to_rest(p, 0) != (unsigned long)used * made) fail("run and moves differ");
 
     unsigned long events = 0;
     begin();
@@ -293,20 +299,12 @@ static void windowed(const char *name, const char *form) {
         if (tessla_move(copies[i], TESSLA_STATE_LENGTH, 1) != 0) fail("move");
     end(p.name, "move", used, p.streams);
 
-    spread();
-    unsigned long total = 0;
-    begin();
-    for (unsigned i = 0; i < used; i++) {
-        tessla_run(copies[i], TESSLA_STATE_LENGTH, 100000, &moves);
-        total += moves;
-    }
-    end(p.name, "run to rest, a move", total, p.streams);
+    all_to_rest(&p, 0);
 }
 
 /* a wsum of 64 that is full: one move passes 16 readings, at each of which the sum is out of range */
 static void missing_sums(void) {
     static struct plan p;
-    uint32_t moves;
     make(&p, "MISSING(16)", "in; wsum 0 k64 out");
     if (tessla_load(start, sizeof start, (const uint8_t *)p.text, strlen(p.text)) != 0) fail(p.name);
     for (uint32_t t = 1; t <= 86; t++) {
@@ -315,19 +313,52 @@ static void missing_sums(void) {
         run_to_rest(start);
         collect_all(&p, start);
     }
-    spread();
-    begin();
-    for (unsigned i = 0; i < used; i++) tessla_run(copies[i], TESSLA_STATE_LENGTH, 100000, &moves);
-    end(p.name, "run to rest, a move", used, 16);
-    if (moves != 1) fail("one move past all of them");
+    if (all_to_rest(&p, 0) != used) fail("one move past all of them");
 }
 
-int main(void) {
+static int alone; /* only these runs, and what bytes they leave */
+
+static uint32_t fingerprint(const uint8_t *s) {
+    uint32_t h = 2166136261u;
+    for (unsigned i = 0; i < TESSLA_STATE_LENGTH; i++) h = (h ^ s[i]) * 16777619u;
+    return h;
+}
+
+/* 16 readings of stream 0 that all its readers wait for; after so many moves run to rest, with so many more. An input beside it has
+   nothing there */
+static void space(const char *name, const char *form, uint32_t before, unsigned long moves) {
     static struct plan p;
+    uint32_t made;
+    make(&p, name, form);
+    if (tessla_load(start, sizeof start, (const uint8_t *)p.text, strlen(p.text)) != 0) fail(p.name);
+    for (uint32_t t = 0; t < TESSLA_ROOM; t++)
+        if (tessla_offer_reading(start, sizeof start, 0, 3 * t, 5) != 0) fail("offer");
+    if (p.inputs > 1 && tessla_offer_progress(start, sizeof start, 1, 3 * TESSLA_ROOM) != 0) fail("progress");
+    if (tessla_run(start, sizeof start, before, &made) != 0 || made != before) fail(p.name);
+    if (all_to_rest(&p, 1) != used * moves) fail(p.name);
+    if (alone) printf("%s|bytes|%08x|0|0\n", p.name, fingerprint(copies[0]));
+}
+
+static void spaces(void) {
+    char form[TESSLA_TEXT_LIMIT] = "in";
+    for (unsigned i = 0; i < 31; i++) strcat(form, "; neg 0");
+    space("31 readers, one let go at a time", form, 0, 31 * TESSLA_ROOM);
+    strcpy(form, "in; in");
+    for (unsigned i = 0; i < 30; i++) strcat(form, "; keep 0 1");
+    space("30 readers, 16 let go at once", form, 0, 30);
+    space("30 readers, the move that lets 16 go", form, 29, 1);
+}
+
+/* "harness readers": only the runs in which readers pass held events */
+int main(int words, char **word) {
+    static struct plan p;
+    alone = words > 1 && strcmp(word[1], "readers") == 0;
     used = RUNNING_ON_VALGRIND ? 4 : COPIES;
     copies = malloc(sizeof *copies * COPIES);
     if (!copies) fail("no memory");
     memset(copies, 0, sizeof *copies * COPIES);
+    spaces();
+    if (alone) return 0;
 
     make(&p, "visits", "in; unit; set 1 k0; last 5 0; plus 3 k1; merge 4 2 out");
     operations(&p);

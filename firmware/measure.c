@@ -211,6 +211,27 @@ static void windowed(const char *name, const struct row *rows, uint32_t n) {
     MEASURE("a reading to rest", to_rest(0, 90, 7));
 }
 
+/* 16 readings of stream 0 that all its readers wait for, run to rest after so many moves; an input beside it has nothing there */
+static void space(const char *name, const struct row *rows, uint32_t n, uint32_t before) {
+    uint32_t moves;
+    plan = name;
+    tessla_load(S, text, write_plan(text, rows, n));
+    for (uint32_t t = 0; t < TESSLA_ROOM; t++) tessla_offer_reading(S, 0, 3 * t, 5);
+    if (rows[1].op == IN) tessla_offer_progress(S, 1, 3 * TESSLA_ROOM);
+    tessla_run(S, before, &moves);
+    MEASURE_CALL("run to rest", tessla_run(S, 100000, &moves));
+}
+
+static void spaces(struct row *rows) {
+    rows[0] = (struct row){ .op = IN };
+    for (uint32_t i = 1; i < 32; i++) rows[i] = (struct row){ .op = NEG };
+    space("31 readers, one let go at a time", rows, 32, 0);
+    rows[1] = (struct row){ .op = IN };
+    for (uint32_t i = 2; i < 32; i++) rows[i] = (struct row){ .op = KEEP, .b = 1 };
+    space("30 readers, 16 let go at once", rows, 32, 0);
+    space("30 readers, the move that lets 16 go", rows, 32, 29);
+}
+
 static uint32_t moves_of_run(void) {
     uint32_t moves = 0;
     tessla_run(S, 100000, &moves);
@@ -333,6 +354,7 @@ int main(void) {
         if (i > WMAX) rows[i].a = i - 4;
     }
     measure("32 streams, every operator", rows, 32);
+    spaces(rows);
     signals();
     windows();
     divisions();

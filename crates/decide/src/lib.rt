@@ -159,10 +159,10 @@ fn limit(l: Look) -> u64
         Op::Nil => Bound::HORIZON,
         Op::Unit => Bound::HORIZON,
         Op::One(_, _) => l.abound,
-        Op::Two(_, _, _) => streams::smaller(l.abound, l.bbound),
+        Op::Two(_, _, _) => limits::smaller(l.abound, l.bbound),
         Op::Last(_, _) => l.bbound,
-        Op::Delay(_, _) => streams::smaller(l.bbound + 1, Bound::HORIZON),
-        Op::Signal(_, _, _) => streams::smaller(l.abound, l.bbound),
+        Op::Delay(_, _) => limits::smaller(l.bbound + 1, Bound::HORIZON),
+        Op::Signal(_, _, _) => limits::smaller(l.abound, l.bbound),
         Op::Window(_, _, _) => Bound::HORIZON,
     }
 }
@@ -173,7 +173,7 @@ fn reach(l: Look, a: &[u8], b: &[u8]) -> u64
     ensures { λ r. ⌜ (r ≡ reachIn l (now (a .entry)) (now (b .entry))) × (r ≤ horizon) ⌝ }
 {
     let s = l.stream;
-    let hi = streams::larger(s.bound, limit(l));
+    let hi = limits::larger(s.bound, limit(l));
     let op = s.op;
     match op {
         Op::In => hi,

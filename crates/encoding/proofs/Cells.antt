@@ -6,9 +6,10 @@ use mathlib.Core.List.{List, [], _∷_, map}
 use lib.ListN.{length, take, drop}
 use Rattle.machine.specs.State.{planOf, withPassed}
 use Rattle.operators.specs.Operators.{groupOf, isWindow}
-use Rattle.layout.specs.Record.{Raw, num, opF, flagF}
+use Rattle.layout.specs.Record.{Raw, num, decode, opF, flagF}
+use Rattle.layout.proofs.Laws.{rows-many}
 use Rattle.layout.specs.Windows.{windowLength}
-use Rattle.encoding.specs.Back.{toCell, passedOf, cells}
+use Rattle.encoding.specs.Back.{toCell, passedOf, cells, areaOf, stateOf}
 
 -- of a record that is a window, and of one that is none
 pub cells-window : (r : Raw) (rs : List Raw) (b : List ℕ) → isWindow (groupOf (num opF r)) ≡ true
@@ -39,3 +40,7 @@ cells-length (r ∷ rs) b = go (isWindow (groupOf (num opF r))) refl (cells-leng
     go : (w : Bool) → isWindow (groupOf (num opF r)) ≡ w → length (cells rs (drop windowLength b)) ≡ length rs → length (cells rs b) ≡ length rs → length (cells (r ∷ rs) b) ≡ suc (length rs)
     go true e p q = ap length (cells-window r rs b e) ∙ ap suc p
     go false e p q = ap length (cells-other r rs b e) ∙ ap suc q
+
+pub state-length : (n : ℕ) (s : List ℕ) → length (stateOf n s) ≡ n
+unfolding stateOf
+state-length n s = cells-length (decode n s .rows) (areaOf (decode n s .spare)) ∙ rows-many n s

@@ -63,7 +63,7 @@ fn latest_point(k: Kept, y: u64, o: &[u8], b: &[u8]) -> u64
 {
     let reset = queue::past_latest(b, y);
     let own = queue::past_latest(o, y);
-    streams::larger(k.since, streams::larger(reset, own))
+    limits::larger(k.since, limits::larger(reset, own))
 }
 
 // delay: its latest set point, the first argument's event there, and that just below the bound y.

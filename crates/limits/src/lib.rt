@@ -1,6 +1,6 @@
 // The limits of bounds and queues, each named once, with the type it belongs to. (A plan's are in `operators`.)
 ghost use mathlib.Core.Path.{_≡_};
-ghost use Prim.Native.Nat.{_+_, _≤_, min};
+ghost use Prim.Native.Nat.{_+_, _≤_, min, max};
 ghost use lib.Dec.{leb};
 ghost use Rattle.meaning.specs.Events.{horizon};
 ghost use Rattle.machine.specs.State.{room};
@@ -36,6 +36,20 @@ impl Bound {
     {
         self.stamp <= Bound::HORIZON
     }
+}
+
+// The smaller of two bounds.
+pub fn smaller(x: u64, y: u64) -> u64
+    ensures { λ r. ⌜ r ≡ min x y ⌝ }
+{
+    if x < y { x } else { y }
+}
+
+// The larger of two bounds.
+pub fn larger(x: u64, y: u64) -> u64
+    ensures { λ r. ⌜ r ≡ max x y ⌝ }
+{
+    if x < y { y } else { x }
 }
 
 // The events that a stream holds, of which there is room for 16.

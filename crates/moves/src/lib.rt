@@ -83,7 +83,7 @@ fn window_ahead(state: &[u8], n: usize, i: usize, f: Fold, k: usize, a: usize, y
     ensures next { λ r. ⌜ toNext r ≡ fitRow (folding f) k i y (max y (lookOf (rowAt (decode n (now (state .entry))) a) .bound)) (heldOf (rowAt (decode n (now (state .entry))) a)) (decode n (now (state .entry))) ⌝ }
     ensures known { λ r. ⌜ knownTo r ≤ horizon ⌝ }
 {
-    let hi = streams::larger(y, streams::bound_of(layout::row_at(state, a)));
+    let hi = limits::larger(y, streams::bound_of(layout::row_at(state, a)));
     match sliding::fit(state, n, i, f, k, a, y, hi) {
         Fit::At(t, v) => Next::Event(t, v),
         Fit::Nothing => Next::Silent(hi),
@@ -280,7 +280,7 @@ pub fn move_one(state: &mut [u8], n: usize, i: usize) -> bool
     if stuck(state, n, op, stored) {
         return false;
     }
-    let bound = streams::smaller(stored, Bound::HORIZON);
+    let bound = limits::smaller(stored, Bound::HORIZON);
     let s = streams::complete(row, op, bound);
     let held = layout::byte_at(row, layout::COUNT);
     let next = ahead(state, n, i, s);

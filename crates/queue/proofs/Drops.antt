@@ -1,21 +1,20 @@
 -- An event appended, the slots below a stamp, and what is left when they are dropped.
-use Prim.Native.Nat.{ℕ, zero, suc, _+_, _-_, _^_, _<_, _≤_, min, max}
+use Prim.Native.Nat.{ℕ, zero, suc, _+_, _-_, _^_, _<_, _≤_, min}
 use mathlib.Core.Path.{_≡_, refl, sym, ap, ap₂, _∙_}
 use mathlib.Core.List.{List, [], _∷_}
 use mathlib.Core.Bool.{Bool, true, false, cond}
 use native.Mathlib.Omega.{arith}
 use native.Mathlib.Nat.{sub-zero}
-use native.Mathlib.Decide.{decLt}
 use lib.Dec.{ltb}
 use lib.ListN.{length, getD, drop, take-append-drop}
 use lib.Seq.{drop-cons, set-getD}
 use borrow.Author.Tests.{lt-ltb, le-ltb, ltb-true}
 use Rattle.machine.specs.State.{room}
-use Rattle.layout.specs.Record.{Slot, Raw, noSlot, num, withNum, withSlot, dropped, slotAt, countF, boundF}
+use Rattle.layout.specs.Record.{Slot, Raw, noSlot, num, withNum, withSlot, dropped, countF, boundF}
 use Rattle.layout.proofs.Laws.{RawOk}
 use Rattle.layout.proofs.Slots.{slot-ok}
 use Rattle.layout.proofs.Stores.{stored-ok}
-use Rattle.queue.specs.Queue.{pushed, below, released}
+use Rattle.queue.specs.Queue.{pushed, below, shed, released}
 
 -- ---- an event appended
 
@@ -81,31 +80,21 @@ below-end w n i l e inv =
     omega arith
 
 -- n and m are the count and the held read before the stores
-pub release-is : (w n m k : ℕ) (r : Raw) → n ≡ num countF r → m ≡ min (num countF r) room → k ≡ below w m (r .slots)
-    → released w r ≡ withNum countF (n - k) (dropped k m r)
+pub shed-is : (k n m : ℕ) (r : Raw) → n ≡ num countF r → m ≡ min (num countF r) room → shed k r ≡ withNum countF (n - k) (dropped k m r)
+shed-is k n m r e h = rw (h, e)
+
+pub release-is : (w m k : ℕ) (r : Raw) → m ≡ min (num countF r) room → k ≡ below w m (r .slots) → released w r ≡ shed k r
 unfolding released
-release-is w n m k r e h q = rw (q, h, e)
+release-is w m k r h q = rw (q, h)
 
 pub release-none : (w m : ℕ) (r : Raw) → m ≡ min (num countF r) room → 0 ≡ below w m (r .slots) → released w r ≡ r
 release-none w m r h q =
-    release-is w (num countF r) m 0 r refl h q
+    release-is w m 0 r h q ∙ shed-is 0 (num countF r) m r refl h
     ∙ ap₂ (λ (l : List ℕ) (k : List Slot). record { nums = l; slots = k }) (rw sub-zero (set-getD (r .nums) countF 0)) (take-append-drop m (r .slots))
 
--- below the first stamp f, any two bounds let nothing go
-below-floor : (f w w′ n : ℕ) (l : List Slot) → f ≡ getD l 0 noSlot .stamp → max w f ≡ max w′ f → below w n l ≡ below w′ n l
+-- none below a stamp that is not above the first
+pub below-first : (w n : ℕ) (l : List Slot) → w ≤ getD l 0 noSlot .stamp → below w n l ≡ 0
 unfolding below
-below-floor f w w′ zero l e q = refl
-below-floor f w w′ (suc n) [] e q = refl
-below-floor f w w′ (suc n) (x ∷ l) e q = go (decLt (x .stamp) w)
-  where
-    go : Dec (x .stamp < w) → below w (suc n) (x ∷ l) ≡ below w′ (suc n) (x ∷ l)
-    go (yes h) = let same : w ≡ w′ = omega arith in ap (λ (u : ℕ). below u (suc n) (x ∷ l)) same
-    go (no h) =
-        let low : w ≤ x .stamp = omega arith in
-        let low′ : w′ ≤ x .stamp = omega arith in
-        rw (le-ltb (x .stamp) w low, le-ltb (x .stamp) w′ low′)
-
-pub release-floor : (f w w′ : ℕ) (r : Raw) → f ≡ slotAt 0 r .stamp → max w f ≡ max w′ f → released w r ≡ released w′ r
-unfolding released
-release-floor f w w′ r e q =
-    ap (λ (k : ℕ). withNum countF (num countF r - k) (dropped k (min (num countF r) room) r)) (below-floor f w w′ (min (num countF r) room) (r .slots) e q)
+below-first w zero l h = refl
+below-first w (suc n) [] h = refl
+below-first w (suc n) (e ∷ l) h = rw (le-ltb (e .stamp) w h)

@@ -19,9 +19,10 @@ below w zero l = 0
 below w (suc n) [] = 0
 below w (suc n) (e ∷ l) = cond (ltb (e .stamp) w) (suc (below w n l)) 0
 
+-- without its k oldest held events
+abbrev pub shed : ℕ → Raw → Raw
+shed k r = withNum countF (num countF r - k) (dropped k (min (num countF r) room) r)
+
 unfoldable pub released : ℕ → Raw → Raw
 unfolding below
-released w r =
-    let n = min (num countF r) room in
-    let k = below w n (r .slots) in
-    withNum countF (num countF r - k) (dropped k n r)
+released w r = shed (below w (min (num countF r) room) (r .slots)) r

@@ -11,7 +11,7 @@ ghost use Rattle.layout.specs.Record as layout;
 ghost use Rattle.layout.specs.Record.{encRaw, decRaw};
 ghost use Rattle.encoding.specs.Back.{heldOf};
 ghost use Rattle.queue.specs.Found.{asOption, passed};
-ghost use Rattle.queue.specs.Queue.{pushed, below, released};
+ghost use Rattle.queue.specs.Queue.{pushed, below, shed, released};
 use limits::Bound;
 use limits::Queue;
 
@@ -60,19 +60,28 @@ pub fn first_from(r: &[u8], n: usize, w: u64) -> usize
     n
 }
 
+// Drops the k oldest held events.
+pub fn drop_first(r: &mut [u8], k: usize)
+    requires { ⌜ (length (now r) ≡ 256) × (k ≤ min (layout.num layout.countF (decRaw (now r))) room) ⌝ }
+    ensures { λ _. ⌜ now (r .exit) ≡ encRaw (shed k (decRaw (now (r .entry)))) ⌝ }
+{
+    let n = layout::byte_at(r, layout::COUNT);
+    let m = count(r);
+    layout::drop_slots(r, k, m);
+    layout::put_byte(r, layout::COUNT, n - k as u64);
+}
+
 // Drops the held events below w.
 pub fn drop_below(r: &mut [u8], w: u64)
     requires { ⌜ length (now r) ≡ 256 ⌝ }
     ensures { λ _. ⌜ now (r .exit) ≡ encRaw (released w (decRaw (now (r .entry)))) ⌝ }
 {
-    let n = layout::byte_at(r, layout::COUNT);
     let m = count(r);
     let k = first_from(r, m, w);
     if k == 0 {
         return;
     }
-    layout::drop_slots(r, k, m);
-    layout::put_byte(r, layout::COUNT, n - k as u64);
+    drop_first(r, k);
 }
 
 // The value of the held event at stamp t.

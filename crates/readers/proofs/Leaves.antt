@@ -1,6 +1,6 @@
 -- What each leaf makes of a record: the cases of each definition.
-use Prim.Native.Nat.{ℕ, zero, suc, _+_, _^_, _<_, _≤_}
-use mathlib.Core.Path.{_≡_, refl}
+use Prim.Native.Nat.{ℕ, zero, suc, _+_, _^_, _<_, _≤_, min}
+use mathlib.Core.Path.{_≡_, refl, _∙_}
 use mathlib.Core.List.{map}
 use mathlib.Core.Bool.{Bool, true, false, cond, _||_}
 use native.Mathlib.Omega.{arith}
@@ -21,7 +21,7 @@ use Rattle.readers.specs.Step.{readsRow, toldLast, toldAt, toldValue, to
 
 module _ (s : ℕ) (r : Raw) where
   -- argument after argument
-  pub reads-is : readsRow s r ≡ cond (takesFirst (groupOf (num opF r))) (cond (eqb (num aF r) s) true (cond (takesSecond (groupOf (num opF r))) (eqb (num bF r) s) false)) false
+  reads-is : readsRow s r ≡ cond (takesFirst (groupOf (num opF r))) (cond (eqb (num aF r) s) true (cond (takesSecond (groupOf (num opF r))) (eqb (num bF r) s) false)) false
   unfolding readsRow
   reads-is = go (groupOf (num opF r))
     where
@@ -43,6 +43,37 @@ module _ (s : ℕ) (r : Raw) where
       go Delay = both (eqb (num aF r) s) (eqb (num bF r) s)
       go Signal = both (eqb (num aF r) s) (eqb (num bF r) s)
       go Window = first (eqb (num aF r) s)
+
+  -- s stands in neither place, in the first, in the second alone
+  pub reads-neither : (num aF r ≡ s → ⊥) → (num bF r ≡ s → ⊥) → readsRow s r ≡ false
+  reads-neither h k = reads-is ∙ rw (ne-eqb _ _ h, ne-eqb _ _ k) (go (takesFirst (groupOf (num opF r))) (takesSecond (groupOf (num opF r))))
+    where
+      go : (x y : Bool) → cond x (cond y false false) false ≡ false
+      go true true = refl
+      go true false = refl
+      go false y = refl
+
+  pub reads-first : num aF r ≡ s → readsRow s r ≡ takesFirst (groupOf (num opF r))
+  reads-first h = reads-is ∙ rw (eq-eqb _ _ h) (go (takesFirst (groupOf (num opF r))))
+    where
+      go : (x : Bool) → cond x true false ≡ x
+      go true = refl
+      go false = refl
+
+  -- an operator with a second argument has a first
+  pub reads-second : (num aF r ≡ s → ⊥) → num bF r ≡ s → readsRow s r ≡ takesSecond (groupOf (num opF r))
+  reads-second h k = reads-is ∙ rw (ne-eqb _ _ h, eq-eqb _ _ k) (go (groupOf (num opF r)))
+    where
+      go : (g : Group) → cond (takesFirst g) (cond (takesSecond g) true false) false ≡ takesSecond g
+      go Absent = refl
+      go Input = refl
+      go Plain = refl
+      go One = refl
+      go Two = refl
+      go Last = refl
+      go Delay = refl
+      go Signal = refl
+      go Window = refl
 
   pub last-no : (v : ℕ) → (num aF r ≡ s → ⊥) → toldLast s v r ≡ r
   unfolding toldLast
@@ -113,30 +144,38 @@ module _ (s : ℕ) (r : Raw) where
     unfolding lowered
     lower-no e = rw e
 
-    pub lower-less : readsRow s r ≡ true → num boundF r < acc → lowered s r acc ≡ num boundF r
-    unfolding lowered
-    lower-less e h = rw e (omega arith)
-
     pub lower-le : readsRow s r ≡ true → lowered s r acc ≤ num boundF r
     unfolding lowered
     lower-le e = rw e (omega arith)
 
-    pub lower-else : readsRow s r ≡ true → acc ≤ num boundF r → lowered s r acc ≡ acc
+    pub lower-yes : readsRow s r ≡ true → lowered s r acc ≡ min (num boundF r) acc
     unfolding lowered
-    lower-else e h = rw e (omega arith)
+    lower-yes e = rw e
+
+    pub lowered-le : lowered s r acc ≤ acc
+    unfolding lowered
+    lowered-le = go (readsRow s r)
+      where
+        go : (b : Bool) → cond b (min (num boundF r) acc) acc ≤ acc
+        go true = omega arith
+        go false = omega arith
 
 module _ (least : ℕ) (r : Raw) where
   pub waiting-in : num outF r ≡ 0 → waitingRow least r ≡ least
   unfolding waitingRow
   waiting-in h = simp (eq-eqb _ _ h)
 
-  pub waiting-less : (num outF r ≡ 0 → ⊥) → num nextF r < least → waitingRow least r ≡ num nextF r
+  pub waiting-le : waitingRow least r ≤ least
   unfolding waitingRow
-  waiting-less h k = rw (ne-eqb _ _ h) (omega arith)
+  waiting-le = go (eqb (num outF r) 0)
+    where
+      go : (b : Bool) → cond b least (min (num nextF r) least) ≤ least
+      go true = omega arith
+      go false = omega arith
 
-  pub waiting-else : (num outF r ≡ 0 → ⊥) → least ≤ num nextF r → waitingRow least r ≡ least
+  pub waiting-out : (num outF r ≡ 0 → ⊥) → waitingRow least r ≡ min (num nextF r) least
   unfolding waitingRow
-  waiting-else h k = rw (ne-eqb _ _ h) (omega arith)
+  waiting-out h = rw (ne-eqb _ _ h)
 
 -- ---- every leaf keeps the numbers within their widths
 

@@ -1,13 +1,14 @@
 -- How: the steps of the calls on raw records: total functions of numbers and slots.
-use Prim.Native.Nat.{ℕ, _+_, min}
+use Prim.Native.Nat.{ℕ, zero, suc, _+_, min}
 use mathlib.Core.List.{List, [], _∷_, map}
-use mathlib.Core.Bool.{Bool, cond}
+use mathlib.Core.Bool.{Bool, false, cond}
 use lib.Dec.{leb, ltb, eqb}
+use lib.ListN.{getD}
 use Rattle.meaning.specs.Events.{horizon}
 use Rattle.machine.specs.Step.{anyOf}
 use Rattle.operators.specs.Operators.{groupOf, isLast, isDelay, argumentsOf}
 use Rattle.queue.specs.Queue.{pushed, released}
-use Rattle.layout.specs.Record.{Raw, Raws, num, withNum, rowAt, change, changeAll, opF, aF, bF, outF, flagF, priorFlagF, boundF, nextF, keptF, valueF, priorF}
+use Rattle.layout.specs.Record.{Raw, Raws, noRaw, num, withNum, rowAt, change, changeAll, opF, aF, bF, outF, flagF, priorFlagF, boundF, nextF, keptF, valueF, priorF}
 
 -- whether the record's equation reads stream s
 unfoldable pub readsRow : ℕ → Raw → Bool
@@ -65,6 +66,17 @@ unfoldable pub leastRow : ℕ → List Raw → ℕ
 unfolding lowered
 leastRow s [] = horizon
 leastRow s (r ∷ rs) = lowered s r (leastRow s rs)
+
+-- one past the last of the first n records that reads s, 0 if none does
+unfoldable pub lastReader : ℕ → List Raw → ℕ → ℕ
+unfolding readsRow
+lastReader s rs zero = 0
+lastReader s rs (suc n) = cond (readsRow s (getD rs n noRaw)) (suc n) (lastReader s rs n)
+
+-- whether the record before this one waits for an event at t; before the first there is none
+unfoldable pub waitsBefore : ℕ → ℕ → List Raw → Bool
+waitsBefore zero t rs = false
+waitsBefore (suc i) t rs = leb (num boundF (getD rs i noRaw)) t
 
 -- with collection as one reader more
 unfoldable pub waitingRow : ℕ → Raw → ℕ

@@ -1,31 +1,38 @@
 // One step on bytes: an event appended, the readers told, and what nobody waits for let go.
 ghost use mathlib.Core.Path.{_≡_};
-ghost use Prim.Native.Nat.{_*_, _+_, _≤_, _<_, max};
+ghost use Prim.Native.Nat.{_*_, _+_, _≤_, _<_};
 ghost use lib.ListN.{length};
 ghost use Rattle.layout.specs.Record as layout;
-ghost use Rattle.layout.specs.Record.{encRaw, decRaw, encode, decode, changeAll};
-ghost use Rattle.readers.specs.Step.{readsRow, toldLast, toldAt, setPoint, toldSince, toldDelay, toldRow, leastRow, waitingRow, releasedRow, offered};
+ghost use Rattle.layout.specs.Record.{encRaw, decRaw, encode, decode, changeAll, num, opF};
+ghost use Rattle.operators.specs.Operators.{groupOf};
+ghost use Rattle.machine.specs.Step.{leastReader};
+ghost use Rattle.encoding.specs.Back.{stateOf};
+ghost use Rattle.readers.specs.Step.{readsRow, toldLast, toldAt, setPoint, toldSince, toldDelay, toldRow, lastReader, waitsBefore, waitingRow, releasedRow, offered};
 use limits::Bound;
 use operators::Group;
 
-// Whether a record reads stream s.
+// The group of a record's operator.
+fn group_at(r: &[u8]) -> Group
+    requires { ⌜ length (now r) ≡ 256 ⌝ }
+    ensures { λ x. ⌜ x ≡ groupOf (num opF (decRaw (now (r .entry)))) ⌝ }
+{
+    operators::group_of(layout::byte_at(r, layout::OP))
+}
+
+// Whether a record reads stream s. Most records have s in neither place, and their operator is not looked at.
 pub fn reads(r: &[u8], s: u64) -> bool
     requires { ⌜ length (now r) ≡ 256 ⌝ }
     ensures { λ x. ⌜ x ≡ readsRow s (decRaw (now (r .entry))) ⌝ }
 {
-    let g = operators::group_of(layout::byte_at(r, layout::OP));
-    if !operators::takes_first(g) {
-        return false;
-    }
     let a = layout::byte_at(r, layout::A);
     if a == s {
-        return true;
-    }
-    if !operators::takes_second(g) {
-        return false;
+        return operators::takes_first(group_at(r));
     }
     let b = layout::byte_at(r, layout::B);
-    b == s
+    if b == s {
+        return operators::takes_second(group_at(r));
+    }
+    false
 }
 
 // A last keeps the value of its first argument's event.
@@ -109,8 +116,7 @@ fn tell(r: &mut [u8], s: u64, t: u32, v: u64)
     requires { ⌜ length (now r) ≡ 256 ⌝ }
     ensures { λ _. ⌜ now (r .exit) ≡ encRaw (toldRow s t v (decRaw (now (r .entry)))) ⌝ }
 {
-    let op = layout::byte_at(r, layout::OP);
-    match operators::group_of(op) {
+    match group_at(r) {
         Group::Last => {
             if (t as u64) < layout::word_at(r, layout::BOUND) {
                 tell_last(r, s, v);
@@ -139,26 +145,45 @@ pub fn tell_all(state: &mut [u8], n: usize, s: u64, t: u32, v: u64)
     }
 }
 
-// The least bound of the readers of stream s, the horizon if none of the n records reads it. Where it is not above floor
-// any number up to floor will do, so that the first such reader ends the search.
-fn least_reader(state: &[u8], n: usize, s: u64, floor: u64) -> u64
+// One past the last of the n records that reads stream s; 0 if none does.
+pub fn last_reader(state: &[u8], n: usize, s: u64) -> usize
     requires { ⌜ n * 256 ≤ length (now state) ⌝ }
-    ensures { λ x. ⌜ max x floor ≡ max (leastRow s (decode n (now (state .entry)) .rows)) floor ⌝ }
+    ensures { λ x. ⌜ (x ≡ lastReader s (decode n (now (state .entry)) .rows) n) × (x ≤ n) ⌝ }
 {
-    let mut least = Bound::HORIZON;
     let mut i = n;
     while 0 < i {
-        i -= 1;
-        let r = layout::row_at(state, i);
-        if reads(r, s) {
-            let bound = layout::word_at(r, layout::BOUND);
-            if bound <= floor {
-                return bound;
-            }
-            if bound < least {
-                least = bound;
-            }
+        if reads(layout::row_at(state, i - 1), s) {
+            return i;
         }
+        i -= 1;
+    }
+    0
+}
+
+// Whether the record before record i waits for an event at t. Before the first there is none.
+fn waits_before(state: &[u8], n: usize, i: usize, t: u64) -> bool
+    requires { ⌜ (n * 256 ≤ length (now state)) × (i ≤ n) ⌝ }
+    ensures { λ x. ⌜ x ≡ waitsBefore i t (decode n (now (state .entry)) .rows) ⌝ }
+{
+    if i == 0 {
+        return false;
+    }
+    let bound = layout::word_at(layout::row_at(state, i - 1), layout::BOUND);
+    bound <= t
+}
+
+// The least bound of the readers of stream s, the horizon if no stream reads it: from the last reader, before record last, to the
+// first.
+fn least_reader(state: &[u8], n: usize, s: u64, last: usize) -> u64
+    requires { ⌜ (n * 256 ≤ length (now state)) × (last ≡ lastReader s (decode n (now state) .rows) n) ⌝ }
+    ensures { λ x. ⌜ x ≡ leastReader s (stateOf n (now (state .entry))) ⌝ }
+{
+    let mut least = Bound::HORIZON;
+    let mut i = last;
+    while 0 < i {
+        let bound = layout::word_at(layout::row_at(state, i - 1), layout::BOUND);
+        least = limits::smaller(bound, least);
+        i = last_reader(state, i - 1, s);
     }
     least
 }
@@ -173,13 +198,24 @@ fn waiting(r: &[u8], least: u64) -> u64
         return least;
     }
     let next = layout::word_at(r, layout::NEXT);
-    if next < least {
-        return next;
-    }
-    least
+    limits::smaller(next, least)
 }
 
-// Lets go what nobody waits for of stream i.
+// Lets go what nobody waits for of stream i, whose last reader is the record before last: the least bound of the readers is worked
+// out once, for all held events.
+pub fn release_below(state: &mut [u8], n: usize, i: usize, last: usize)
+    requires { ⌜ (n * 256 ≤ length (now state)) × (i < n) × (last ≡ lastReader i (decode n (now state) .rows) n) ⌝ }
+    ensures { λ _. ⌜ now (state .exit) ≡ encode n (releasedRow i (decode n (now (state .entry)))) ⌝ }
+{
+    let least = least_reader(state, n, i as u64, last);
+    let w = waiting(layout::row_at(state, i), least);
+    let at = i * layout::RECORD;
+    let end = at + layout::RECORD;
+    queue::drop_below(&mut state[at..end], w);
+}
+
+// Lets go what nobody waits for of stream i. Nothing is let go while nothing is held, or while the last reader waits for the oldest
+// event: in a run that one moves last, so most releases end there.
 pub fn release_row(state: &mut [u8], n: usize, i: usize)
     requires { ⌜ (n * 256 ≤ length (now state)) × (i < n) ⌝ }
     ensures { λ _. ⌜ now (state .exit) ≡ encode n (releasedRow i (decode n (now (state .entry)))) ⌝ }
@@ -189,12 +225,12 @@ pub fn release_row(state: &mut [u8], n: usize, i: usize)
     if count == 0 {
         return;
     }
+    let last = last_reader(state, n, i as u64);
     let first = layout::stamp_at(r, 0);
-    let least = least_reader(state, n, i as u64, first);
-    let w = waiting(r, least);
-    let at = i * layout::RECORD;
-    let end = at + layout::RECORD;
-    queue::drop_below(&mut state[at..end], w);
+    if waits_before(state, n, last, first) {
+        return;
+    }
+    release_below(state, n, i, last);
 }
 
 // Appends the event (t, v) to stream i, tells its readers, and lets go what nobody waits for.

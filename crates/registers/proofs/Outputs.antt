@@ -18,7 +18,7 @@ use Rattle.layout.specs.Record.{decode}
 use Rattle.valid.specs.Valid.{count, valid}
 use Rattle.valid.proofs.Link.{count-few}
 use Rattle.roundtrip.specs.In.{stateIn, IsState}
-use Rattle.roundtrip.proofs.Whole.{state-length}
+use Rattle.encoding.proofs.Cells.{state-length}
 use Rattle.offers.specs.Numbers.{collectRaw}
 use Rattle.calls.specs.Reply.{Reply, replyIn, reply}
 use Rattle.calls.proofs.Replies.{collect-stream, collect-k}

@@ -17,7 +17,8 @@ use Rattle.layout.proofs.Laws.{row-at}
 use Rattle.encoding.specs.View.{flag, ofCell, rawsOf}
 use Rattle.valid.specs.Valid.{count, valid}
 use Rattle.roundtrip.specs.In.{stateIn}
-use Rattle.roundtrip.proofs.Whole.{state-length, decoded}
+use Rattle.encoding.proofs.Cells.{state-length}
+use Rattle.roundtrip.proofs.Whole.{decoded}
 use Rattle.refine.proofs.Whole.{row-of}
 use Rattle.calls.specs.Reply.{reply}
 use Rattle.calls.proofs.Answers.{reply-outcome, reply-none}

@@ -18,7 +18,8 @@ use Rattle.valid.specs.declared.Tested.the-variants as Tested
 use Rattle.valid.specs.Valid.{count, valid, tested}
 use Rattle.valid.proofs.Link.{count-few, count-fits}
 use Rattle.roundtrip.specs.In.{stateIn, IsState}
-use Rattle.roundtrip.proofs.Whole.{state-length, decoded, valid-bytes, valid-sound, bytes-valid, bytes-count, bytes-state}
+use Rattle.encoding.proofs.Cells.{state-length}
+use Rattle.roundtrip.proofs.Whole.{decoded, valid-bytes, valid-sound, bytes-valid, bytes-count, bytes-state}
 
 -- what the test of number 15 answers
 pub tested-state : (s : List ℕ) (n : ℕ) → Tested.State n ≡ tested s → IsState s n

@@ -30,7 +30,7 @@ use Rattle.layout.proofs.Windows.{window-len}
 use Rattle.layout.proofs.Laws.{RawOk, RawsOk, raw-len, encode-decode, decode-encode, row-at, rows-many}
 use Rattle.encoding.specs.View.{ofCell, windowsOf, wordsOf, behind, rawsOf, bytesOf}
 use Rattle.encoding.specs.Back.{toCell, cells, areaOf, stateOf}
-use Rattle.encoding.proofs.Cells.{cells-length}
+use Rattle.encoding.proofs.Cells.{state-length}
 use Rattle.encoding.specs.Sound.{SoundCell, Own, Sound}
 use Rattle.encoding.proofs.Widths.{cell-raw}
 use Rattle.valid.specs.Valid.{rowOk, allRows, streamsIn, count, planIn, windowsIn, areaOk, windowsOk, tailOk, valid}
@@ -74,10 +74,6 @@ valid-facts s e =
       area = right w x t₁;
       acyclic = right (z && (w && x)) f e₂;
     }
-
-pub state-length : (n : ℕ) (s : List ℕ) → length (stateOf n s) ≡ n
-unfolding stateOf
-state-length n s = cells-length (decode n s .rows) (areaOf (decode n s .spare)) ∙ rows-many n s
 
 -- what holds at every index holds of every record
 all-raws : (P : Raw → Type 0) (l : List Raw) → ((i : ℕ) → i < length l → P (getD l i noRaw)) → All P l

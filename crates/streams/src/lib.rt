@@ -154,24 +154,12 @@ pub fn second(op: Op) -> u8
     }
 }
 
-pub fn smaller(x: u64, y: u64) -> u64
-    ensures { λ r. ⌜ r ≡ min x y ⌝ }
-{
-    if x < y { x } else { y }
-}
-
-pub fn larger(x: u64, y: u64) -> u64
-    ensures { λ r. ⌜ r ≡ max x y ⌝ }
-{
-    if x < y { y } else { x }
-}
-
 // The bound of a record, at most the horizon.
 pub fn bound_of(r: &[u8]) -> u64
     requires { ⌜ length (now r) ≡ 256 ⌝ }
     ensures { λ x. ⌜ (x ≡ lookOf (decRaw (now (r .entry))) .bound) × (x ≤ horizon) ⌝ }
 {
-    smaller(layout::word_at(r, layout::BOUND), Bound::HORIZON)
+    limits::smaller(layout::word_at(r, layout::BOUND), Bound::HORIZON)
 }
 
 // The operator of a record: ranges of the stored number choose the group, and only what the group uses is read.
@@ -275,7 +263,7 @@ fn kept_at(r: &[u8], op: Op, bound: u64) -> Kept
             latest(prev, Found::Nothing)
         }
         Op::Delay(_, _) => {
-            let since = smaller(layout::word_at(r, layout::KEPT), bound);
+            let since = limits::smaller(layout::word_at(r, layout::KEPT), bound);
             let value = value_at(r, layout::FLAG, layout::VALUE);
             let prior = value_at(r, layout::PRIOR_FLAG, layout::PRIOR);
             Kept {

@@ -1,5 +1,5 @@
-//! What docs/MANUAL.md shows: each operator's example, each row of the timer's table and each write to the registers, read from
-//! the page itself, and the table from TeSSLa's usual operators by hand.
+//! What docs/MANUAL.md shows: each operator's example, each row of the tables of timers, signals and windows and each write to the
+//! registers, read from the page itself, and the table from TeSSLa's usual operators by hand.
 
 use host::engine::{engines, Call, Engine, BLOCK_LENGTH, STATE_LENGTH};
 use host::evaluator::HORIZON;
@@ -100,32 +100,38 @@ fn each_row_of_the_timers_table() {
     assert_eq!(rows, 5);
 }
 
+/// The columns of the page's table with this head, from the second on, as events at the stamps in the first. A cell that is
+/// no whole number is no event.
+fn columns<const N: usize>(head: [&str; N], rows: usize) -> [Events; N] {
+    let page = page();
+    let table = page.split(&format!("| stamp | {} |\n", head.join(" | "))).nth(1).unwrap_or_else(|| panic!("no table {head:?}"));
+    let lines: Vec<Vec<&str>> = table.lines().skip(1).take_while(|line| line.starts_with('|')).map(|line| line.split('|').map(str::trim).collect()).collect();
+    assert_eq!(lines.len(), rows, "{head:?}");
+    std::array::from_fn(|i| {
+        let cells = lines.iter().map(|line| (line[1].parse().unwrap(), line[i + 2]));
+        cells.filter_map(|(t, cell): (u32, &str)| Some((t, cell.parse().ok()?))).collect()
+    })
+}
+
 #[test]
 fn each_row_of_the_signals_table() {
-    let page = page();
-    let table = page.split("| stamp | w | m | `lt w m` | `slt w m` | why |").nth(1).expect("the signals' table");
-    let (mut columns, mut rows) = ([const { Events::new() }; 4], 0);
-    for line in table.lines().skip(2).take_while(|line| line.starts_with('|')) {
-        let cells: Vec<&str> = line.split('|').map(str::trim).collect();
-        for (column, cell) in columns.iter_mut().zip(&cells[2..6]).filter(|(_, cell)| !cell.is_empty()) {
-            column.push((cells[1].parse().unwrap(), cell.parse().unwrap()));
-        }
-        rows += 1;
-    }
-    let [w, m, both, signal] = columns;
+    let [w, m, both, signal, _why] = columns(["w", "m", "`lt w m`", "`slt w m`", "why"], 5);
+    assert_eq!((w.len(), m.len()), (3, 3));
     check("in; in; lt 0 1 out", &[w.clone(), m.clone()], &both);
     check("in; in; slt 0 1 out", &[w, m], &signal);
-    assert_eq!(rows, 5);
 }
 
 /// Of the last three: the mean, by their sum and how many they are, the least, the greatest and the spread.
 #[test]
-fn the_last_few_by_windows() {
-    let x = || events("300@1 310@2 305@3 330@4 299@9");
-    check("in; wsum 0 k3; set 0 k1; wsum 2 k3; div 1 3 out", &[x()], &events("300@1 305@2 305@3 315@4 311@9"));
-    check("in; wsum 0 k3; set 0 k1; wsum 2 k3 out", &[x()], &events("1@1 2@2 3@3 3@4 3@9"));
-    check("in; wmin 0 k3 out", &[x()], &events("300@1 300@2 300@3 305@4 299@9"));
-    check("in; wmin 0 k3; wmax 0 k3; sub 2 1 out", &[x()], &events("0@1 10@2 10@3 25@4 31@9"));
+fn each_row_of_the_windows_table() {
+    let [x, sum, many, _exactly, mean, least, greatest, spread] = columns(["x", "sum s", "how many n", "exactly", "`div s n`", "least", "greatest", "spread"], 5);
+    assert_eq!(x.len(), 5);
+    check("in; wsum 0 k3 out", &[x.clone()], &sum);
+    check("in; set 0 k1; wsum 1 k3 out", &[x.clone()], &many);
+    check("in; wsum 0 k3; set 0 k1; wsum 2 k3; div 1 3 out", &[x.clone()], &mean);
+    check("in; wmin 0 k3 out", &[x.clone()], &least);
+    check("in; wmax 0 k3 out", &[x.clone()], &greatest);
+    check("in; wmin 0 k3; wmax 0 k3; sub 2 1 out", &[x], &spread);
 }
 
 #[test]

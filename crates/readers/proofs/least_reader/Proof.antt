@@ -1,13 +1,9 @@
-use Prim.Native.Nat.{ℕ, _-_, _≤_, max}
-use mathlib.Core.Path.{_≡_, refl, sym, ap, _∙_}
-use mathlib.Core.Bool.{true, false}
+use mathlib.Core.Path.{_∙_}
 use lib.Dec.{lit≤}
-use lib.ListN.{drop}
 use denote.Ref.{now}
-use Rattle.layout.specs.Record.{decRaw, decode, num, boundF}
-use Rattle.readers.specs.Step.{readsRow, lowered, leastRow}
-use Rattle.readers.proofs.Leaves
+use Rattle.readers.proofs.Rounds.{Downward}
 use Rattle.readers.proofs.Rounds
+use Rattle.readers.proofs.States
 use borrow.Author.Needs.{needs}
 use native.Mathlib.Omega.{arith}
 use Rattle.readers.proofs.least_reader.Statement.{statement}
@@ -16,52 +12,44 @@ use Rattle.readers.proofs.least_reader.Reads as reads
 use Rattle.readers.proofs.least_reader.Lts as lts
 use Rattle.layout.proofs.row_at.Reads as row-at-reads
 use Rattle.layout.proofs.word_at.Reads as word-at-reads
-use Rattle.readers.proofs.reads.Reads as reads-reads
+use Rattle.limits.proofs.smaller.Reads as smaller-reads
+use Rattle.readers.proofs.last_reader.Reads as last-reader-reads
 
 abbrev Inv-loop : tie.InvT-loop
-Inv-loop state n s floor least₀ i₀ least i = (i ≤ n) × (least ≡ leastRow s (drop i (decode n state .rows)))
+Inv-loop state n s last least₀ i₀ least i = Downward s n state least i
 
 abbrev μ-loop : tie.MeasureT-loop
-μ-loop state n s floor least₀ i₀ least i = i
+μ-loop state n s last least₀ i₀ least i = i
 
 loop-holds : tie.Need-loop-holds Inv-loop μ-loop
-loop-holds c = let a = c .before .args in (omega arith, Rounds.least-start (a .s) (a .n) (now (a .state)))
+loop-holds c = let a = c .before .args in Rounds.down-start (a .s) (a .n) (a .last) (now (a .state)) (c .before .pre .1)
 
-sub-i : tie.Need-sub-i Inv-loop μ-loop
-sub-i c = omega arith
+sub-row-at : tie.Need-sub-row-at Inv-loop μ-loop
+sub-row-at c = omega arith
 
 row-at-requires : tie.Need-row-at-requires Inv-loop μ-loop
-row-at-requires c κs = omega arith
-
-reads-requires : tie.Need-reads-requires Inv-loop μ-loop
-reads-requires c κs = c .row-at .ensures .1
+row-at-requires c κs = let f = c .before .loop .inv .few in omega arith
 
 word-at-requires : tie.Need-word-at-requires Inv-loop μ-loop
-word-at-requires c κs = (c .before .before .row-at .ensures .1, lit≤ tt)
+word-at-requires c κs = (c .row-at .ensures .1, lit≤ tt)
 
-returns : tie.Need-returns Inv-loop μ-loop
-returns c = let a = c .before .before .before .before .before .before .before .before .args in let l = c .before .before .before .before .before .before .loop in let q = now (c .before .before .before .before .row-at .result) in let r = decRaw q in let yes : readsRow (a .s) r ≡ true = sym (c .before .before .before .reads .ensures) ∙ c .before .before .if1 .taken in let b : c .before .word-at .result ≡ num boundF r = c .before .word-at .ensures in let low = Leaves.lower-le (a .s) r (l .least) yes in Rounds.least-floor (a .s) (a .n) (c .before .word-at .result) (lowered (a .s) r (l .least)) (a .floor) (l .i - 1) (now (a .state)) (Rounds.least-turn (a .s) (a .n) (l .least) (lowered (a .s) r (l .least)) (now (a .state)) q (l .i) (omega arith) (omega arith) (c .before .before .before .before .row-at .ensures .0) (l .inv .1) refl) (omega arith) (omega arith)
+smaller-requires : tie.Need-smaller-requires Inv-loop μ-loop
+smaller-requires c κs = tt
+
+sub-last-reader : tie.Need-sub-last-reader Inv-loop μ-loop
+sub-last-reader c = omega arith
+
+last-reader-requires : tie.Need-last-reader-requires Inv-loop μ-loop
+last-reader-requires c κs = let f = c .before .before .before .before .loop .inv .few in omega arith
 
 loop-less : tie.Need-loop-less Inv-loop μ-loop
-loop-less c = omega arith
+loop-less c = let x = c .last-reader .ensures .1 in omega arith
 
 loop-again : tie.Need-loop-again Inv-loop μ-loop
-loop-again c = let a = c .before .before .before .before .before .before .before .before .before .args in let l = c .before .before .before .before .before .before .before .loop in let q = now (c .before .before .before .before .before .row-at .result) in let r = decRaw q in let yes : readsRow (a .s) r ≡ true = sym (c .before .before .before .before .reads .ensures) ∙ c .before .before .before .if1 .taken in let b : c .before .before .word-at .result ≡ num boundF r = c .before .before .word-at .ensures in (omega arith, (Rounds.least-turn (a .s) (a .n) (l .least) (c .before .before .word-at .result) (now (a .state)) q (l .i) (omega arith) (omega arith) (c .before .before .before .before .before .row-at .ensures .0) (l .inv .1) (b ∙ sym (Leaves.lower-less (a .s) r (l .least) yes (omega arith)))))
+loop-again c = let a = c .before .before .before .before .before .before .before .args in let l = c .before .before .before .before .before .loop in Rounds.down-turn (a .s) (a .n) (l .least) (c .before .smaller .result) (c .before .before .word-at .result) (l .i) (c .last-reader .result) (now (a .state)) (now (c .before .before .before .row-at .result)) (l .inv) (omega arith) (c .before .before .before .row-at .ensures .0) (c .before .before .word-at .ensures) (c .before .smaller .ensures) (c .last-reader .ensures .0)
 
-loop-less-2 : tie.Need-loop-less-2 Inv-loop μ-loop
-loop-less-2 c = omega arith
-
-loop-again-2 : tie.Need-loop-again-2 Inv-loop μ-loop
-loop-again-2 c = let a = c .before .before .before .before .before .before .before .before .before .args in let l = c .before .before .before .before .before .before .before .loop in let q = now (c .before .before .before .before .before .row-at .result) in let r = decRaw q in let yes : readsRow (a .s) r ≡ true = sym (c .before .before .before .before .reads .ensures) ∙ c .before .before .before .if1 .taken in let b : c .before .before .word-at .result ≡ num boundF r = c .before .before .word-at .ensures in (omega arith, (Rounds.least-turn (a .s) (a .n) (l .least) (l .least) (now (a .state)) q (l .i) (omega arith) (omega arith) (c .before .before .before .before .before .row-at .ensures .0) (l .inv .1) (sym (Leaves.lower-else (a .s) r (l .least) yes (omega arith)))))
-
-loop-less-3 : tie.Need-loop-less-3 Inv-loop μ-loop
-loop-less-3 c = omega arith
-
-loop-again-3 : tie.Need-loop-again-3 Inv-loop μ-loop
-loop-again-3 c = let a = c .before .before .before .before .before .before .args in let l = c .before .before .before .before .loop in let q = now (c .before .before .row-at .result) in let r = decRaw q in let no : readsRow (a .s) r ≡ false = sym (c .before .reads .ensures) ∙ c .if1 .left in (omega arith, (Rounds.least-turn (a .s) (a .n) (l .least) (l .least) (now (a .state)) q (l .i) (omega arith) (omega arith) (c .before .before .row-at .ensures .0) (l .inv .1) (sym (Leaves.lower-no (a .s) r (l .least) no))))
-
-returns-2 : tie.Need-returns-2 Inv-loop μ-loop
-returns-2 c = let a = c .before .before .before .args in let l = c .before .loop in ap (λ (x : ℕ). max x (a .floor)) (Rounds.least-end (a .s) (a .n) (l .least) (now (a .state)) (l .i) (omega arith) (l .inv .1))
+returns : tie.Need-returns Inv-loop μ-loop
+returns c = let a = c .before .before .before .args in let l = c .before .loop in Rounds.down-end (a .s) (a .n) (l .least) (l .i) (now (a .state)) (l .inv) (omega arith) ∙ States.least-state (a .s) (a .n) (now (a .state))
 
 pub least-reader-spec : {M : Type 1} → statement M
 least-reader-spec =
@@ -70,15 +58,12 @@ least-reader-spec =
     Inv-loop
     μ-loop
     loop-holds
-    sub-i
+    sub-row-at
     row-at-requires
-    reads-requires
     word-at-requires
-    returns
+    smaller-requires
+    sub-last-reader
+    last-reader-requires
     loop-less
     loop-again
-    loop-less-2
-    loop-again-2
-    loop-less-3
-    loop-again-3
-    returns-2)
+    returns)
