@@ -47,6 +47,20 @@ digits-most (suc f) n =
     (λ k. rw (digit-one f n k) (omega arith))
     (λ k. rw (digit-more f n k, length-append (digits f (n / 10)) ((48 + n % 10) ∷ [])) (omega (arith, digits-most f (n / 10))))
 
+pub digits-more-length : (most n : ℕ) → 0 < most → 10 ≤ n → length (digits most n) ≡ length (digits (most - 1) (n / 10)) + 1
+digits-more-length most n h k =
+    let e : most ≡ suc (most - 1) = omega arith in
+    ap (λ (f : ℕ). length (digits f n)) e ∙ ap length (digit-more (most - 1) n k) ∙ length-append (digits (most - 1) (n / 10)) ((48 + n % 10) ∷ [])
+
+pub digits-one-length : (most n : ℕ) → 0 < most → n < 10 → length (digits most n) ≡ 1
+digits-one-length most n h k =
+    let e : most ≡ suc (most - 1) = omega arith in
+    ap (λ (f : ℕ). length (digits f n)) e ∙ ap length (digit-one (most - 1) n k)
+
+pub digits-no-length : (most n : ℕ) → most ≡ 0 → length (digits most n) ≡ 0
+unfolding digits
+digits-no-length most n e = ap (λ (f : ℕ). length (digits f n)) e
+
 module _ (l : List ℕ) (at n most : ℕ) where
   pub digits-end : most ≡ 0 → Put l at (digits most n) at l
   unfolding digits
@@ -69,16 +83,19 @@ value-most (pos n) = omega (arith, digits-most mostDigits n)
 value-most (negsuc n) = omega (arith, digits-most mostDigits (suc n))
 
 -- a value by its bits
-module _ (v : ℤ) (f : SFits w64 v) (u : ℕ) (e : u ≡ ofZ w64 v) where
-  pub value-plain : u < 2 ^ 63 → decimal u ≡ valueText v
-  value-plain h = ap valueText (sym (toZ-pos w64 {n = u} h) ∙ ap (toZ w64) e ∙ toZ-ofZ f)
+pub value-plain : (u : ℕ) → u < 2 ^ 63 → decimal u ≡ valueText (toZ w64 u)
+value-plain u h = ap valueText (sym (toZ-pos w64 {n = u} h))
 
-  pub value-minus : 2 ^ 63 ≤ u → u < 2 ^ 64 → 45 ∷ decimal (18446744073709551615 - u + 1) ≡ valueText v
-  value-minus h k =
-      let n = 18446744073709551615 - u in
-      let b : 2 ^ 64 - suc n ≡ u = omega arith in
-      let s : n + 1 ≡ suc n = omega arith in
-      rw s (ap valueText (sym (toZ-neg w64 n (omega arith)) ∙ ap (toZ w64) (b ∙ e) ∙ toZ-ofZ f))
+pub value-minus : (u : ℕ) → 2 ^ 63 ≤ u → u < 2 ^ 64 → 45 ∷ decimal (18446744073709551615 - u + 1) ≡ valueText (toZ w64 u)
+value-minus u h k =
+    let n = 18446744073709551615 - u in
+    let b : 2 ^ 64 - suc n ≡ u = omega arith in
+    let s : n + 1 ≡ suc n = omega arith in
+    rw s (ap valueText (sym (toZ-neg w64 n (omega arith)) ∙ ap (toZ w64) b))
+
+-- the bits of a value, taken out of a local and put into another
+pub bits-of : (v : ℤ) → SFits w64 v → (u : ℕ) → u ≡ ofZ w64 (toZ w64 (ofZ w64 v)) → toZ w64 u ≡ v
+bits-of v f u e = ap (toZ w64) (e ∙ ap (ofZ w64) (toZ-ofZ f)) ∙ toZ-ofZ f
 
 -- what a buffer starts with once bytes were put at the end of it
 pub put-take : {l : List ℕ} {at : ℕ} {w : List ℕ} {r : ℕ} {m : List ℕ} → Put l at w r m → at + length w ≤ length l → take r m ≡ take at l ++ w

@@ -1,8 +1,11 @@
-// Bytes, words, numbers and values in decimal, put into a lent buffer.
+// Bytes, words, numbers and values in decimal, put into a lent buffer, and how long they are.
 ghost use mathlib.Core.List.{[], _∷_};
+ghost use mathlib.Core.Path.{_≡_};
 ghost use Prim.Native.Nat.{_+_, _<_, _≤_};
 ghost use lib.ListN.{length};
-ghost use Rattle.decimal.specs.Decimal.{mostDigits, digits, decimal, valueText};
+ghost use mir.Syntax.{w64};
+ghost use mir.Val.{toZ};
+ghost use Rattle.decimal.specs.Decimal.{digits, decimal, valueText};
 ghost use Rattle.decimal.specs.Put.{Put};
 
 // The most digits that a number of a text has.
@@ -34,7 +37,7 @@ pub fn put_word(out: &mut [u8], at: usize, word: &[u8]) -> usize
 
 // Puts the digits of n, of which there are at most `most`: those of its tenth, and then its last.
 fn put_digits(out: &mut [u8], at: usize, n: u64, most: usize) -> usize
-    requires { ⌜ at + most ≤ length (now out) ⌝ }
+    requires { ⌜ at + length (digits most n) ≤ length (now out) ⌝ }
     ensures { λ r. ⌜ Put (now (out .entry)) at (digits most n) r (now (out .exit)) ⌝ }
 {
     if most == 0 {
@@ -49,21 +52,58 @@ fn put_digits(out: &mut [u8], at: usize, n: u64, most: usize) -> usize
 
 // Puts a number in decimal.
 pub fn put_number(out: &mut [u8], at: usize, n: u64) -> usize
-    requires { ⌜ at + mostDigits ≤ length (now out) ⌝ }
+    requires { ⌜ at + length (decimal n) ≤ length (now out) ⌝ }
     ensures { λ r. ⌜ Put (now (out .entry)) at (decimal n) r (now (out .exit)) ⌝ }
 {
     put_digits(out, at, n, MOST_DIGITS)
 }
 
-// Puts a value in decimal, a minus sign before it if it is below 0.
-pub fn put_value(out: &mut [u8], at: usize, v: i64) -> usize
-    requires { ⌜ at + mostDigits < length (now out) ⌝ }
-    ensures { λ r. ⌜ Put (now (out .entry)) at (valueText v) r (now (out .exit)) ⌝ }
+// Puts a value in decimal, given by its bits in two's complement, a minus sign before it if it is below 0.
+pub fn put_bits(out: &mut [u8], at: usize, u: u64) -> usize
+    requires { ⌜ at + length (valueText (toZ w64 u)) ≤ length (now out) ⌝ }
+    ensures { λ r. ⌜ Put (now (out .entry)) at (valueText (toZ w64 u)) r (now (out .exit)) ⌝ }
 {
-    let u = num::bits(v);
     if u < 0x8000_0000_0000_0000 {
         return put_number(out, at, u);
     }
     let p = put_byte(out, at, b'-');
     put_number(out, p, u64::MAX - u + 1)
+}
+
+// Puts a value in decimal.
+pub fn put_value(out: &mut [u8], at: usize, v: i64) -> usize
+    requires { ⌜ at + length (valueText v) ≤ length (now out) ⌝ }
+    ensures { λ r. ⌜ Put (now (out .entry)) at (valueText v) r (now (out .exit)) ⌝ }
+{
+    put_bits(out, at, num::bits(v))
+}
+
+// How many digits n has, at most `most`.
+fn digits_length(n: u64, most: usize) -> usize
+    ensures { λ r. ⌜ r ≡ length (digits most n) ⌝ }
+{
+    if most == 0 {
+        return 0;
+    }
+    if n < 10 {
+        return 1;
+    }
+    digits_length(n / 10, most - 1) + 1
+}
+
+// How many bytes a number has in decimal.
+pub fn number_length(n: u64) -> usize
+    ensures { λ r. ⌜ r ≡ length (decimal n) ⌝ }
+{
+    digits_length(n, MOST_DIGITS)
+}
+
+// How many bytes a value has in decimal, given by its bits.
+pub fn bits_length(u: u64) -> usize
+    ensures { λ r. ⌜ r ≡ length (valueText (toZ w64 u)) ⌝ }
+{
+    if u < 0x8000_0000_0000_0000 {
+        return number_length(u);
+    }
+    number_length(u64::MAX - u + 1) + 1
 }

@@ -1,5 +1,5 @@
--- `printer::put_digits` meets its contract.
-use Rattle.decimal.proofs.Puts.{put-length, digits-most, digits-end, digits-last, digits-go}
+-- `decimal::put_digits` meets its contract.
+use Rattle.decimal.proofs.Puts.{put-length, digits-one-length, digits-more-length, digits-end, digits-last, digits-go}
 use mathlib.Core.Path.{_∙_}
 use Prim.Native.Nat.{ℕ, _-_, _/_, _<_}
 use denote.Ref.{now}
@@ -55,7 +55,7 @@ put-digits-put-byte-requires : (t : ℕ) → put-digits-lts.Need-put-byte-requir
   put-digits-below t,
   put-digits.Post,
 ) (put-digits-at t) put-digits.Post
-put-digits-put-byte-requires t c κs = omega arith
+put-digits-put-byte-requires t c κs = omega (arith, digits-one-length (c .before .before .before .before .args .most) (c .before .before .before .before .args .n) (omega arith) (omega arith))
 
 put-digits-same-length : (t : ℕ) → put-digits-lts.Need-same-length (
   put-byte-reads.Asked,
@@ -87,7 +87,7 @@ put-digits-put-digits-requires : (t : ℕ) → put-digits-lts.Need-put-digits-re
   put-digits-below t,
   put-digits.Post,
 ) (put-digits-at t) put-digits.Post
-put-digits-put-digits-requires t c κs = omega arith
+put-digits-put-digits-requires t c κs = omega (arith, digits-more-length (c .before .before .before .before .args .most) (c .before .before .before .before .args .n) (omega arith) (omega arith))
 
 put-digits-cast-put-byte-2 : (t : ℕ) → put-digits-lts.Need-cast-put-byte-2 (
   put-byte-reads.Asked,
@@ -111,7 +111,7 @@ put-digits-put-byte-requires-2 : (t : ℕ) → put-digits-lts.Need-put-byte-requ
   put-digits-below t,
   put-digits.Post,
 ) (put-digits-at t) put-digits.Post
-put-digits-put-byte-requires-2 t c κs = omega (arith, c .before .before .before .put-digits .ensures .past, digits-most (c .before .before .before .before .before .before .before .before .args .most - 1) (c .before .before .before .before .before .before .before .before .args .n / 10), put-length (c .before .before .before .put-digits .ensures))
+put-digits-put-byte-requires-2 t c κs = omega (arith, c .before .before .before .put-digits .ensures .past, digits-more-length (c .before .before .before .before .before .before .before .before .args .most) (c .before .before .before .before .before .before .before .before .args .n) (omega arith) (omega arith), put-length (c .before .before .before .put-digits .ensures))
 
 put-digits-same-length-2 : (t : ℕ) → put-digits-lts.Need-same-length-2 (
   put-byte-reads.Asked,

@@ -1,0 +1,33 @@
+-- What the call answers, case by case, and that a refusal leaves the buffer.
+use Prim.Native.Nat.{ℕ, zero, suc, _+_, _<_, _≤_}
+use mathlib.Core.Path.{_≡_, refl, sym, ap, _∙_}
+use mathlib.Core.Bool.{Bool, true, false, cond}
+use mathlib.Core.List.{List, [], _∷_, _++_}
+use native.Mathlib.Omega.{arith}
+use lib.Dec.{ltb}
+use lib.ListN.{length, take, drop}
+use lib.Seq.{sets, sets-eq}
+use borrow.Author.Tests.{lt-ltb, le-ltb}
+use Rattle.valid.specs.Valid.{valid}
+use Rattle.writing.specs.Text.{TextReply, noText, textThere, given, textIn, planText}
+
+module _ (w b : List ℕ) where
+  pub given-short : length b < length w → given w b ≡ noText 19 b
+  unfolding given
+  given-short h = rw (lt-ltb (length b) (length w) h)
+
+  pub given-there : length w ≤ length b → given w b ≡ textThere w b
+  unfolding given
+  given-there h = rw (le-ltb (length b) (length w) h)
+
+  -- put at the start
+  pub there-put : length w ≤ length b → sets b 0 w ≡ textThere w b .buffer
+  there-put h = let z : 0 + length w ≡ length w = omega arith in sets-eq w b 0 (omega arith) ∙ ap (λ (j : ℕ). w ++ drop j b) z
+
+pub text-state : (s b : List ℕ) → valid s ≡ true → planText s b ≡ given (textIn s) b
+unfolding planText
+text-state s b e = rw e
+
+pub text-none : (s b : List ℕ) → valid s ≡ false → planText s b ≡ noText 15 b
+unfolding planText
+text-none s b e = rw e
