@@ -31,3 +31,39 @@ text-state s b e = rw e
 pub text-none : (s b : List ℕ) → valid s ≡ false → planText s b ≡ noText 15 b
 unfolding planText
 text-none s b e = rw e
+
+-- ---- a refusal leaves the buffer
+
+abbrev Leaves : TextReply → List ℕ → Type 0
+Leaves r b = (r .number ≡ 0 → ⊥) → (r .length ≡ 0) × (r .buffer ≡ b)
+
+given-leaves : (w b : List ℕ) → Leaves (given w b) b
+unfolding given
+given-leaves w b = go (ltb (length b) (length w))
+  where
+    go : (x : Bool) → Leaves (cond x (noText 19 b) (textThere w b)) b
+    go true h = (refl, refl)
+    go false h = absurd (h refl)
+
+pub text-refused : (s b : List ℕ) → (planText s b .number ≡ 0 → ⊥) → (planText s b .length ≡ 0) × (planText s b .buffer ≡ b)
+unfolding planText
+text-refused s b = go (valid s)
+  where
+    go : (x : Bool) → Leaves (cond x (given (textIn s) b) (noText 15 b)) b
+    go true h = given-leaves (textIn s) b h
+    go false h = (refl, refl)
+
+-- ---- a text that was written
+
+-- 0 is said of a state whose text the buffer has room for
+pub text-written : (s b : List ℕ) → planText s b .number ≡ 0 → (valid s ≡ true) × (planText s b ≡ textThere (textIn s) b)
+unfolding planText given
+text-written s b = go (valid s) refl
+  where
+    fits : (x : Bool) → cond x (noText 19 b) (textThere (textIn s) b) .number ≡ 0 → cond x (noText 19 b) (textThere (textIn s) b) ≡ textThere (textIn s) b
+    fits true e = absurd (omega arith)
+    fits false e = refl
+
+    go : (x : Bool) → valid s ≡ x → cond x (given (textIn s) b) (noText 15 b) .number ≡ 0 → (x ≡ true) × (cond x (given (textIn s) b) (noText 15 b) ≡ textThere (textIn s) b)
+    go true v e = (refl, fits (ltb (length b) (length (textIn s))) e)
+    go false v e = absurd (omega arith)
