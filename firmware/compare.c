@@ -97,14 +97,14 @@ static uint32_t collect(uint32_t s) {
     return note(COLLECT, number, t, (uint64_t)v);
 }
 
+static uint64_t given; /* the length of the last text that came back */
 /* into so many bytes of a page that holds something else than text, the same before each call */
-static uint64_t text_length;
 static uint8_t mark_at(uint32_t i) { return (uint8_t)(0x80 | i); }
 static uint32_t plan_text(uint64_t bytes) {
     for (uint32_t i = 0; i < sizeof page; i++) page[i] = mark_at(i);
-    text_length = 0xA5A5A5A5A5A5A5A5;
-    uint32_t number = tessla_plan_text(state, length, back, bytes, &text_length);
-    return note(TEXT, number, bytes, text_length);
+    given = 0xA5A5A5A5A5A5A5A5;
+    uint32_t number = tessla_plan_text(state, length, back, bytes, &given);
+    return note(TEXT, number, bytes, given);
 }
 
 /*
@@ -154,13 +154,13 @@ static void show(void) {
 /* the text that came back, with blanks for its line ends; how many bytes of the page around it are not as they were */
 static void show_text(void) {
     uint32_t at = (uint32_t)(back - page), changed = 0;
-    if (text_length > MOST) {
+    if (given > MOST) {
         head("no length of a text");
         return;
     }
-    for (uint32_t i = 0; i < sizeof page; i++) changed += (i < at || i - at >= text_length) && page[i] != mark_at(i);
-    for (uint32_t i = 0; i < text_length; i++) copy[i] = back[i] == '\n' ? ' ' : back[i];
-    copy[text_length] = 0;
+    for (uint32_t i = 0; i < sizeof page; i++) changed += (i < at || i - at >= given) && page[i] != mark_at(i);
+    for (uint32_t i = 0; i < given; i++) copy[i] = back[i] == '\n' ? ' ' : back[i];
+    copy[given] = 0;
     head((const char *)copy);
     put("-- around it ");
     put_hex(changed, "\n");
@@ -651,7 +651,7 @@ static void worked_texts(void) {
     show_text();
     /* into a second buffer */
     text = back;
-    load(text_length);
+    load(given);
     text = words;
     memcpy(copy, state, LENGTH);
     load_rows(6);
@@ -674,7 +674,7 @@ static void worked_texts(void) {
     show_text();
 }
 
-/* around the length of this text, from each end of the page's lengths */
+/* a buffer about as long as a text of n bytes, and far from it */
 static void around(uint32_t n) {
     for (uint32_t i = 0; i < 5; i++)
         if (n + i >= 2) plan_text(n + i - 2);

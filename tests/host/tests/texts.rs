@@ -464,6 +464,29 @@ fn every_byte_of_the_fields() {
     assert!(step(2) == 2 || (states > 500 && none > 2000), "{states} {none}");
 }
 
+/// One byte of zeros set: the first makes a stream where its operator has no arguments; any other is 15.
+#[test]
+fn one_byte_set_in_zeros() {
+    let mut bytes = vec![0; STATE_LENGTH];
+    for at in (1..STATE_LENGTH).step_by(step(50) * 61).chain([256, 8191, 8192, STATE_LENGTH - 1]) {
+        bytes[at] = 1 << (at % 8);
+        refuses(&bytes, 300, 15);
+        refuses(&bytes, 0, 15);
+        bytes[at] = 0;
+    }
+    for byte in 0..=255 {
+        bytes[0] = byte;
+        let is = of_any_bytes(&bytes, &[0, 42, 300]);
+        // none, in, nil, unit
+        assert_eq!(is, byte < 4);
+    }
+    for (byte, name) in [(1, "in"), (2, "nil"), (3, "unit")] {
+        bytes[0] = byte;
+        let text = format!("plan=1\nstreams=1\nop={name}\na=0\nb=0\nk=0\nout=0\n");
+        gives(&bytes, 50, &text, 50 - text.len());
+    }
+}
+
 /// States of any bounds, held events and kept values, as no call leaves them, some of them damaged in one byte: the text is the plan's.
 #[test]
 fn foreign_and_damaged_states() {
