@@ -5,7 +5,7 @@ use mathlib.Core.Bool.{Bool, true, false, cond}
 use mathlib.Core.List.{List, [], _∷_, _++_}
 use native.Mathlib.Omega.{arith}
 use lib.Dec.{ltb}
-use lib.ListN.{length, take, drop}
+use lib.ListN.{length, drop, length-append}
 use lib.Seq.{sets, sets-eq}
 use borrow.Author.Tests.{lt-ltb, le-ltb}
 use Rattle.valid.specs.Valid.{valid}
@@ -67,3 +67,16 @@ text-written s b = go (valid s) refl
     go : (x : Bool) → valid s ≡ x → cond x (given (textIn s) b) (noText 15 b) .number ≡ 0 → (x ≡ true) × (cond x (given (textIn s) b) (noText 15 b) ≡ textThere (textIn s) b)
     go true v e = (refl, fits (ltb (length b) (length (textIn s))) e)
     go false v e = absurd (omega arith)
+
+-- the length is never above that of the buffer that is left
+pub text-within : (s b t : List ℕ) (n : ℕ) → n ≡ planText s b .length → t ≡ planText s b .buffer → n ≤ length t
+unfolding planText given
+text-within s b t n e f = rw (e, f) (go (valid s))
+  where
+    fits : (x : Bool) → cond x (noText 19 b) (textThere (textIn s) b) .length ≤ length (cond x (noText 19 b) (textThere (textIn s) b) .buffer)
+    fits true = omega arith
+    fits false = rw (length-append (textIn s) (drop (length (textIn s)) b)) (omega arith)
+
+    go : (x : Bool) → cond x (given (textIn s) b) (noText 15 b) .length ≤ length (cond x (given (textIn s) b) (noText 15 b) .buffer)
+    go true = fits (ltb (length b) (length (textIn s)))
+    go false = omega arith
