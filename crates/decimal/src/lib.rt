@@ -85,10 +85,11 @@ fn digits_length(n: u64, most: usize) -> usize
     if most == 0 {
         return 0;
     }
-    if n < 10 {
+    let tenth = n / 10;
+    if tenth == 0 {
         return 1;
     }
-    digits_length(n / 10, most - 1) + 1
+    digits_length(tenth, most - 1) + 1
 }
 
 // How many bytes a number has in decimal.
