@@ -1,8 +1,8 @@
 #!/usr/bin/env python3
-"""stack.py PROGRAM.elf ENGINE.o ENGINE.su FUNCTION=TIMES,.. ROOT..: the most bytes of stack that each ROOT can take.
+"""stack.py PROGRAM.elf ENGINE.o ENGINE.su FUNCTION=TIMES ROOT..: the most bytes of stack that each ROOT can take.
 
 Frames are those that the compiler wrote into ENGINE.su, for other functions those that push and sub sp make. Calls are branches
-to other functions, and the relocations of ENGINE.o. Each FUNCTION calls itself, and lies on the stack at most TIMES times at once;
+to other functions, and the relocations of ENGINE.o. FUNCTION calls itself, and lies on the stack at most TIMES times at once;
 any other recursion, a frame of varying size or a call by an unknown register is an error.
 """
 import re
@@ -24,7 +24,7 @@ def registers(arg):
 
 def main():
     elf, engine, su, recursive, *roots = sys.argv[1:]
-    times = {f: int(n) for f, n in (part.rsplit('=', 1) for part in recursive.split(','))}
+    again, times = recursive.rsplit('=', 1)
     told = {}
     for line in open(su):
         name, size, kind = line.rstrip('\n').split('\t')
@@ -77,16 +77,15 @@ def main():
         to = set(calls[f])
         many = 1
         if f in to:
-            assert f in times, 'recursion of ' + f
+            assert f == again, 'recursion of ' + f
             to.discard(f)
-            many = times[f]
+            many = int(times)
         below = max((deep(g, path + (f,)) for g in to), default=(0, ()))
         deepest[f] = (own * many + below[0], (f + (' x %d' % many if many > 1 else ''),) + below[1])
         return deepest[f]
 
     sys.setrecursionlimit(10000)
-    for f in times:
-        assert f in calls, 'no function ' + f
+    assert again in calls, 'no function ' + again
     for root in roots:
         size, path = deep(root, ())
         print('%s|%d|%s' % (root, size, ' > '.join(path)))

@@ -8,11 +8,11 @@ use mir.Syntax.{w64}
 use mir.Val.{SFits, ofZ, toZ}
 use mir.Facts.{toZ-ofZ, toZ-pos, toZ-neg}
 use lib.ListN.{length, getD, take, drop, set, length-append, drop-of-length-le}
-use lib.Seq.{sets, length-sets, drop-cons, sets-eq, take-at, length-take-le}
+use lib.Seq.{sets, length-sets, drop-cons, sets-eq, set-comm, take-at, length-take-le}
 use Rattle.le.proofs.RoundTrip.{sets-append}
 use Rattle.decimal.specs.Decimal.{digits, decimal, mostDigits, valueText}
 use Rattle.decimal.proofs.Digits.{digit-one, digit-more, small-or}
-use Rattle.decimal.specs.Put.{Put}
+use Rattle.decimal.specs.Put.{Put, lastDigits}
 
 pub put-none : (l : List ℕ) (at : ℕ) → Put l at [] at l
 put-none l at = record { bytes = refl; past = omega arith }
@@ -61,20 +61,59 @@ pub digits-no-length : (most n : ℕ) → most ≡ 0 → length (digits most n) 
 unfolding digits
 digits-no-length most n e = ap (λ (f : ℕ). length (digits f n)) e
 
-module _ (l : List ℕ) (at n most : ℕ) where
-  pub digits-end : most ≡ 0 → Put l at (digits most n) at l
-  unfolding digits
-  digits-end e = rw e (put-none l at)
+-- ## Digits put from the last one down
 
-  pub digits-last : 0 < most → n < 10 → (r : ℕ) (m : List ℕ) → Put l at ((48 + n) ∷ []) r m → Put l at (digits most n) r m
-  digits-last h k r m x =
-      let e : most ≡ suc (most - 1) = omega arith in
-      rw (e, digit-one (most - 1) n k) x
+last-length : (k n : ℕ) → length (lastDigits k n) ≡ k
+unfolding lastDigits
+last-length zero n = refl
+last-length (suc k) n = length-append (lastDigits k (n / 10)) ((48 + n % 10) ∷ []) ∙ ap (λ (m : ℕ). m + 1) (last-length k (n / 10)) ∙ more k
+  where
+    more : (k : ℕ) → k + 1 ≡ suc k
+    more k = omega arith
 
-  pub digits-go : 0 < most → 10 ≤ n → (p : ℕ) (m : List ℕ) → Put l at (digits (most - 1) (n / 10)) p m → (r : ℕ) (m′ : List ℕ) → Put m p ((48 + n % 10) ∷ []) r m′ → Put l at (digits most n) r m′
-  digits-go h k p m x r m′ y =
-      let e : most ≡ suc (most - 1) = omega arith in
-      rw (e, digit-more (most - 1) n k) (put-then x y)
+-- as many as a number has are its digits
+pub digits-are : (f n : ℕ) → lastDigits (length (digits f n)) n ≡ digits f n
+unfolding digits lastDigits
+digits-are zero n = refl
+digits-are (suc f) n =
+    small-or n
+    (λ k. let z : n % 10 ≡ n = omega arith in rw (digit-one f n k) (ap (λ (m : ℕ). (48 + m) ∷ []) z))
+    (λ k.
+    let t = digits f (n / 10) in
+    let e : length (t ++ ((48 + n % 10) ∷ [])) ≡ suc (length t) = length-append t ((48 + n % 10) ∷ []) ∙ more (length t) in
+    rw (digit-more f n k, e) (ap (λ (l : List ℕ). l ++ ((48 + n % 10) ∷ [])) (digits-are f (n / 10))))
+  where
+    more : (k : ℕ) → k + 1 ≡ suc k
+    more k = omega arith
+
+-- the last of some bytes may be put first
+last-put : (l : List ℕ) (at : ℕ) (xs : List ℕ) (d : ℕ) → sets l at (xs ++ (d ∷ [])) ≡ sets (set l (at + length xs) d) at xs
+last-put l at [] d = let z : at + 0 ≡ at = omega arith in rw z
+last-put l at (x ∷ xs) d =
+    let z : suc at + length xs ≡ at + suc (length xs) = omega arith in
+    last-put (set l at x) (suc at) xs d
+    ∙ ap (λ (m : List ℕ). sets m (suc at) xs) (ap (λ (j : ℕ). set (set l at x) j d) z ∙ set-comm l at (at + suc (length xs)) x d (λ e. omega arith))
+
+-- a turn of the loop: p goes down to q
+pub digit-turn : (l : List ℕ) (at p q n : ℕ) → at < p → q ≡ p - 1 → sets (set l q (48 + n % 10)) at (lastDigits (q - at) (n / 10)) ≡ sets l at (lastDigits (p - at) n)
+unfolding lastDigits
+digit-turn l at p q n h e =
+    let k = q - at in
+    let z : p - at ≡ suc k = omega arith in
+    let y : at + length (lastDigits k (n / 10)) ≡ q = ap (λ (m : ℕ). at + m) (last-length k (n / 10)) ∙ back in
+    rw z (ap (λ (j : ℕ). sets (set l j (48 + n % 10)) at (lastDigits k (n / 10))) (sym y) ∙ sym (last-put l at (lastDigits k (n / 10)) (48 + n % 10)))
+  where
+    back : at + (q - at) ≡ q
+    back = omega arith
+
+pub digit-end : (l : List ℕ) (at p n : ℕ) → p ≤ at → sets l at (lastDigits (p - at) n) ≡ l
+unfolding lastDigits
+digit-end l at p n h = let z : p - at ≡ 0 = omega arith in rw z
+
+pub digits-put : (l m : List ℕ) (at end n k : ℕ) → k ≡ length (decimal n) → end ≡ at + k → m ≡ sets l at (lastDigits (end - at) n) → Put l at (decimal n) end m
+digits-put l m at end n k e f g =
+    let z : end - at ≡ length (decimal n) = omega arith in
+    record { bytes = g ∙ ap (λ (j : ℕ). sets l at (lastDigits j n)) z ∙ ap (sets l at) (digits-are mostDigits n); past = omega arith }
 
 -- ## Values
 
