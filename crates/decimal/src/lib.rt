@@ -66,8 +66,9 @@ fn put_digits(out: &mut [u8], at: usize, end: usize, n: u64)
     let mut p = end;
     while at < p {
         p -= 1;
-        out[p] = 48 + (rest % 10) as u8;
-        rest = rest / 10;
+        let tenth = rest / 10;
+        out[p] = 48 + (rest - tenth * 10) as u8;
+        rest = tenth;
     }
 }
 
