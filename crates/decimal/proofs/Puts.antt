@@ -63,13 +63,13 @@ digits-no-length most n e = ap (λ (f : ℕ). length (digits f n)) e
 
 -- ## Digits put from the last one down
 
+one-more : (k : ℕ) → k + 1 ≡ suc k
+one-more k = omega arith
+
 last-length : (k n : ℕ) → length (lastDigits k n) ≡ k
 unfolding lastDigits
 last-length zero n = refl
-last-length (suc k) n = length-append (lastDigits k (n / 10)) ((48 + n % 10) ∷ []) ∙ ap (λ (m : ℕ). m + 1) (last-length k (n / 10)) ∙ more k
-  where
-    more : (k : ℕ) → k + 1 ≡ suc k
-    more k = omega arith
+last-length (suc k) n = length-append (lastDigits k (n / 10)) ((48 + n % 10) ∷ []) ∙ ap (λ (m : ℕ). m + 1) (last-length k (n / 10)) ∙ one-more k
 
 -- as many as a number has are its digits
 pub digits-are : (f n : ℕ) → lastDigits (length (digits f n)) n ≡ digits f n
@@ -80,11 +80,8 @@ digits-are (suc f) n =
     (λ k. let z : n % 10 ≡ n = omega arith in rw (digit-one f n k) (ap (λ (m : ℕ). (48 + m) ∷ []) z))
     (λ k.
     let t = digits f (n / 10) in
-    let e : length (t ++ ((48 + n % 10) ∷ [])) ≡ suc (length t) = length-append t ((48 + n % 10) ∷ []) ∙ more (length t) in
+    let e : length (t ++ ((48 + n % 10) ∷ [])) ≡ suc (length t) = length-append t ((48 + n % 10) ∷ []) ∙ one-more (length t) in
     rw (digit-more f n k, e) (ap (λ (l : List ℕ). l ++ ((48 + n % 10) ∷ [])) (digits-are f (n / 10))))
-  where
-    more : (k : ℕ) → k + 1 ≡ suc k
-    more k = omega arith
 
 -- the last of some bytes may be put first
 last-put : (l : List ℕ) (at : ℕ) (xs : List ℕ) (d : ℕ) → sets l at (xs ++ (d ∷ [])) ≡ sets (set l (at + length xs) d) at xs

@@ -110,7 +110,7 @@ collect-plan s M = unless-cases (Keeps M) (not (cellAt M s .out)) 13 M _ (λ x. 
         let N = set M s (withNext (suc (e .stamp)) (cellAt M s)) in
         release-plan s N ∙ same-streams M N (set-same M s (withNext (suc (e .stamp)) (cellAt M s)) l refl refl)
 
--- "the calls do not change the plan"
+-- every call, of any state
 pub call-plan : (c : Call) (M : State) → declaredIn (call c M .state) ≡ declaredIn M
 unfolding call
 call-plan (reading s t v) M = reading-plan s t v M

@@ -44,13 +44,13 @@ no-letters x t = by x (leb x operatorCount) refl (all-left x (Unit {0}) stored t
 
 -- ## Letters
 
-abbrev Lettered : List ℕ → Bool
-Lettered [] = true
-Lettered (c ∷ w) = (ltb 0 c && ltb c 256) && Lettered w
+abbrev lettered : List ℕ → Bool
+lettered [] = true
+lettered (c ∷ w) = (ltb 0 c && ltb c 256) && lettered w
 
-name-lettered : (n : ℕ) → Lettered (nameOf n) ≡ true
+name-lettered : (n : ℕ) → lettered (nameOf n) ≡ true
 unfolding nameOf
-name-lettered = by-row (λ o. Lettered (o .name)) (λ o. true) refl refl
+name-lettered = by-row (λ o. lettered (o .name)) (λ o. true) refl refl
 
 -- a name has five at most
 pub name-few : (n : ℕ) → length (nameOf n) ≤ 5
@@ -68,7 +68,7 @@ record Next (w : List ℕ) (i : ℕ) : Type 0 where
   pub first : pack (drop i w) % 256 ≡ getD w i 0
   pub rest : pack (drop i w) / 256 ≡ pack (drop (suc i) w)
 
-next-letter : (w : List ℕ) (i : ℕ) → Lettered w ≡ true → (pack (drop i w) ≡ 0 → ⊥) → Next w i
+next-letter : (w : List ℕ) (i : ℕ) → lettered w ≡ true → (pack (drop i w) ≡ 0 → ⊥) → Next w i
 unfolding pack
 next-letter [] i l h = absurd (h (nothing i))
   where
@@ -76,17 +76,17 @@ next-letter [] i l h = absurd (h (nothing i))
     nothing zero = refl
     nothing (suc i) = refl
 next-letter (c ∷ w) zero l h =
-    let q = pack-first c w (ltb-true c 256 (right (ltb 0 c) (ltb c 256) (left (ltb 0 c && ltb c 256) (Lettered w) l))) in
+    let q = pack-first c w (ltb-true c 256 (right (ltb 0 c) (ltb c 256) (left (ltb 0 c && ltb c 256) (lettered w) l))) in
     record { inside = omega arith; first = q .0; rest = q .1 }
 next-letter (c ∷ w) (suc i) l h =
-    let n = next-letter w i (right (ltb 0 c && ltb c 256) (Lettered w) l) h in
+    let n = next-letter w i (right (ltb 0 c && ltb c 256) (lettered w) l) h in
     record { inside = omega (arith, n .inside); first = n .first; rest = n .rest }
 
-last-letter : (w : List ℕ) (i : ℕ) → Lettered w ≡ true → i ≤ length w → pack (drop i w) ≡ 0 → i ≡ length w
+last-letter : (w : List ℕ) (i : ℕ) → lettered w ≡ true → i ≤ length w → pack (drop i w) ≡ 0 → i ≡ length w
 unfolding pack
 last-letter [] i l h e = omega arith
-last-letter (c ∷ w) zero l h e = absurd (omega (arith, ltb-true 0 c (left (ltb 0 c) (ltb c 256) (left (ltb 0 c && ltb c 256) (Lettered w) l))))
-last-letter (c ∷ w) (suc i) l h e = ap suc (last-letter w i (right (ltb 0 c && ltb c 256) (Lettered w) l) (omega arith) e)
+last-letter (c ∷ w) zero l h e = absurd (omega (arith, ltb-true 0 c (left (ltb 0 c) (ltb c 256) (left (ltb 0 c && ltb c 256) (lettered w) l))))
+last-letter (c ∷ w) (suc i) l h e = ap suc (last-letter w i (right (ltb 0 c && ltb c 256) (lettered w) l) (omega arith) e)
 
 -- ## The turns of the loops
 

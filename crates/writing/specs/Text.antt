@@ -31,6 +31,6 @@ given w b = cond (ltb (length b) (length w)) (noText 19 b) (textThere w b)
 abbrev pub textIn : List ℕ → List ℕ
 textIn s = render (declaredIn (stateIn s))
 
--- "19 … after 15"
+-- 15 comes first: "after 15"
 unfoldable pub planText : List ℕ → List ℕ → TextReply
 planText s b = cond (valid s) (given (textIn s) b) (noText 15 b)
