@@ -17,6 +17,7 @@ enum { COPIES = 256, MOVES = 4096 };
 static uint8_t (*copies)[TESSLA_STATE_LENGTH];
 static uint8_t start[TESSLA_STATE_LENGTH];
 static uint8_t block[TESSLA_BLOCK_LENGTH];
+static uint8_t page[TESSLA_TEXT_LIMIT];
 static unsigned used; /* of the copies: all, or few under callgrind */
 
 static void fail(const char *what) {
@@ -161,6 +162,16 @@ static void registered(uint8_t *s, uint32_t at, uint8_t byte) {
     if (tessla_register_write(s, TESSLA_STATE_LENGTH, block, sizeof block, at, byte) != 0) fail("register write");
 }
 
+/* the plan's text back from every copy, and that it is the one that was loaded */
+static void texts(const struct plan *p) {
+    uint64_t length = 0;
+    begin();
+    for (unsigned i = 0; i < used; i++)
+        if (tessla_plan_text(copies[i], TESSLA_STATE_LENGTH, page, sizeof page, &length) != 0) fail("plan text");
+    end(p->name, "plan text", used, p->streams);
+    if (length != strlen(p->text) || memcmp(page, p->text, length) != 0) fail("another plan text");
+}
+
 static void operations(const struct plan *p) {
     uint32_t moves, stamp;
     int64_t value;
@@ -180,6 +191,8 @@ static void operations(const struct plan *p) {
     begin();
     for (unsigned i = 0; i < used; i++) tessla_run(copies[i], TESSLA_STATE_LENGTH, 64, &moves);
     end(p->name, "run at rest", used, p->streams);
+
+    texts(p);
 
     begin();
     for (unsigned i = 0; i < used; i++) registered(copies[i], TESSLA_AT_COMMAND, TESSLA_COMMAND_RUN);
@@ -266,6 +279,22 @@ static void held(unsigned n) {
             if (tessla_move(copies[i], TESSLA_STATE_LENGTH, 2) != 0) fail("move");
         end(p.name, "move", used, n);
     }
+}
+
+/* the longest text: 31 values of 20 characters */
+static void longest(void) {
+    static struct plan p;
+    uint32_t moves;
+    char form[TESSLA_TEXT_LIMIT] = "";
+    for (unsigned i = 0; i < 31; i++) strcat(form, "plus 31 k-9223372036854775808 out; ");
+    strcat(form, "unit out");
+    make(&p, "LONGEST", form);
+    if (strlen(p.text) != 1470 || tessla_load(start, sizeof start, (const uint8_t *)p.text, strlen(p.text)) != 0) fail(p.name);
+    spread();
+    begin();
+    for (unsigned i = 0; i < used; i++) tessla_run(copies[i], TESSLA_STATE_LENGTH, 0, &moves);
+    end(p.name, "check alone", used, p.streams);
+    texts(&p);
 }
 
 /* 70 readings of one input, each worked off and collected: a window of 64 is full. Then one reading more, by its calls and to rest */
@@ -385,6 +414,7 @@ int main(int words, char **word) {
     operations(&p);
     readers(&p);
     operations(&p);
+    longest();
     for (unsigned n = 0; n <= TESSLA_ROOM; n += 4) held(n);
     /* a window of the latest 64 values beside neg in its place; then all eight */
     windowed("NEG", "in; neg 0 out");

@@ -3,6 +3,7 @@
  * weights.
  *
  *   load       takes the plan of the card; without one the logger goes on too, and refuses every reading.
+ *   write_card writes the plan that runs to a new card, if the old one is lost.
  *   receive    takes a reading from the radio. It waits in the line of its sensor until the engine takes it: none is lost as
  *              long as the line has room, and one that is lost is said.
  *   schedule   each minute: says how far every sensor is known, a silent or dead one above all.
@@ -48,6 +49,25 @@ static int load(const char *text, uint32_t length) {
     }
     put(tessla_streams(state) == 0 ? "no plan on the card\n" : "plan loaded\n");
     return 1;
+}
+
+/* the text of a plan on a card; TESSLA_TEXT_LIMIT bytes are enough for every one */
+static uint8_t card[TESSLA_TEXT_LIMIT];
+
+/*
+ * Writes the plan that runs to a card, and answers how many bytes it has there. The state has all of it, so the card may be lost;
+ * the text is the one that was loaded. It is refused 15 only: the card is long enough.
+ */
+static uint32_t write_card(void) {
+    uint64_t length;
+    uint32_t number = tessla_plan_text(state, sizeof state, card, sizeof card, &length);
+    if (number != TESSLA_DONE) {
+        put("card ");
+        put_refused(number);
+        return 0;
+    }
+    put_number("card written, ", (int64_t)length, " bytes\n");
+    return (uint32_t)length;
 }
 
 /* ---- what comes out */
@@ -212,5 +232,10 @@ int main(void) {
     if (!restore(state)) return 1;
     put("put back\n");
     evening();
+
+    /* the group has lost its card: a new one is written from the state, and the plan begins anew from it */
+    uint32_t length = write_card();
+    if (length == 0 || !load((const char *)card, length)) return 1;
+    receive(RING, 3, 7041);
     return 0;
 }

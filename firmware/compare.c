@@ -1,6 +1,7 @@
 /*
  * The same calls on x86-64, on the plain C engine and on the board: one line a call with its number, its further results and a
- * hash of the whole state and block. The lines must be the same. The last lines say which numbers each call returned.
+ * hash of the whole state, the block and the buffer for a plan's text. The lines must be the same. The last lines say which numbers
+ * each call returned.
  */
 #include <string.h>
 
@@ -19,7 +20,8 @@ static uint8_t room[LENGTH + 8] __attribute__((aligned(8)));
 static uint8_t words[MOST + 16] __attribute__((aligned(8)));
 static uint8_t copy[LENGTH];
 static uint8_t places[TESSLA_BLOCK_LENGTH + 8] __attribute__((aligned(8)));
-static uint8_t *state = room, *text = words, *block = places;
+static uint8_t page[MOST + 16] __attribute__((aligned(8))); /* the plan's text that comes back */
+static uint8_t *state = room, *text = words, *block = places, *back = page;
 static uint64_t length = LENGTH, block_length = TESSLA_BLOCK_LENGTH; /* what the calls are told */
 
 /* ---- what is printed */
@@ -34,22 +36,33 @@ static void put_hex(uint64_t x, const char *end) {
     put(end);
 }
 
-/* two sums of the whole room and of the block's, the bytes around them included; every byte goes into both */
-static uint64_t hash(void) {
-    uint32_t h = 2166136261u, g = 1;
-    for (uint32_t i = 0; i < sizeof room + sizeof places; i += 4) {
-        const uint8_t *p = i < sizeof room ? room + i : places + (i - sizeof room);
+/* two sums over words, every byte of which goes into both */
+struct sums {
+    uint32_t h, g;
+};
+
+static struct sums add_up(struct sums sums, const uint8_t *bytes, uint32_t n) {
+    uint32_t h = sums.h, g = sums.g;
+    for (uint32_t i = 0; i < n; i += 4) {
         uint32_t w;
-        memcpy(&w, __builtin_assume_aligned(p, 4), 4);
+        memcpy(&w, __builtin_assume_aligned(bytes + i, 4), 4);
         h = (h ^ w) * 16777619u;
         h ^= h >> 15;
         g = (g << 5 | g >> 27) + w;
     }
-    return (uint64_t)h << 32 | g;
+    return (struct sums){ h, g };
 }
 
-enum { LOAD, READING, PROGRESS, MOVE, RUN, COLLECT, WRITE, LINE, CALLS };
-static const char *const CALL[CALLS] = { "load ", "reading ", "progress ", "move ", "run ", "collect ", "write ", "line " };
+/* of the whole room and of the block's, the bytes around them included; and of the page's, for a call that is lent it */
+static uint64_t hash(int paged) {
+    struct sums sums = add_up((struct sums){ 2166136261u, 1 }, room, sizeof room);
+    sums = add_up(sums, places, sizeof places);
+    if (paged) sums = add_up(sums, page, sizeof page);
+    return (uint64_t)sums.h << 32 | sums.g;
+}
+
+enum { LOAD, READING, PROGRESS, MOVE, RUN, COLLECT, TEXT, WRITE, LINE, CALLS };
+static const char *const CALL[CALLS] = { "load ", "reading ", "progress ", "move ", "run ", "collect ", "text ", "write ", "line " };
 static uint32_t returned[CALLS]; /* a bit for each number, bit 31 for any other */
 static uint32_t made[CALLS];
 
@@ -60,7 +73,7 @@ static uint32_t note(int call, uint32_t number, uint64_t x, uint64_t y) {
     put_hex(number, " ");
     put_hex(x, " ");
     put_hex(y, " ");
-    put_hex(hash(), "\n");
+    put_hex(hash(call == TEXT), "\n");
     return number;
 }
 
@@ -82,6 +95,16 @@ static uint32_t collect(uint32_t s) {
     int64_t v = 0x5A5A5A5A5A5A5A5A;
     uint32_t number = tessla_collect(state, length, s, &t, &v);
     return note(COLLECT, number, t, (uint64_t)v);
+}
+
+static uint64_t given; /* the length of the last text that came back */
+/* into so many bytes of a page that holds something else than text, the same before each call */
+static uint8_t mark_at(uint32_t i) { return (uint8_t)(0x80 | i); }
+static uint32_t plan_text(uint64_t bytes) {
+    for (uint32_t i = 0; i < sizeof page; i++) page[i] = mark_at(i);
+    given = 0xA5A5A5A5A5A5A5A5;
+    uint32_t number = tessla_plan_text(state, length, back, bytes, &given);
+    return note(TEXT, number, bytes, given);
 }
 
 /*
@@ -126,6 +149,21 @@ static void show(void) {
     }
     b[sizeof b - 1] = 0;
     head(b);
+}
+
+/* the text that came back, with blanks for its line ends; how many bytes of the page around it are not as they were */
+static void show_text(void) {
+    uint32_t at = (uint32_t)(back - page), changed = 0;
+    if (given > MOST) {
+        head("no length of a text");
+        return;
+    }
+    for (uint32_t i = 0; i < sizeof page; i++) changed += (i < at || i - at >= given) && page[i] != mark_at(i);
+    for (uint32_t i = 0; i < given; i++) copy[i] = back[i] == '\n' ? ' ' : back[i];
+    copy[given] = 0;
+    head((const char *)copy);
+    put("-- around it ");
+    put_hex(changed, "\n");
 }
 
 /* ---- plans */
@@ -190,6 +228,8 @@ static void wrong_lengths(uint64_t text_length) {
         move(1);
         run(1);
         collect(5);
+        plan_text(0);
+        plan_text(MOST);
     }
     length = LENGTH;
 }
@@ -431,6 +471,8 @@ static void without_a_plan(void) {
     progress(0, 0);
     progress(0, TESSLA_HORIZON + 1);
     collect(0);
+    plan_text(0);
+    plan_text(5);
     for (uint8_t which = 1; which < 4; which++) command(which);
     uint32_t i = 0;
     while (i < LENGTH && state[i] == 0) i++;
@@ -586,6 +628,128 @@ static void texts(void) {
             run(1);
         }
     }
+}
+
+/* ---- the plan as text */
+
+/* cases worked out by hand: firmware/test knows the numbers, the lengths and the texts */
+static void worked_texts(void) {
+    head("worked texts");
+    visits();
+    load_rows(6);
+    plan_text(2048);
+    show_text();
+    plan_text(171);
+    show_text();
+    plan_text(170);
+    show_text();
+    for (uint32_t t = 1; t < 6; t++) reading(0, 3 * t, 7);
+    run(100);
+    collect(5);
+    collect(5);
+    plan_text(171);
+    show_text();
+    /* into a second buffer */
+    text = back;
+    load(given);
+    text = words;
+    memcpy(copy, state, LENGTH);
+    load_rows(6);
+    head(memcmp(copy, state, LENGTH) ? "another state" : "the fresh state");
+    length = LENGTH - 1;
+    plan_text(0);
+    length = LENGTH;
+    load(0);
+    plan_text(0);
+    plan_text(5);
+    show_text();
+    rows[0] = (struct row){ .op = IN };
+    rows[1] = (struct row){ .op = SET, .k = INT64_MIN, .out = 1 };
+    load_rows(2);
+    plan_text(100);
+    show_text();
+    rows[1] = (struct row){ .op = WSUM, .k = 64, .out = 1 };
+    load_rows(2);
+    plan_text(0);
+    show_text();
+}
+
+/* a buffer about as long as a text of n bytes, and far from it */
+static void around(uint32_t n) {
+    for (uint32_t i = 0; i < 5; i++)
+        if (n + i >= 2) plan_text(n + i - 2);
+    plan_text(0);
+    plan_text(MOST);
+    plan_text((UINT64_C(1) << 32) + 1);
+    plan_text(UINT64_MAX);
+}
+
+/* every length of the buffer, every alignment, every operator, values of every length, the longest text; a state changed in each field */
+static void plan_texts(void) {
+    uint32_t n = 0;
+    head("plan texts");
+    visits();
+    for (uint32_t o = 0; o < 8; o++) {
+        memset(room, 0xEE, sizeof room);
+        state = room + (7 - o);
+        back = page + o;
+        n = write_plan(text, rows, 6);
+        load(n);
+        around(n);
+        for (uint32_t i = o; i < n + 8; i += 8) plan_text(i);
+    }
+    state = room;
+    back = page;
+    n = all_operators();
+    load_rows(n);
+    around(write_plan(text, rows, n));
+    for (uint32_t i = 0; i < COUNT(VALUES); i++) {
+        rows[0] = (struct row){ .op = IN };
+        rows[1] = (struct row){ .op = i % 2 ? SET : PLUS, .k = VALUES[i], .out = 1 };
+        load_rows(2);
+        around(write_plan(text, rows, 2));
+    }
+    for (int64_t tens = 1; tens < INT64_MAX / 10; tens *= 10) {
+        rows[1] = (struct row){ .op = SET, .k = -tens };
+        rows[2] = (struct row){ .op = PLUS, .k = tens - 1 };
+        load_rows(3);
+        around(write_plan(text, rows, 3));
+    }
+    head("the longest text");
+    for (uint32_t i = 0; i < 31; i++) rows[i] = (struct row){ .op = PLUS, .a = 31, .k = INT64_MIN, .out = 1 };
+    rows[31] = (struct row){ .op = UNIT, .out = 1 };
+    load_rows(32);
+    plan_text(1470);
+    plan_text(1469);
+    plan_text(2048);
+    /* no buffer at all */
+    back = 0;
+    plan_text(0);
+    load(0);
+    plan_text(0);
+    back = page;
+
+    head("texts of changed states");
+    visits();
+    load_rows(6);
+    reading(0, 3, 7);
+    run(100);
+    memcpy(copy, state, LENGTH);
+    for (uint32_t s = 0; s < 7; s++)
+        for (uint32_t i = 0; i < 40; i++) {
+            state[256 * s + i] ^= (uint8_t)(1 << (s + i) % 8);
+            plan_text(300);
+            plan_text(0);
+            memcpy(state, copy, LENGTH);
+        }
+    for (uint32_t op = 0; op < 256; op += op < 33 ? 1 : 25)
+        for (uint32_t s = 0; s < 7; s++) {
+            state[256 * s] = (uint8_t)op;
+            plan_text(300);
+            memcpy(state, copy, LENGTH);
+        }
+    state[LENGTH - 1] = 1;
+    plan_text(300);
 }
 
 /* ---- the block of registers */
@@ -870,7 +1034,7 @@ static void some_write(uint32_t s, uint32_t *now) {
 /* one draw in each expression: the order of two would be the compiler's choice; without streams a call asks for the first */
 static void some_call(uint32_t n, uint32_t *now) {
     uint32_t t, most = n ? n : 1, s = next(20) ? next(most) : next(40);
-    switch (next(11)) {
+    switch (next(12)) {
     case 0:
     case 1:
     case 2:
@@ -890,6 +1054,7 @@ static void some_call(uint32_t n, uint32_t *now) {
     case 7:
     case 8: collect(s); break;
     case 9: some_write(s, now); break;
+    case 10: plan_text(next(3) ? 17 + next(30 * most) : MOST); break;
     default:
         write(0, (uint8_t)s);
         command((uint8_t)(2 + next(2)));
@@ -905,6 +1070,7 @@ static void random_calls(uint32_t plans, uint32_t calls) {
         memset(room, 0xEE, sizeof room);
         memset(places, 0xEE, sizeof places);
         block = places + p / 8 % 8;
+        back = page + p / 3 % 8;
         text = words + next(8);
         if (load_rows(n) != 0) continue;
         for (uint32_t i = 0; i < calls; i++) some_call(n, &now);
@@ -927,6 +1093,7 @@ static void random_calls(uint32_t plans, uint32_t calls) {
     state = room;
     text = words;
     block = places;
+    back = page;
 }
 
 int main(void) {
@@ -966,6 +1133,8 @@ int main(void) {
     zeros();
     full();
     texts();
+    worked_texts();
+    plan_texts();
     worked_blocks();
     registers();
     random_calls(RANDOM_PLANS, RANDOM_CALLS);

@@ -11,6 +11,7 @@
 static uint8_t state[TESSLA_STATE_LENGTH] __attribute__((aligned(8)));
 static uint8_t copy[TESSLA_STATE_LENGTH];
 static uint8_t text[TESSLA_TEXT_LIMIT];
+static uint8_t page[TESSLA_TEXT_LIMIT];
 static uint8_t block[TESSLA_BLOCK_LENGTH];
 static uint32_t own; /* instructions of the gauge itself */
 
@@ -65,6 +66,9 @@ static uint32_t deep;
         if (deep < sp - mark) deep = sp - mark;           \
     } while (0)
 
+/* the plan's text into a page that is long enough; the number is its length */
+#define MEASURE_TEXT() MEASURE_CALL("plan text", (tessla_plan_text(S, page, sizeof page, &length), (uint32_t)length))
+
 #define S state, TESSLA_STATE_LENGTH
 #define B block, TESSLA_BLOCK_LENGTH
 
@@ -114,7 +118,8 @@ static void fill_block(uint32_t stream, uint32_t at, int64_t value) {
 }
 
 static void measure(const char *name, const struct row *rows, uint32_t n) {
-    uint32_t moves, stamp, up, mover = 0, output = 0, length = write_plan(text, rows, n);
+    uint32_t moves, stamp, up, mover = 0, output = 0;
+    uint64_t length = write_plan(text, rows, n);
     int64_t value;
     plan = name;
     MEASURE_CALL("load", tessla_load(S, text, length));
@@ -126,6 +131,7 @@ static void measure(const char *name, const struct row *rows, uint32_t n) {
     others_known(rows, n, 200);
     MEASURE_CALL("validation", tessla_move(S, 99));
     MEASURE_CALL("run at rest", tessla_run(S, 100000, &moves));
+    MEASURE_TEXT();
     fill_block(0, 70, 7);
     MEASURE_CALL("plain write", tessla_register_write(S, B, TESSLA_AT_STAMP, 70));
     MEASURE_CALL("line", tessla_register_line(B, &up));
@@ -172,6 +178,19 @@ static void full(const struct row *rows, uint32_t n) {
     MEASURE("a reading to rest", to_rest(0, 70, 7));
     MEASURE_CALL("run, all wait", tessla_run(S, 100000, &moves));
     MEASURE("collecting all", collect_all());
+}
+
+/* the longest text: 31 values of 20 characters */
+static void longest(struct row *rows) {
+    uint64_t length;
+    for (uint32_t i = 0; i < 31; i++) rows[i] = (struct row){ .op = PLUS, .a = 31, .k = INT64_MIN, .out = 1 };
+    rows[31] = (struct row){ .op = UNIT, .out = 1 };
+    plan = "32 streams, the longest text";
+    tessla_load(S, text, write_plan(text, rows, 32));
+    MEASURE_CALL("validation", tessla_move(S, 99));
+    MEASURE_TEXT();
+    /* a page too short for it */
+    MEASURE_CALL("plan text refused", tessla_plan_text(S, page, 1469, &length));
 }
 
 /* a reading of the first of two inputs, of which both have reported before, for what it costs beside the inputs alone */
@@ -354,6 +373,7 @@ int main(void) {
         if (i > WMAX) rows[i].a = i - 4;
     }
     measure("32 streams, every operator", rows, 32);
+    longest(rows);
     spaces(rows);
     signals();
     windows();

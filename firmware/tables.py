@@ -83,6 +83,19 @@ for n in names:
         cells += ['%s | +%s' % (count(instructions(command)), count(instructions(command) - instructions(call))) for command, call in COMMANDS]
         print('| %s | %s |' % (plan, ' | '.join(cells)))
     print()
+LONGEST = '32 streams, the longest text'
+print('The plan as text: instructions of the call, and what it takes beside the check of the state; by the cycles of the manual in ms:')
+print()
+print('| plan | bytes of the text | %s | ms, %s |' % (' | '.join('%s, instructions | beside the check' % CORES[n] for n in names), CORES[c]))
+print('|---|---:|%s---:|' % ('---:|---:|' * len(names)))
+for plan in [*plans, LONGEST]:
+    zone = lambda n, call: zones[n][plan, call]
+    cells = ['%s | %s' % (count(zone(n, 'plan text')[1]), count(int(zone(n, 'plan text')[1]) - int(zone(n, 'validation')[1]))) for n in names]
+    print('| %s | %s | %s | %s |' % (plan, count(zone(c, 'plan text')[0]), ' | '.join(cells), ms(zone(c, 'plan text')[2])))
+print()
+print('Refused 19, a byte too few for the longest: %s.'
+      % ', '.join('%s instructions on the %s' % (count(zones[n][LONGEST, 'plan text refused'][1]), CORES[n]) for n in names))
+print()
 print('A signal form against the five streams that it stands for, a reading to rest:')
 print()
 print('| plan | moves | %s | ms, %s |' % (' | '.join('%s, instructions | beside the inputs alone' % CORES[n] for n in names), CORES[c]))

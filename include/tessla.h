@@ -9,9 +9,9 @@
  * at stamps below y are known. A value is any int64_t.
  *
  * Every call returns a number, 0 for done. On any other number
- *   - each further result (*moves, *stamp, *value, *up) is 0, and
- *   - the state is byte for byte as it was. One lent buffer alone is changed by a refusal, the block of tessla_register_write,
- *     and only as is said there.
+ *   - each further result (*moves, *stamp, *value, *up, *length) is 0, and
+ *   - the state is byte for byte as it was, and so is the text buffer of tessla_plan_text. One lent buffer alone is changed by a
+ *     refusal, the block of tessla_register_write, and only as is said there.
  * No call relies on its caller having tested anything. Two things are the caller's all the same, because no callee can
  * test them: a length says how many bytes really lie behind its pointer, and the buffers of one call do not overlap.
  *
@@ -19,11 +19,11 @@
  * size_t in place of uint64_t a program for a 32-bit machine still links, and every call answers wrongly.
  *
  * No plan. Load takes a text of no bytes too, for a logger that goes out before its plan is chosen: a plan of no streams, at rest
- * from the start, and a state of zeros. On it both offers are refused 7, move 11 and collect 13, a run makes 0 moves, and the
- * zeros stay. A buffer that begins as zeros, as every static one does, is that state before the first load: it is not refused 15.
- * A load that is refused leaves the state as it was, zeros too: only its number tells. tessla_streams says whether there is a
- * plan. A plan may be loaded at any time, over whatever is there; so may no plan, and that ends the one that runs, with all it
- * holds. So do not load the nothing that a card gives which could not be read.
+ * from the start, and a state of zeros. On it both offers are refused 7, move 11 and collect 13, a run makes 0 moves, its text has
+ * no bytes, and the zeros stay. A buffer that begins as zeros, as every static one does, is that state before the first load: it
+ * is not refused 15. A load that is refused leaves the state as it was, zeros too: only its number tells. tessla_streams says
+ * whether there is a plan. A plan may be loaded at any time, over whatever is there; so may no plan, and that ends the one that
+ * runs, with all it holds. So do not load the nothing that a card gives which could not be read.
  *
  * What a logger does with the calls; examples/logger.c does all of it, but for the registers:
  *
@@ -47,7 +47,8 @@
  * the whole of it, 1.0 to 1.3 ms by the manual's cycles; a move in a run then takes 0.1 to 0.2 ms. In the plans that were measured
  * a run of n moves takes at most 1.3 ms and a millisecond for each four moves, if the outputs are collected; where 31 outputs
  * are full a move takes 1.1 ms. By that the 64 moves of a command 3 take 18 ms. Leave the watchdog twice that. Few calls with
- * much work in each cost least (docs/PERFORMANCE.md, "On the controller").
+ * much work in each cost least (docs/PERFORMANCE.md, "On the controller"). The plan's text takes 1.1 to 2.0 ms, and 11 ms if every
+ * value in it has nineteen digits.
  *
  * Windows. The operators wsum, wmin and wmax give at each event of their argument the sum, the least or the greatest of its
  * latest k values, that event's included, or of all so far while they are fewer; k is 1 to 64, and a plan has at most eight
@@ -65,6 +66,9 @@
  * refused 15 where its contents are no state; where they happen to be one, no call can know that it is not the one that was
  * saved: a storage that gives back zeros gives a state without a plan. So save to two places in turn, each with a checksum:
  * examples/saving.c does, and loses no copy to a power cut.
+ *
+ * A lost card. The state has the whole plan: tessla_plan_text writes it as the text that was loaded, for a new card or a second
+ * logger. What the plan has worked out so far is not in its text: a load of it begins anew. To go on elsewhere, copy the state.
  */
 #ifndef TESSLA_H
 #define TESSLA_H
@@ -92,15 +96,17 @@ extern "C" {
  *         windows is laid out as before. Of a plan with windows tessla_used_length counts them in. So a firmware that saves that
  *         many bytes is to be compiled with this header: the earlier one leaves out all that the windows keep, and the copy, in
  *         which zeros stand for it, is not refused.
+ *   1.7   tessla_plan_text, which gives the plan of a state back as text, and number 19. The other calls, the plan texts and the
+ *         states are those of 1.6.
  */
 #define TESSLA_VERSION_MAJOR 1
-#define TESSLA_VERSION_MINOR 6
-#define TESSLA_VERSION "1.6"
+#define TESSLA_VERSION_MINOR 7
+#define TESSLA_VERSION "1.7"
 
 /* The length of the state in bytes. Any other length is refused 15. */
 #define TESSLA_STATE_LENGTH 12288
 
-/* The most bytes that a plan text may have. A longer one is refused 1. */
+/* The most bytes that a plan text may have. A longer one is refused 1. The text of any plan that load takes has at most 1470. */
 #define TESSLA_TEXT_LIMIT 2048
 
 /* A plan has at most 32 streams, and none if its text has no bytes; a stream holds at most 16 events. Windows: see number 18. */
@@ -137,7 +143,8 @@ enum tessla_number {
     TESSLA_BAD_STATE = 15,     /* all on a state     wrong state length; but for load also contents that are no state */
     TESSLA_BAD_WRITE = 17,     /* register calls     the block is not 24 bytes long; a write to bytes 17, 20 to 23 or beyond, or of
                                                      a command other than 1 to 3. (16 is the replay program's.) */
-    TESSLA_TEXT_WINDOW = 18    /* load               the k of a wsum, wmin or wmax is not 1 to 64, or there are more than eight */
+    TESSLA_TEXT_WINDOW = 18,   /* load               the k of a wsum, wmin or wmax is not 1 to 64, or there are more than eight */
+    TESSLA_TEXT_ROOM = 19      /* plan_text          the lent buffer is shorter than the text of this plan */
 };
 
 /*
@@ -183,6 +190,20 @@ uint32_t tessla_run(uint8_t *state, uint64_t state_length, uint32_t n, uint32_t 
  * Numbers: 15, 13, 14. Done: *stamp and *value are the event.
  */
 uint32_t tessla_collect(uint8_t *state, uint64_t state_length, uint32_t stream, uint32_t *stamp, int64_t *value);
+
+/*
+ * Plan text: writes the plan of the state as text into the lent buffer `text`, and gives the text's length. The state stays as it
+ * is; what its streams know, hold or keep is not in the text.
+ * Numbers: 15, 19. Done: the text is in the buffer from its first byte on, *length bytes; every byte behind it stays as it was.
+ * There is no ending zero byte, and *length counts none. A buffer just as long as the text is long enough; one of
+ * TESSLA_TEXT_LIMIT bytes always is. Refused: no byte of the buffer is written, not even a part of the text, and *length is 0:
+ * it does not say how many bytes are needed.
+ * Of a state without a plan the text has no bytes: 0, *length 0, also in a buffer of no bytes, whose pointer may be NULL.
+ *
+ * The text is the one that load took, byte for byte, whatever calls were made on the state since. Of any state that is not
+ * refused 15 load takes the text, and leaves the state that is fresh with the same plan.
+ */
+uint32_t tessla_plan_text(const uint8_t *state, uint64_t state_length, uint8_t *text, uint64_t text_length, uint64_t *length);
 
 /*
  * The block of registers: TESSLA_BLOCK_LENGTH bytes that the firmware owns and lends beside a state. A number lies with its least
@@ -334,7 +355,8 @@ static inline uint64_t tessla_bounds(const uint8_t *state) {
     X(14, "collect: nothing waits") \
     X(15, "the buffer is no state of this engine") \
     X(17, "registers: the block is not 24 bytes long, this byte of it cannot be written, or the command is not 1, 2 or 3") \
-    X(18, "a window is not 1 to 64 events wide, or the plan has more than eight windows")
+    X(18, "a window is not 1 to 64 events wide, or the plan has more than eight windows") \
+    X(19, "plan text: the lent buffer is shorter than the text of this plan")
 
 static inline const char *tessla_text(uint32_t number) {
     switch (number) {

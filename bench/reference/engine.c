@@ -739,6 +739,69 @@ uint32_t ref_collect(uint8_t *state, uint64_t state_length, uint32_t stream, uin
     return is_state(state, state_length, &n) ? collected(state, n, stream, stamp, value) : 15;
 }
 
+/* ---- plan text */
+
+static unsigned digits(uint64_t x) {
+    unsigned n = 1;
+    while (x /= 10) n++;
+    return n;
+}
+
+/* a value without its sign */
+static uint64_t size_of(int64_t v) { return v < 0 ? 0 - (uint64_t)v : (uint64_t)v; }
+
+static size_t line_length(const uint8_t *r) {
+    size_t numbers = digits(arg_a(r)) + digits(arg_b(r)) + (k_of(r) < 0) + digits(size_of(k_of(r))) + digits(is_out(r));
+    return strlen("op=\na=\nb=\nk=\nout=\n") + strlen(NAMES[op_of(r)]) + numbers;
+}
+
+/* the length of the text of a state of n streams; the plan of no streams is written by no bytes */
+static size_t plan_length(const uint8_t *state, unsigned n) {
+    if (n == 0) return 0;
+    size_t length = strlen("plan=1\nstreams=\n") + digits(n);
+    for (unsigned s = 0; s < n; s++) length += line_length(state + RECORD * s);
+    return length;
+}
+
+static uint8_t *write_word(uint8_t *p, const char *word) {
+    while (*word) *p++ = (uint8_t)*word++;
+    return p;
+}
+
+static uint8_t *write_number(uint8_t *p, uint64_t x) {
+    unsigned n = digits(x);
+    for (unsigned i = n; i > 0; i--, x /= 10) p[i - 1] = (uint8_t)('0' + x % 10);
+    return p + n;
+}
+
+static uint8_t *write_line(uint8_t *p, const char *key, uint64_t x) {
+    p = write_number(write_word(p, key), x);
+    *p++ = '\n';
+    return p;
+}
+
+static void write_plan(uint8_t *p, const uint8_t *state, unsigned n) {
+    p = write_line(write_word(p, "plan=1\n"), "streams=", n);
+    for (unsigned s = 0; s < n; s++) {
+        const uint8_t *r = state + RECORD * s;
+        p = write_word(write_word(write_word(p, "op="), NAMES[op_of(r)]), "\n");
+        p = write_line(write_line(p, "a=", arg_a(r)), "b=", arg_b(r));
+        p = write_line(p, k_of(r) < 0 ? "k=-" : "k=", size_of(k_of(r)));
+        p = write_line(p, "out=", is_out(r));
+    }
+}
+
+uint32_t ref_plan_text(const uint8_t *state, uint64_t state_length, uint8_t *text, uint64_t text_length, uint64_t *length) {
+    *length = 0;
+    unsigned n;
+    if (!is_state(state, state_length, &n)) return 15;
+    size_t needed = plan_length(state, n);
+    if (text_length < needed) return 19;
+    if (n > 0) write_plan(text, state, n);
+    *length = needed;
+    return 0;
+}
+
 /* ---- the reader board's block */
 
 enum { AT_STREAM = 0, AT_STAMP = 4, AT_VALUE = 8, AT_COMMAND = 16, AT_STATUS, AT_FLAGS, AT_MASK, AT_REPLY, BLOCK = 24 };

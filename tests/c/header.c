@@ -1,6 +1,6 @@
 /*
  * What include/tessla.h says of a state's bytes without a call, against the calls; its places, commands and flags, against writes
- * to a block; and its texts of the numbers.
+ * to a block; the lengths of plan texts, against the texts that come back; and its texts of the numbers.
  */
 #include <stdio.h>
 #include <string.h>
@@ -37,6 +37,49 @@ static void look_used(uint32_t n, uint32_t used) {
         uint32_t number = tessla_collect(state, sizeof state, i, &stamp, &value);
         expect(tessla_is_output(state, i) == (number != TESSLA_NO_OUTPUT), "whether a stream is an output", i);
     }
+}
+
+/* the call once more: with another prototype in the header this does not compile. The state is lent to be read only */
+uint32_t tessla_plan_text(const uint8_t *, uint64_t, uint8_t *, uint64_t, uint64_t *);
+
+enum { MARK = 0xA5 };
+
+/* the call with so many bytes of a buffer of marks: its number and *length, and how many bytes of the buffer are no marks then */
+static uint32_t written(uint8_t *buffer, uint64_t room, uint64_t *length) {
+    uint32_t changed = TESSLA_TEXT_LIMIT + 1;
+    memset(buffer, MARK, TESSLA_TEXT_LIMIT + 1);
+    *length = UINT64_MAX;
+    uint32_t number = tessla_plan_text(state, sizeof state, buffer, room, length);
+    while (changed > 0 && buffer[changed - 1] == MARK) changed--;
+    expect(changed == *length, "bytes behind the text", changed);
+    return number;
+}
+
+/* the loaded plan's text comes back: of TESSLA_TEXT_LIMIT bytes and of as many as it has, with no zero behind; 19 of fewer */
+static void look_at_text(const char *text, uint32_t n) {
+    static uint8_t buffer[TESSLA_TEXT_LIMIT + 1];
+    static uint8_t before[TESSLA_STATE_LENGTH];
+    uint64_t length, rooms[] = { TESSLA_TEXT_LIMIT, n };
+    memcpy(before, state, sizeof before);
+    for (int i = 0; i < 2; i++) {
+        expect(written(buffer, rooms[i], &length) == TESSLA_DONE && length == n, "the length of a text", n);
+        expect(memcmp(buffer, text, n) == 0, "the text", n);
+    }
+    for (uint32_t room = 0; room < n; room += room + 7 < n ? 7 : 1)
+        expect(written(buffer, room, &length) == TESSLA_TEXT_ROOM && length == 0, "a buffer too short", room);
+    expect(tessla_plan_text(state, sizeof state - 1, buffer, sizeof buffer, &length) == TESSLA_BAD_STATE && length == 0, "no state", n);
+    expect(memcmp(before, state, sizeof before) == 0, "the state after its text", n);
+}
+
+/* the longest text: 31 streams of plus with two digits of a and 20 characters of k, and one that has no argument */
+static void look_at_the_longest(void) {
+    char text[TESSLA_TEXT_LIMIT + 1];
+    uint32_t at = (uint32_t)sprintf(text, "plan=1\nstreams=%d\n", TESSLA_STREAM_LIMIT);
+    for (int i = 0; i < TESSLA_STREAM_LIMIT - 1; i++) at += (uint32_t)sprintf(text + at, "op=plus\na=31\nb=0\nk=-9223372036854775808\nout=1\n");
+    at += (uint32_t)sprintf(text + at, "op=unit\na=0\nb=0\nk=0\nout=1\n");
+    expect(at == 1470, "the longest text", at);
+    expect(tessla_load(state, sizeof state, (const uint8_t *)text, at) == TESSLA_DONE, "load of the longest text", at);
+    look_at_text(text, at);
 }
 
 /* the loaded plan has n streams and no window */
@@ -211,13 +254,17 @@ int main(void) {
     uint32_t moves;
     for (uint32_t n = 0; n <= TESSLA_STREAM_LIMIT; n++) {
         memset(state, 0xA5, sizeof state);
-        expect(tessla_load(state, sizeof state, (const uint8_t *)text, make(text, n)) == TESSLA_DONE, "load", n);
+        uint32_t length = make(text, n);
+        expect(tessla_load(state, sizeof state, (const uint8_t *)text, length) == TESSLA_DONE, "load", n);
         look(n);
+        look_at_text(text, length);
         tessla_run(state, sizeof state, 1000, &moves);
         look(n);
+        look_at_text(text, length);
     }
     expect(tessla_load(state, sizeof state, (const uint8_t *)PLAN, sizeof PLAN - 1) == TESSLA_DONE, "load", 0);
     look(14);
+    look_at_text(PLAN, sizeof PLAN - 1);
     /* no plan over that one, and no text to point at */
     expect(tessla_load(state, sizeof state, NULL, 0) == TESSLA_DONE, "load", 0);
     look(0);
@@ -226,14 +273,17 @@ int main(void) {
     expect(tessla_move(state, sizeof state, 0) == TESSLA_NO_EQUATION, "a move without a plan", 0);
     expect(tessla_run(state, sizeof state, 5, &moves) == TESSLA_DONE && moves == 0, "a run without a plan", moves);
     look(0);
+    uint64_t none = 1;
+    expect(tessla_plan_text(state, sizeof state, NULL, 0, &none) == TESSLA_DONE && none == 0, "the text of no plan", 0);
     expect(!tessla_is_output(state, UINT32_MAX) && !tessla_is_output(state, 1u << 24), "a stream far out", 0);
 
+    look_at_the_longest();
     look_at_windows();
     look_at_bounds();
     look_at_places();
     look_at_a_run();
 
-    for (uint32_t n = 0; n <= TESSLA_TEXT_WINDOW; n++)
+    for (uint32_t n = 0; n <= TESSLA_TEXT_ROOM; n++)
         for (uint32_t m = 0; m < n; m++) expect(strcmp(tessla_text(n), tessla_text(m)) != 0, "one text for two numbers", n);
     expect(strcmp(tessla_text(16), "no number of this engine") == 0, "the text of no number", 16);
     sprintf(version, "%d.%d", TESSLA_VERSION_MAJOR, TESSLA_VERSION_MINOR);

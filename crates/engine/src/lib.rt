@@ -1,11 +1,12 @@
 // The calls that the firmware links. Each works on lent buffers, asks nothing of its caller, and is promised equal to a
-// definition (`loadReply`, `reply`, `write`, `line`): its number, its results and the buffers it leaves.
+// definition (`loadReply`, `reply`, `planText`, `write`, `line`): its number, its results and the buffers it leaves.
 ghost use mathlib.Core.Path.{_≡_};
 ghost use Rattle.block.specs.Block as board;
 ghost use Rattle.registers.specs.Write.{write};
 ghost use Rattle.machine.specs.Calls.{reading, progress, moving, running, collecting};
 ghost use Rattle.engine.specs.Load.{loadReply};
 ghost use Rattle.calls.specs.Reply.{reply};
+ghost use Rattle.writing.specs.Text.{planText};
 use operators::Plan;
 use valid::Tested;
 
@@ -100,6 +101,22 @@ pub extern "C" fn tessla_run(state: &mut [u8], n: u32, moves: &mut u32) -> u32
         }
         Tested::NoState => {
             *moves = 0;
+            15
+        }
+    }
+}
+
+// Writes the plan of a state as text into a lent buffer; `length` says how many bytes it has.
+#[no_mangle]
+pub extern "C" fn tessla_plan_text(state: &[u8], text: &mut [u8], length: &mut u64) -> u32
+    ensures number { λ r. ⌜ r ≡ planText (now (state .entry)) (now (text .entry)) .number ⌝ }
+    ensures length { λ _. ⌜ now (length .exit) ≡ planText (now (state .entry)) (now (text .entry)) .length ⌝ }
+    ensures buffer { λ _. ⌜ now (text .exit) ≡ planText (now (state .entry)) (now (text .entry)) .buffer ⌝ }
+{
+    match valid::streams(state) {
+        Tested::State(n) => writing::write(state, n, text, length),
+        Tested::NoState => {
+            *length = 0;
             15
         }
     }

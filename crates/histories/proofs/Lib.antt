@@ -3,3 +3,4 @@ pub mod Taking
 pub mod Shown
 pub mod Whole
 pub mod NoPlan
+pub mod ReadsBack

@@ -5,6 +5,7 @@ use mathlib.Core.List.{List}
 use Rattle.calls.specs.Reply.{Reply, plain, reply}
 use Rattle.histories.specs.Demands.{LeavesAll, Refusals}
 use Rattle.calls.proofs.Answers.{refused-plain}
+use Rattle.writing.proofs.Cases.{text-refused}
 use Rattle.block.proofs.Flags.{line-refused}
 use Rattle.registers.proofs.Refusals.{laws}
 use Rattle.engine.proofs.Loads.{load-refused, load-results}
@@ -18,6 +19,7 @@ pub refusals : Refusals
 refusals = record {
   ofLoad = λ text s z. let r = load-results text s in record { noMoves = r .0; noStamp = r .1; noValue = r .2; sameBuffer = load-refused text s z };
   ofCall = λ c s b z. plain-leaves (reply c s) (reply c s .number) s (refused-plain c s b z);
+  ofText = text-refused;
   ofWrite = λ s b at x h. laws .refusal s b at x h .sameState;
   ofLine = line-refused;
 }

@@ -10,7 +10,8 @@ use lib.ListN.{length, length-append, getD}
 use borrow.Author.Tests.{eqb-true, eqb-false}
 use Rattle.meaning.specs.Events.{Streams, horizon}
 use Rattle.meaning.specs.Table.{Solves}
-use Rattle.machine.specs.State.{Declared, declaredPlan, State, loaded}
+use Rattle.machine.specs.State.{Declared, declaredPlan, declaredIn, State, loaded}
+use Rattle.machine.proofs.SamePlan.{loaded-plan, call-plan}
 use Rattle.machine.specs.Calls.{Call, reading, progress, moving, running, collecting, call}
 use Rattle.runs.specs.Seen.{Seen, Typed, AllTyped}
 use Rattle.runs.specs.Demand3.{readingsSeen, AtRest, Demand3}
@@ -24,6 +25,10 @@ use Rattle.encoding.specs.View.{bytesOf}
 use Rattle.encoding.specs.Sound.{Sound}
 use Rattle.preserve.proofs.Calls.{Offered, call-sound}
 use Rattle.roundtrip.proofs.Whole.{bytes-length}
+use Rattle.roundtrip.proofs.In.{bytes-are, bytes-in}
+use Rattle.render.specs.Render.{render}
+use Rattle.writing.specs.Text.{given, planText}
+use Rattle.writing.proofs.Cases.{text-state}
 use Rattle.plan.specs.Rules.{number, declared}
 use Rattle.plan.specs.Taken.{KeepsRules}
 use Rattle.plan.proofs.Taken.{taken-rendered}
@@ -35,10 +40,10 @@ use Rattle.calls.proofs.Bytes.{state-bytes}
 use Rattle.registers.specs.Write.{callIn, write, starts}
 use Rattle.registers.proofs.Sequence.{one-write}
 use Rattle.engine.specs.Load.{loadReply}
-use Rattle.histories.specs.Demands.{Act, load, make, writeTo, putBack, Course, Point, seenIn, courseOfCall, shownIn, acted, pointFrom, pointAfter, TypedAct, AllTypedActs, RestAhead, Demands, DemandsAt}
+use Rattle.histories.specs.Demands.{Act, load, make, askText, writeTo, putBack, Course, Point, seenIn, courseOfCall, shownIn, acted, pointFrom, pointAfter, TypedAct, AllTypedActs, RestAhead, Demands, DemandsAt}
 use Rattle.histories.specs.Inside.{callsOf, Inside, InsideAt}
 use Rattle.calls.proofs.Answers.{reply-machine}
-use Rattle.engine.proofs.Loads.{load-done, load-refused}
+use Rattle.engine.proofs.Loads.{load-done, load-refused, load-length}
 use Rattle.histories.proofs.Shown.{shown-is, typed-call}
 
 -- ---- a plan that keeps the written rules is one that the theorem on runs speaks of
@@ -57,6 +62,11 @@ log-more : (cs : List Call) (c : Call) (M : State) → log (cs ++ c ∷ []) M �
 unfolding after log
 log-more [] c M = refl
 log-more (d ∷ cs) c M = ap (λ (l : List Seen). seenOf d (call d M) ∷ l) (log-more cs c (call d M .state))
+
+after-plan : (cs : List Call) (M : State) → declaredIn (after cs M) ≡ declaredIn M
+unfolding after
+after-plan [] M = refl
+after-plan (c ∷ cs) M = after-plan cs (call c M .state) ∙ call-plan c M
 
 typed-more : (cs : List Call) (c : Call) → AllTyped cs → Typed c → AllTyped (cs ++ c ∷ [])
 typed-more [] c h t = (t, tt)
@@ -129,9 +139,10 @@ calls-kept (c ∷ more) ds cs seen b t k =
 
 -- ---- a history
 
+-- and the text is that of the plan
 abbrev KeptIn : Option Course → List ℕ → Type 0
 KeptIn none b = Unit {0}
-KeptIn (some x) b = (cs : List Call) × Kept (x .plan) cs (x .seen) b
+KeptIn (some x) b = (cs : List Call) × Kept (x .plan) cs (x .seen) b × (render (x .plan) ≡ x .text)
 
 abbrev KeptAt : Point → Type 0
 KeptAt p = KeptIn (p .course) (p .bytes)
@@ -154,14 +165,19 @@ unfolding acted
 kept-act (load text) past p t h k = by (eqb (loadReply text (p .bytes) .number) 0) refl
   where
     by : (x : Bool) → eqb (loadReply text (p .bytes) .number) 0 ≡ x
-        → KeptIn (cond x (some (record { plan = declared (capacity (length (loadReply text (p .bytes) .buffer))) text; seen = [] })) (p .course)) (loadReply text (p .bytes) .buffer)
-    by true e = let d = load-done text (p .bytes) (eqb-true (loadReply text (p .bytes) .number) 0 e) in ([], start text (loadReply text (p .bytes) .buffer) (length (p .bytes)) (d .2) (d .0) (d .1))
+        → KeptIn (cond x (some (record { text = text; plan = declared (capacity (length (loadReply text (p .bytes) .buffer))) text; seen = [] })) (p .course)) (loadReply text (p .bytes) .buffer)
+    by true e =
+        let d = load-done text (p .bytes) (eqb-true (loadReply text (p .bytes) .number) 0 e) in
+        let b = loadReply text (p .bytes) .buffer in
+        let z : length b ≡ length (p .bytes) = load-length text (p .bytes) in
+        ([], start text b (length (p .bytes)) (d .2) (d .0) (d .1), rw z (taken-rendered (capacity (length (p .bytes))) text (d .0) .0))
     by false e = subst (KeptIn (p .course)) (sym (load-refused text (p .bytes) (eqb-false (loadReply text (p .bytes) .number) 0 e))) k
 kept-act (make c) past p t h k = by (p .course) k
   where
     by : (o : Option Course) → KeptIn o (p .bytes) → KeptIn (courseOfCall c (reply c (p .bytes)) o) (reply c (p .bytes) .buffer)
     by none k = tt
-    by (some x) k = (k .0 ++ c ∷ [], further (x .plan) (k .0) (x .seen) (p .bytes) c t (k .1))
+    by (some x) k = (k .0 ++ c ∷ [], further (x .plan) (k .0) (x .seen) (p .bytes) c t (k .1), k .2)
+kept-act (askText b) past p t h k = k
 kept-act (writeTo b at x) past p t h k = by (starts b at x) refl (p .course) k
   where
     by : (q : Bool) → starts b at x ≡ q → (o : Option Course) → KeptIn o (p .bytes)
@@ -175,6 +191,7 @@ kept-act (writeTo b at x) past p t h k = by (starts b at x) refl (p .course) k
           subst (λ (m : List ℕ). Kept (y .plan) (k .0 ++ callIn b x ∷ []) (y .seen ++ seenIn (callIn b x) (shownIn x (reply (callIn b x) (p .bytes)) (write (p .bytes) b at x)) ∷ []) m) (sym f)
               (subst (λ (r : Reply). Kept (y .plan) (k .0 ++ callIn b x ∷ []) (y .seen ++ seenIn (callIn b x) r ∷ []) (reply (callIn b x) (p .bytes) .buffer)) (sym e)
               (further (y .plan) (k .0) (y .seen) (p .bytes) (callIn b x) (typed-call b x t) (k .1))),
+          k .2,
         )
     by false q o k = subst (KeptIn o) (sym (one-write (p .bytes) b at x .none q)) k
 kept-act (putBack n) past p t h k = kept-at past n p h k
@@ -219,8 +236,14 @@ demand-numbers ds seen n m S e d = record {
     back : AtRest ds m → AtRest ds n
     back = rest-numbers ds m n (λ c. sym (e c))
 
-kept-demands : (x : Course) (b : List ℕ) (cs : List Call) → Kept (x .plan) cs (x .seen) b → Demands x b
-kept-demands x b cs k =
+-- no call changes the plan, so the text of the state is that of the load
+kept-text : (ds : List Declared) (cs : List Call) (seen : List Seen) (b : List ℕ) → Kept ds cs seen b → (lent : List ℕ) → planText b lent ≡ given (render ds) lent
+kept-text ds cs seen b k lent =
+    let v = bytes-are (length b) (final ds cs) b (length (final ds cs)) (k .sound) refl (k .bytes) .isValid in
+    text-state b lent v ∙ ap (λ (l : List Declared). given (render l) lent) (ap declaredIn (bytes-in (length b) (final ds cs) b (k .sound) (k .bytes)) ∙ after-plan cs (loaded ds) ∙ loaded-plan ds)
+
+kept-demands : (x : Course) (b : List ℕ) (cs : List Call) → Kept (x .plan) cs (x .seen) b → render (x .plan) ≡ x .text → Demands x b
+kept-demands x b cs k text =
     let keep = rules-keep (x .plan) (k .rules) in
     let c : Claim (x .plan) cs = whole-runs (x .plan) keep cs (k .typed) in
     let few : length (x .plan) ≤ mostStreams = omega (arith, k .rules .few, capacity-few (length b)) in
@@ -233,6 +256,7 @@ kept-demands x b cs k =
           subst (λ (l : List Seen). Demand3 (x .plan) l (λ d. reply d b .number) (c .solution)) (sym (k .logged))
           (demand-numbers (x .plan) (log cs (loaded (x .plan))) (nextNumber (x .plan) cs) (λ d. reply d b .number) (c .solution) (next-number (x .plan) cs (x .seen) b k) (c .demand3));
       canRest = rest (rest-reached (x .plan) keep (omega arith) cs (k .typed));
+      textBack = λ lent. kept-text (x .plan) cs (x .seen) b k lent ∙ ap (λ (w : List ℕ). given w lent) text;
       never15 = λ d q. call-15 d (final (x .plan) cs) (next-number (x .plan) cs (x .seen) b k d ∙ q);
     }
   where
@@ -259,7 +283,7 @@ demands-hold acts t s = go (pointAfter acts s .course) (history-kept acts t s)
   where
     go : (o : Option Course) → KeptIn o (pointAfter acts s .bytes) → DemandsAt o (pointAfter acts s .bytes)
     go none k = tt
-    go (some x) k = kept-demands x (pointAfter acts s .bytes) (k .0) (k .1)
+    go (some x) k = kept-demands x (pointAfter acts s .bytes) (k .0) (k .1) (k .2)
 
 -- The same with the machine: the bytes are its state after the calls, and demand 2 holds of it.
 pub inside-holds : (acts : List Act) → AllTypedActs acts → (s : List ℕ) → InsideAt (pointAfter acts s .course) (pointAfter acts s .bytes)

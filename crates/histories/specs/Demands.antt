@@ -1,5 +1,5 @@
 -- Believe: the page to read, demands 1 to 3 of any history of a lent buffer, told by what the exported calls return
--- (`loadReply`, `reply`, `write` and `line`, to which each is promised equal). It is read with the meaning of a plan
+-- (`loadReply`, `reply`, `planText`, `write` and `line`, to which each is promised equal). It is read with the meaning of a plan
 -- (crates/meaning: Plan, Events, Table), with what a caller sees and demand 3 itself (crates/runs: Seen, Demand3), with the
 -- registers where they are written to (crates/block, crates/registers), and without machine or layout.
 use Prim.Native.Nat.{ℕ, _<_}
@@ -24,6 +24,7 @@ use Rattle.render.specs.Render.{render}
 use Rattle.plan.specs.Rules.{declared}
 use Rattle.plan.specs.Taken.{KeepsRules}
 use Rattle.calls.specs.Reply.{Reply, reply, leftBy}
+use Rattle.writing.specs.Text.{given, planText}
 use Rattle.block.specs.Block.{valueIn, replyStampIn, line}
 use Rattle.registers.specs.Write.{Written, callIn, write, starts}
 use Rattle.engine.specs.Load.{loadReply}
@@ -40,6 +41,8 @@ pub record LeavesAll (r : Reply) (s : List ℕ) : Type 0 where
 pub record Refusals : Type 0 where
   pub ofLoad : (text s : List ℕ) → (loadReply text s .number ≡ 0 → ⊥) → LeavesAll (loadReply text s) s
   pub ofCall : (c : Call) (s : List ℕ) → Bytes s → (reply c s .number ≡ 0 → ⊥) → LeavesAll (reply c s) s
+  -- "Write the plan of a state as text into a lent buffer and give its length": of a refusal nothing is written and the length is 0
+  pub ofText : (s b : List ℕ) → (planText s b .number ≡ 0 → ⊥) → (planText s b .length ≡ 0) × (planText s b .buffer ≡ b)
   -- a register write may change its block; how is in crates/registers/specs/Laws.antt
   pub ofWrite : (s b : List ℕ) (at x : ℕ) → Bytes s → (write s b at x .number ≡ 0 → ⊥) → write s b at x .state ≡ s
   pub ofLine : (b : List ℕ) → (line b .number ≡ 0 → ⊥) → line b .up ≡ 0
@@ -56,16 +59,18 @@ pub record Taking : Type 0 where
 
 -- ## A history
 
--- a load of a plan text, one of the other calls, the write of a byte at a place of a block, which may hold anything, or a copy put
--- back: the bytes that the buffer had after so many acts
+-- a load of a plan text, one of the other calls, the plan's text written into a buffer, the write of a byte at a place of a block,
+-- which may hold anything, as the buffer may, or a copy put back: the bytes that the state had after so many acts
 pub data Act : Type 0 where
   load : List ℕ → Act
   make : Call → Act
+  askText : (b : List ℕ) → Act
   writeTo : (b : List ℕ) (at x : ℕ) → Act
   putBack : ℕ → Act
 
--- the list of calls since the last done load: the streams that its text declares, and what was seen of each call
+-- the list of calls since the last done load: its text, the streams that it declares, and what was seen of each call
 pub record Course : Type 0 where
+  pub text : List ℕ
   pub plan : List Declared
   pub seen : List Seen
 
@@ -79,11 +84,11 @@ seenIn c r = record { made = c; number = r .number; moves = r .moves; stamp = r 
 
 -- "A load that is done starts a new list; one that is refused leaves the list as it was."
 abbrev pub courseOfLoad : List ℕ → Reply → Option Course → Option Course
-courseOfLoad text r o = cond (eqb (r .number) 0) (some (record { plan = declared (capacity (length (r .buffer))) text; seen = [] })) o
+courseOfLoad text r o = cond (eqb (r .number) 0) (some (record { text = text; plan = declared (capacity (length (r .buffer))) text; seen = [] })) o
 
 abbrev pub courseOfCall : Call → Reply → Option Course → Option Course
 courseOfCall c r none = none
-courseOfCall c r (some x) = some (record { plan = x .plan; seen = x .seen ++ seenIn c r ∷ [] })
+courseOfCall c r (some x) = some (record { text = x .text; plan = x .plan; seen = x .seen ++ seenIn c r ∷ [] })
 
 -- what a command's write shows of its call: the number, and of a done collect what then lies in the block, w being what the write
 -- gives and r the call's answer, of which the count of moves isn't shown
@@ -103,6 +108,7 @@ courseOfWrite b at x r w o = cond (starts b at x) (courseOfCall (callIn b x) (sh
 unfoldable pub acted : Act → List Point → Point → Point
 acted (load text) past p = let r = loadReply text (p .bytes) in record { bytes = r .buffer; course = courseOfLoad text r (p .course) }
 acted (make c) past p = let r = reply c (p .bytes) in record { bytes = r .buffer; course = courseOfCall c r (p .course) }
+acted (askText b) past p = p  -- the state is lent for reading alone
 acted (writeTo b at x) past p = let w = write (p .bytes) b at x in record { bytes = w .state; course = courseOfWrite b at x (reply (callIn b x) (p .bytes)) w (p .course) }
 acted (putBack k) past p = getD past k p
 
@@ -118,6 +124,7 @@ pointAfter acts s = pointFrom acts [] (record { bytes = s; course = none })
 abbrev pub TypedAct : Act → Type 0
 TypedAct (load text) = Unit {0}
 TypedAct (make c) = Typed c
+TypedAct (askText b) = Unit {0}
 TypedAct (writeTo b at x) = Bytes b
 TypedAct (putBack k) = Unit {0}
 
@@ -144,6 +151,8 @@ pub record Demands (x : Course) (b : List ℕ) : Type 1 where
   -- demand 3 of that solution
   pub demand3 : Demand3 (x .plan) (x .seen) (λ c. reply c b .number) solution
   pub canRest : RestAhead (x .plan) b
+  -- "any text that load takes comes back byte for byte. Bytes after the text stay."
+  pub textBack : (lent : List ℕ) → planText b lent ≡ given (x .text) lent
   -- "No state left by load and the calls is refused 15."
   pub never15 : (c : Call) → reply c b .number ≡ 15 → ⊥
 

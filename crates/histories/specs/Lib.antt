@@ -1,3 +1,4 @@
 pub mod Demands
 pub mod Inside
 pub mod NoPlan
+pub mod ReadsBack

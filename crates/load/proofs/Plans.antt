@@ -8,7 +8,7 @@ use lib.Dec.{T}
 use lib.ListN.{length, length-map}
 use Rattle.meaning.specs.Plan.{isInput, Plan}
 use Rattle.meaning.specs.Cycle.{Acyclic}
-use Rattle.machine.specs.State.{Cell, State, Declared, loaded, cellAt, planOf, declaredPlan}
+use Rattle.machine.specs.State.{Cell, State, declares, declaredIn, loaded, cellAt, planOf, declaredPlan}
 use Rattle.operators.specs.Limits.{capacity}
 use Rattle.operators.proofs.Sizes.{capacity-few}
 use Rattle.le.specs.Bytes.{Bytes}
@@ -23,13 +23,6 @@ use Rattle.plan.proofs.Taken.{taken-rendered}
 use Rattle.plan.proofs.Rendered.{render-taken}
 use Rattle.render.specs.Render.{render}
 use Rattle.load.proofs.Fresh.{loaded-sound}
-
-abbrev declares : Cell → Declared
-declares c = record { eqn = c .eqn; out = c .out }
-
--- the streams that a state was loaded with
-abbrev pub declaredIn : State → List Declared
-declaredIn M = map declares M
 
 no-output : (x o : Bool) → (T x → o ≡ false) → (x && o) ≡ false
 no-output true o h = h tt

@@ -77,6 +77,13 @@ pub record Declared : Type 0 where
 abbrev pub declaredPlan : List Declared → Plan
 declaredPlan ds = map (λ d. d .eqn) ds
 
+-- the streams of a state as a plan text declares them: its plan, without bounds, events and what is kept
+abbrev pub declares : Cell → Declared
+declares c = record { eqn = c .eqn; out = c .out }
+
+abbrev pub declaredIn : State → List Declared
+declaredIn M = map declares M
+
 -- a stream as load leaves it: "a fresh state, all bounds 0"
 abbrev pub fresh : Declared → Cell
 fresh d = record { eqn = d .eqn; out = d .out; bound = 0; held = []; next = 0; kept = noKept; passed = noPassed }

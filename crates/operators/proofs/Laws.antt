@@ -57,7 +57,7 @@ fold-place wmax = lit≤ tt
 -- ---- laws by computing over the table
 
 -- what two functions of a row give at every row of the table, they give at every number, with a row or not
-by-row : {A : Type 0} (f g : Operator → A) → f noOperator ≡ g noOperator → map f operators ≡ map g operators → (n : ℕ) → f (getD operators n noOperator) ≡ g (getD operators n noOperator)
+pub by-row : {A : Type 0} (f g : Operator → A) → f noOperator ≡ g noOperator → map f operators ≡ map g operators → (n : ℕ) → f (getD operators n noOperator) ≡ g (getD operators n noOperator)
 by-row f g = agreeing f g operators noOperator
 
 -- what two functions of the stored number give at all operators, they give at every one

@@ -35,6 +35,7 @@ use Rattle.render.specs.Render.{bitText, line, streamText, declaredText, allTex
 use Rattle.decimal.proofs.Digits.{digits-few}
 use Rattle.render.proofs.Streams.{bitsOf, outOf, name-short, stream-written}
 use Rattle.render.proofs.Heads.{head-written}
+use Rattle.render.proofs.Lengths.{stream-length, opening-length}
 use Rattle.plan.specs.Rules.{keeps, allKeep, formed, streams, declaredFrom, planFrom, allWidths, windowsOk, numberAfter, number, declared}
 use Rattle.plan.specs.Taken.{StreamKeeps, Each, KeepsRules}
 use Rattle.plan.proofs.Pass.{put-streams}
@@ -168,29 +169,16 @@ streams-written s n h (d ∷ ds) k at r l e =
 
 -- ## The length
 
-line-length : (key value : List ℕ) → length (line key value) ≡ length key + (length value + 1)
-line-length key value = length-append key (value ++ ending) ∙ ap (λ (n : ℕ). length key + n) (length-append value ending)
-
 value-length : (k : ℤ) → mag k < 2 ^ 63 → length (valueText k) ≤ 20
 value-length (pos n) h = omega (arith, digits-few 19 n 19 (lit< tt) (omega arith))
 value-length (negsuc n) h = omega (arith, digits-few 19 (suc n) 19 (lit< tt) (omega arith))
 
-bit-length : (b : Bool) → length (bitText b) ≡ 1
-bit-length true = refl
-bit-length false = refl
-
 declared-length : (n : ℕ) (d : Declared) → StreamKeeps n d → n ≤ mostStreams → length (declaredText d) ≤ 50
-unfolding declaredText streamText
+unfolding declaredText
 declared-length n d k h =
     let e = d .eqn in
-    let o = line outKey (bitText (d .out)) in
-    let v = line valueKey (valueText (valueOf e)) in
-    let y = line secondKey (decimal (argB e)) in
-    let x = line firstKey (decimal (argA e)) in
-    let w = line opKey (nameOf (numberOf e)) in
     let r = number-range e in
-    rw (length-append w (x ++ (y ++ (v ++ o))), length-append x (y ++ (v ++ o)), length-append y (v ++ o), length-append v o)
-    (omega (arith, line-length opKey (nameOf (numberOf e)), line-length firstKey (decimal (argA e)), line-length secondKey (decimal (argB e)), line-length valueKey (valueText (valueOf e)), line-length outKey (bitText (d .out)), name-short (numberOf e) (r .0) (r .1), digits-few 19 (argA e) 3 (lit< tt) (first-small n e (k .arguments) h), digits-few 19 (argB e) 3 (lit< tt) (second-small n e (k .arguments) h), value-length (valueOf e) (k .value), bit-length (d .out)))
+    omega (arith, stream-length (numberOf e) (argA e) (argB e) (valueOf e) (d .out), name-short (numberOf e) (r .0) (r .1), digits-few 19 (argA e) 3 (lit< tt) (first-small n e (k .arguments) h), digits-few 19 (argB e) 3 (lit< tt) (second-small n e (k .arguments) h), value-length (valueOf e) (k .value))
 
 all-length : (n : ℕ) (ds : List Declared) → Each n ds → n ≤ mostStreams → length (allText ds) ≤ 50 * length ds
 unfolding allText
@@ -201,8 +189,7 @@ all-length n (d ∷ ds) k h = rw (length-append (declaredText d) (allText ds)) (
 opening-short : (n : ℕ) → n < 10 ^ 3 → length (opening n) ≤ 19
 opening-short zero h = omega arith
 opening-short (suc n) h =
-    rw (length-append planLine (line streamsKey (decimal (suc n))))
-    (omega (arith, line-length streamsKey (decimal (suc n)), digits-few 19 (suc n) 3 (lit< tt) h))
+    omega (arith, opening-length (suc n) (omega arith), digits-few 19 (suc n) 3 (lit< tt) h)
 
 pub render-short : (cap : ℕ) → cap ≤ mostStreams → (ds : List Declared) → KeepsRules cap ds → length (render ds) ≤ textLimit
 unfolding render

@@ -198,11 +198,11 @@ abbrev pub Left : ℕ → Type 0 → List ℕ → Type 0
 Left x T [] = T
 Left x T (y ∷ l) = Left x (T × (x ≡ y → ⊥)) l
 
-abbrev Missing : ℕ → List ℕ → Type 0
+abbrev pub Missing : ℕ → List ℕ → Type 0
 Missing x [] = Unit {0}
 Missing x (y ∷ l) = (x ≡ y → ⊥) × Missing x l
 
-all-left : (x : ℕ) (T : Type 0) (l : List ℕ) → Left x T l → T × Missing x l
+pub all-left : (x : ℕ) (T : Type 0) (l : List ℕ) → Left x T l → T × Missing x l
 all-left x T [] t = (t, tt)
 all-left x T (y ∷ l) t = let r = all-left x (T × (x ≡ y → ⊥)) l t in (r .0 .0, (r .0 .1, r .1))
 

@@ -1,4 +1,4 @@
-//! A safe wrapper around the C interface, the same for both engines: a table of functions over a lent state and a lent block.
+//! A safe wrapper around the C interface, the same for both engines: a table of functions over a lent state, and a lent block or text.
 
 pub const STATE_LENGTH: usize = 12_288;
 pub const BLOCK_LENGTH: usize = 24;
@@ -9,6 +9,7 @@ type OfferProgress = unsafe extern "C" fn(*mut u8, u64, u32, u64) -> u32;
 type Move = unsafe extern "C" fn(*mut u8, u64, u32) -> u32;
 type Run = unsafe extern "C" fn(*mut u8, u64, u32, *mut u32) -> u32;
 type Collect = unsafe extern "C" fn(*mut u8, u64, u32, *mut u32, *mut i64) -> u32;
+type PlanText = unsafe extern "C" fn(*const u8, u64, *mut u8, u64, *mut u64) -> u32;
 type RegisterWrite = unsafe extern "C" fn(*mut u8, u64, *mut u8, u64, u32, u8) -> u32;
 type RegisterLine = unsafe extern "C" fn(*const u8, u64, *mut u32) -> u32;
 
@@ -19,6 +20,7 @@ extern "C" {
     fn ref_move(state: *mut u8, state_length: u64, stream: u32) -> u32;
     fn ref_run(state: *mut u8, state_length: u64, n: u32, moves: *mut u32) -> u32;
     fn ref_collect(state: *mut u8, state_length: u64, stream: u32, stamp: *mut u32, value: *mut i64) -> u32;
+    fn ref_plan_text(state: *const u8, state_length: u64, text: *mut u8, text_length: u64, length: *mut u64) -> u32;
     fn ref_register_write(state: *mut u8, state_length: u64, block: *mut u8, block_length: u64, at: u32, byte: u8) -> u32;
     fn ref_register_line(block: *const u8, block_length: u64, up: *mut u32) -> u32;
 
@@ -28,6 +30,7 @@ extern "C" {
     fn tessla_move(state: *mut u8, state_length: u64, stream: u32) -> u32;
     fn tessla_run(state: *mut u8, state_length: u64, n: u32, moves: *mut u32) -> u32;
     fn tessla_collect(state: *mut u8, state_length: u64, stream: u32, stamp: *mut u32, value: *mut i64) -> u32;
+    fn tessla_plan_text(state: *const u8, state_length: u64, text: *mut u8, text_length: u64, length: *mut u64) -> u32;
     fn tessla_register_write(state: *mut u8, state_length: u64, block: *mut u8, block_length: u64, at: u32, byte: u8) -> u32;
     fn tessla_register_line(block: *const u8, block_length: u64, up: *mut u32) -> u32;
 }
@@ -41,6 +44,7 @@ pub struct Engine {
     move_one: Move,
     run: Run,
     collect: Collect,
+    plan_text: PlanText,
     register_write: RegisterWrite,
     register_line: RegisterLine,
 }
@@ -54,6 +58,7 @@ pub const REFERENCE: Engine = Engine {
     move_one: ref_move,
     run: ref_run,
     collect: ref_collect,
+    plan_text: ref_plan_text,
     register_write: ref_register_write,
     register_line: ref_register_line,
 };
@@ -67,6 +72,7 @@ pub const LIBRARY: Engine = Engine {
     move_one: tessla_move,
     run: tessla_run,
     collect: tessla_collect,
+    plan_text: tessla_plan_text,
     register_write: tessla_register_write,
     register_line: tessla_register_line,
 };
@@ -96,6 +102,7 @@ pub enum Call {
 
 /// What the results hold before a call, so that a result left alone is seen.
 const STALE: Answer = Answer { number: 0, moves: 0xDEAD_BEEF, stamp: 0xDEAD_BEEF, value: -0x0123_4567_89AB_CDEF };
+const STALE_LENGTH: u64 = 0xDEAD_BEEF_0123_4567;
 
 impl Engine {
     pub fn load(&self, state: &mut [u8], text: &[u8]) -> u32 {
@@ -133,6 +140,33 @@ impl Engine {
                 }
             }
         }
+    }
+
+    /// The plan's text written into the buffer: the number, and the length. The state is borrowed for writing all the same, so that
+    /// a byte of it that is written can be seen.
+    pub fn plan_text(&self, state: &mut [u8], text: &mut [u8]) -> (u32, u64) {
+        let lengths = (state.len() as u64, text.len() as u64);
+        self.plan_text_claiming(state, text, lengths)
+    }
+
+    /// The same with other lengths said: of a state one that is refused, of the buffer more than it has. Of that nothing behind the
+    /// plan's text may be touched.
+    pub fn plan_text_claiming(&self, state: &mut [u8], text: &mut [u8], lengths: (u64, u64)) -> (u32, u64) {
+        assert!(lengths.0 == state.len() as u64 || lengths.0 != STATE_LENGTH as u64);
+        assert!(lengths.1 >= text.len() as u64);
+        let mut length = STALE_LENGTH;
+        // SAFETY: both slices are borrowed for writing and do not overlap; a length that is not the state's own is refused, and one
+        // that is longer than the buffer is said only where the text fits; the result is a local.
+        let number = unsafe { (self.plan_text)(state.as_mut_ptr(), lengths.0, text.as_mut_ptr(), lengths.1, &mut length) };
+        (number, length)
+    }
+
+    /// A buffer of no bytes, with a pointer to nothing.
+    pub fn plan_text_to_nowhere(&self, state: &mut [u8]) -> (u32, u64) {
+        let mut length = STALE_LENGTH;
+        // SAFETY: as above; no byte lies behind the other pointer, and its length says so.
+        let number = unsafe { (self.plan_text)(state.as_mut_ptr(), state.len() as u64, std::ptr::null_mut(), 0, &mut length) };
+        (number, length)
     }
 
     /// One byte written to the block, and the number that comes back.

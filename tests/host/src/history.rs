@@ -9,6 +9,7 @@ use crate::plan::{text_of, Op, Plan};
 use crate::random::{seed, Random};
 use crate::registers::{line, writes, Act, Board, Direct};
 use crate::saved::Saved;
+use crate::texts::{given, pattern, Given};
 
 /// Stamps that the evaluator may look at before a check is given up.
 const MOST: usize = 20_000;
@@ -153,6 +154,23 @@ impl Session {
     pub fn command(&mut self, call: Call) -> u32 {
         let acts = writes(self.block(), call).unwrap_or_else(|| panic!("no command for {call:?}"));
         acts.into_iter().map(|act| self.act(act).number).last().unwrap()
+    }
+
+    /// Asks every engine for the plan's text, into a buffer of so many bytes: the text that was loaded last, or 19. It is no call of
+    /// the list, and changes nothing.
+    pub fn text_back(&mut self, room: usize) -> Given {
+        let (before, buffer) = (self.states[0].to_vec(), pattern(room));
+        let wanted = given(Some(&self.plan), &buffer);
+        for (engine, state) in engines().iter().zip(&mut self.states) {
+            let mut text = Lent::of(&buffer);
+            let (number, length) = engine.plan_text(state, &mut text);
+            let end = Given { number, length, buffer: text.to_vec() };
+            if end != wanted {
+                panic!("{}: {} bytes of text into {room}, number {number}, wanted {} and {}", engine.name, length, wanted.length, wanted.number);
+            }
+            assert!(state[..] == before[..] && state.untouched() && text.untouched(), "{}: written", engine.name);
+        }
+        wanted
     }
 
     fn note(&mut self, call: Call, answer: Answer) {

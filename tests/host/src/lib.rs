@@ -1,5 +1,5 @@
 //! What the host tests share: the definition's evaluator, the two engines, a model on whole histories and one on any state,
-//! the block of registers over them, random plans.
+//! the block of registers over them, the plan as text, random plans.
 
 pub mod buffer;
 pub mod engine;
@@ -13,4 +13,5 @@ pub mod random;
 pub mod registers;
 pub mod replay;
 pub mod saved;
+pub mod texts;
 pub mod worked;

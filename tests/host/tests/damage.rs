@@ -1,6 +1,7 @@
 //! Texts, states and blocks of registers damaged at random: the library's numbers, results and buffers are those of the plain C
 //! engine and, on states and blocks, of the model of any state; a refusal writes nothing but what it says of the block, and nothing
-//! outside the lent buffers is touched.
+//! outside the lent buffers is touched. A text that is taken all the same comes back byte for byte, and a state that is one gives its
+//! plan's.
 
 use host::buffer::Lent;
 use host::engine::{engines, Answer, Call, BLOCK_LENGTH, STATE_LENGTH};
@@ -12,6 +13,7 @@ use host::model::Division;
 use host::plan::{parse, text_of, Stream, WINDOWS};
 use host::random::{plan, rounds, seed, Random};
 use host::registers::{line, started, writes, Act, Board};
+use host::texts::{as_defined, asked, pattern, Given};
 use std::ops::RangeInclusive;
 
 fn damaged_text(random: &mut Random) -> Vec<u8> {
@@ -93,6 +95,10 @@ fn damaged_texts() {
             ends.push(state);
         }
         assert!(ends[0][..] == ends[1][..], "seed {}: the loaded states differ\n{}", seed(), String::from_utf8_lossy(&text));
+        if number == 0 {
+            let back = Given { number: 0, length: text.len() as u64, buffer: text.to_vec() };
+            assert!(asked(&ends[0], &pattern(text.len())) == back, "seed {}: another text comes back\n{}", seed(), String::from_utf8_lossy(&text));
+        }
     }
     println!("seed {}: numbers 0 to 6 met {:?} times, 18 {} times, {ninth} of them with more than eight windows; the text of no bytes {empty} times", seed(), &met[..7], met[18]);
     assert!(met[7..18].iter().all(|&count| count == 0));
@@ -418,6 +424,8 @@ fn damaged_states() {
     let (mut zeros, mut alone, mut headless) = (0u64, 0u64, 0u64);
     // writes: commands done, refused, refused 15, refused 17, others; an output that waits in the state left
     let (mut written, mut waited) = ([0u64; 5], 0u64);
+    // texts of the plan: given, refused 19, refused 15
+    let mut texts = [0u64; 3];
     let (mut good, mut bad, mut moves, mut done) = (0u64, 0u64, 0u64, [0u64; 5]);
     let mut blocks = [Lent::of(&[0; BLOCK_LENGTH]), Lent::of(&[0; BLOCK_LENGTH])];
     for round in 0..rounds(15_000) {
@@ -456,6 +464,15 @@ fn damaged_states() {
                 4..=5 => ahead_of_both(&mut random, &mut bytes, records),
                 6..=7 => anywhere(&mut random, &mut bytes, records),
                 _ => {}
+            }
+            if random.chance(20) {
+                // as long as a text of these streams is, or somewhat longer or shorter
+                let room = if random.chance(50) { 2048 } else { 17 + random.below(30 * records as u64 + 30) as usize };
+                texts[match as_defined(&bytes, room).number {
+                    0 => 0,
+                    19 => 1,
+                    _ => 2,
+                }] += 1;
             }
             let mut states = [Lent::of(&bytes), Lent::of(&bytes)];
             // a list of calls on the damaged state, which may go on as one that no call leaves; first a move of a window that was put
@@ -630,10 +647,11 @@ fn damaged_states() {
         UNMEANT.iter().zip(unmeant_by).map(|(kind, count)| format!("{kind} {count}")).collect::<Vec<_>>().join(", ")
     );
     println!("seed {}: writes, commands done {}, refused {}, refused 15 {}, refused 17 {}, others {}; found waiting {waited}", seed(), written[0], written[1], written[2], written[3], written[4]);
+    println!("seed {}: texts of the plan given {}, refused 19 {}, refused 15 {}", seed(), texts[0], texts[1], texts[2]);
     println!("seed {}: calls on zeros {zeros}, on a first stream alone in them {alone}, on bytes behind a first byte that is 0 {headless}", seed());
     assert!(good > bad && moves > 0 && done.iter().all(|&count| count > 0));
     let reached = [below, at, above, edge, lower, before_since, untold, from_kept, unmeant, down, zeros, alone, headless];
-    let reached = [&reached[..], &written, &[waited, window_untold, taken_in, several, below_its], &unmeant_by].concat();
+    let reached = [&reached[..], &written, &texts, &[waited, window_untold, taken_in, several, below_its], &unmeant_by].concat();
     assert!(reached.iter().all(|&count| count > 0) || rounds(15_000) < 15_000, "a kind of state was never met: {reached:?}");
 }
 

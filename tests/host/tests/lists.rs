@@ -1,5 +1,6 @@
 //! Random plans and random lists of calls, some of them by writes to a block of registers: what document 01's "Whole runs" says, a
-//! model on whole histories, copies put back, the order of inputs, and full streams. Both engines make every call.
+//! model on whole histories, copies put back, the order of inputs, and full streams. Both engines make every call, and now and then
+//! between two they give the plan's text back, which counts as no call.
 
 use host::engine::Call;
 use host::evaluator::{evaluate, rounded, HORIZON};
@@ -24,6 +25,16 @@ fn reaches(plan: &[host::plan::Stream], from: usize, to: usize) -> bool {
     false
 }
 
+/// The length of a buffer for a plan's text: as long as it is, longer, or too short.
+fn any_room(random: &mut Random, plan: &[host::plan::Stream]) -> usize {
+    let length = text_of(plan).len();
+    match random.below(4) {
+        0 => random.below(length as u64 + 1) as usize,
+        1 => length,
+        _ => length + 1 + random.below(40) as usize,
+    }
+}
+
 /// Every call's number, results, bounds, held events, marks, kept latest values and windows are those of the model on whole
 /// histories, and so are every write's number and all bytes of the block.
 #[test]
@@ -33,6 +44,8 @@ fn numbers_and_states_are_those_of_the_model_on_whole_histories() {
     let (mut filled, mut eight, mut missing) = (0u64, 0u64, 0u64);
     // commands done and refused, writes refused, others
     let mut written = [0u64; 4];
+    // texts that came back, and buffers too short
+    let mut texts = [0u64; 2];
     let all = rounds(5000);
     for round in 0..all {
         let mut random = Random::of(2, round);
@@ -50,6 +63,9 @@ fn numbers_and_states_are_those_of_the_model_on_whole_histories() {
                     (Act::Write(16, _), number) if number != 17 => written[1] += 1,
                     (Act::Write(..), number) => written[if number == 17 { 2 } else { 3 }] += 1,
                 }
+            }
+            if random.chance(3) {
+                texts[(session.text_back(any_room(&mut random, &plan)).number != 0) as usize] += 1;
             }
             let model = &board.calls;
             for s in 0..plan.len() {
@@ -77,10 +93,11 @@ fn numbers_and_states_are_those_of_the_model_on_whole_histories() {
         }
     }
     println!("seed {}: {calls} calls, {done} done, full streams met {full} times, signal forms that keep both values {kept}, divisions that go down {down}, plans of no streams {empty}", seed());
-    println!("seed {}: commands done and refused, writes refused, others {written:?}", seed());
+    println!("seed {}: commands done and refused, writes refused, others {written:?}; texts back and refused {texts:?}", seed());
     println!("seed {}: full windows met {filled} times, plans with eight windows {eight}, sums missing {missing}", seed());
     assert!(filled > all && (all < 1000 || (eight > all / 250 && missing > all / 10)), "too few windows: {filled}, {eight}, {missing}");
     assert!(written.iter().all(|&count| count > all / 2), "too few writes of a kind: {written:?}");
+    assert!(all < 1000 || texts.iter().all(|&count| count > all / 10), "too few texts: {texts:?}");
     assert!(all < 1000 || empty > all / 50, "too few plans of no streams: {empty}");
     assert!(done * 3 > calls && full > 0 && kept > 0, "too many calls refused: {done} of {calls}");
     assert!(all < 1000 || down > all / 250, "too few divisions that go down: {down}");
@@ -110,6 +127,7 @@ fn handed_out_is_a_beginning_and_complete_at_rest() {
                 }
                 2 => {
                     session.check_beginning();
+                    session.text_back(any_room(&mut random, &plan));
                 }
                 _ => {
                     for act in any_acts(&mut random, &session) {
@@ -174,6 +192,8 @@ fn loads_over_one_another() {
                     let (text, number) = random.pick(&REFUSED);
                     session.load_refused(text, number);
                     refused += 1;
+                    // that of the plan before
+                    session.text_back(any_room(&mut random, &session.plan));
                 }
             }
             session.check_beginning();

@@ -11,6 +11,7 @@ use host::plan::{text_of, windows};
 use host::random::{rounds, seed, Random};
 use host::registers::{Act, Block, Board, REFUSED, WAITING};
 use host::saved::{read, write, Saved};
+use host::texts::pattern;
 use host::worked::{collected, numbers, runs};
 use std::fs;
 use std::path::PathBuf;
@@ -42,6 +43,29 @@ fn each_saved_state_is_read() {
         let mut session = Session::put_back(&saved);
         assert_eq!(session.call(Call::Run(0)).number, 0, "{name}");
         assert!(session.state() == saved.bytes, "{name}");
+    }
+}
+
+/// The text of the plan that the file names comes back from each, also after further calls, and load takes it.
+#[test]
+fn each_gives_its_plan_back() {
+    for (name, saved) in states() {
+        let text = text_of(&saved.plan);
+        let mut session = Session::put_back(&saved);
+        for turn in 0..2 {
+            for room in [text.len(), text.len() + 7, 2048] {
+                let end = session.text_back(room);
+                assert_eq!((end.number, end.length as usize, &end.buffer[..text.len()]), (0, text.len(), text.as_bytes()), "{name}");
+                assert!(end.buffer[text.len()..] == pattern(room)[text.len()..], "{name}");
+            }
+            assert_eq!(session.text_back(text.len() - 1).number, 19, "{name}");
+            assert!(turn == 1 || session.state() == saved.bytes, "{name}");
+            session.call(Call::Run(1000));
+            for stream in session.outputs() {
+                session.call(Call::Collect(stream as u32));
+            }
+        }
+        assert!(Session::load_over(&saved.plan, session.states).state() == Found::fresh(&saved.plan).bytes(), "{name}");
     }
 }
 

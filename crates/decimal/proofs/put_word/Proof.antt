@@ -1,4 +1,4 @@
--- `printer::put_word` meets its contract.
+-- `decimal::put_word` meets its contract.
 use Rattle.decimal.proofs.Puts.{word-turn, word-end}
 use mathlib.Core.Path.{_≡_, refl, sym, _∙_}
 use Prim.Native.Nat.{_+_, _-_, _≤_}

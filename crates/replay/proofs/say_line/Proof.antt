@@ -20,7 +20,7 @@ slice-aggregate-put-number : tie.Need-slice-aggregate-put-number
 slice-aggregate-put-number c = search needs
 
 put-number-requires : tie.Need-put-number-requires
-put-number-requires c κs = search needs
+put-number-requires c κs = omega (arith, c .before .before .put-word .ensures .past, put-length (c .before .before .put-word .ensures), digits-most 19 (c .before .before .before .before .before .before .args .line))
 
 slice-aggregate-put-byte : tie.Need-slice-aggregate-put-byte
 slice-aggregate-put-byte c = search needs
