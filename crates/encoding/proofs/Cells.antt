@@ -4,20 +4,20 @@ use mathlib.Core.Path.{_≡_, refl, ap, _∙_}
 use mathlib.Core.Bool.{Bool, true, false}
 use mathlib.Core.List.{List, [], _∷_, map}
 use lib.ListN.{length, take, drop}
-use Rattle.machine.specs.State.{planOf, withPassed}
+use Rattle.machine.specs.State.{planOf, withWindow, withPassed}
 use Rattle.operators.specs.Operators.{groupOf, isWindow}
 use Rattle.layout.specs.Record.{Raw, num, decode, opF, flagF}
 use Rattle.layout.proofs.Laws.{rows-many}
 use Rattle.layout.specs.Windows.{windowLength}
-use Rattle.encoding.specs.Back.{toCell, passedOf, cells, areaOf, stateOf}
+use Rattle.encoding.specs.Back.{toCell, countsIn, windowIn, cells, areaOf, stateOf}
 
 -- of a record that is a window, and of one that is none
 pub cells-window : (r : Raw) (rs : List Raw) (b : List ℕ) → isWindow (groupOf (num opF r)) ≡ true
-    → cells (r ∷ rs) b ≡ withPassed (passedOf (num flagF r) (take windowLength b)) (toCell r) ∷ cells rs (drop windowLength b)
+    → cells (r ∷ rs) b ≡ withPassed (withWindow (windowIn (num flagF r) (take windowLength b)) (countsIn r)) (toCell r) ∷ cells rs (drop windowLength b)
 unfolding cells
 cells-window r rs b e = rw e
 
-pub cells-other : (r : Raw) (rs : List Raw) (b : List ℕ) → isWindow (groupOf (num opF r)) ≡ false → cells (r ∷ rs) b ≡ toCell r ∷ cells rs b
+pub cells-other : (r : Raw) (rs : List Raw) (b : List ℕ) → isWindow (groupOf (num opF r)) ≡ false → cells (r ∷ rs) b ≡ withPassed (countsIn r) (toCell r) ∷ cells rs b
 unfolding cells
 cells-other r rs b e = rw e
 

@@ -18,7 +18,7 @@ use Rattle.operators.specs.Operators.{groupOf, isIn, isLast, isDelay, isSignal}
 use Rattle.operators.specs.Rules.{valueOk, outOk}
 use Rattle.operators.specs.declared.Group.{Group}
 use Rattle.le.specs.Bytes.{allZero}
-use Rattle.layout.specs.Record.{Raw, num, decRaw, opF, outF, countF, flagF, priorFlagF, smallF, kF, boundF, nextF, keptF, valueF, priorF, lastF}
+use Rattle.layout.specs.Record.{Raw, num, decRaw, opF, outF, countF, flagF, priorFlagF, smallF, kF, boundF, nextF, keptF, valueF, priorF, countsF}
 use Rattle.layout.proofs.Laws.{RawOk, num-small}
 use Rattle.encoding.specs.View.{flag, flagOf, bitsOf, KeptNums, noNums, lastNums, delayNums, signalNums}
 use Rattle.encoding.specs.Back.{optional, keptOf}
@@ -36,7 +36,7 @@ pub record RowFacts (n : ℕ) (p : List ℕ) : Type 0 where
   pub bound : num boundF (decRaw p) ≤ horizon
   pub next : nextOk (num outF (decRaw p)) (num nextF (decRaw p)) (num boundF (decRaw p)) ≡ true
   pub small : num smallF (decRaw p) ≡ 0
-  pub rest : num lastF (decRaw p) ≡ 0
+  pub rest : num countsF (decRaw p) ≡ 0
   pub stamps : risen (num boundF (decRaw p)) 0 (num countF (decRaw p)) (decRaw p .slots) ≡ true
   pub kept : keptOk (decRaw p) ≡ true
   pub zeros : allZero (drop (64 + num countF (decRaw p) * 12) p) ≡ true
@@ -56,7 +56,7 @@ row-facts n p e =
     let b : Bool = leb (num boundF r) horizon in
     let x : Bool = nextOk (num outF r) (num nextF r) (num boundF r) in
     let y : Bool = eqb (num smallF r) 0 in
-    let w : Bool = eqb (num lastF r) 0 in
+    let w : Bool = eqb (num countsF r) 0 in
     let f₁ = right c (b && (x && (y && w))) f in
     let f₂ = right b (x && (y && w)) f₁ in
     let f₃ = right x (y && w) f₂ in
@@ -66,7 +66,7 @@ row-facts n p e =
       bound = leb-true (num boundF r) horizon (left b (x && (y && w)) f₁);
       next = left x (y && w) f₂;
       small = eqb-true (num smallF r) 0 (left y w f₃);
-      rest = eqb-true (num lastF r) 0 (right y w f₃);
+      rest = eqb-true (num countsF r) 0 (right y w f₃);
       stamps = left s (k && z) e₂;
       kept = left k z e₃;
       zeros = right k z e₃;

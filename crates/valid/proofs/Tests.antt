@@ -10,7 +10,7 @@ use lib.ListN.{length, getD, take, drop}
 use lib.Seq.{drop-cons, drop-drop, getD-drop}
 use borrow.Author.Tests.{eq-eqb, ne-eqb, le-leb, lt-leb, not-true, not-false, leb-true}
 use Rattle.le.specs.Bytes.{part}
-use Rattle.layout.specs.Record.{Slot, Raw, noSlot, num, slotAt, countF, boundF, outF, nextF, smallF, lastF}
+use Rattle.layout.specs.Record.{Slot, Raw, noSlot, num, slotAt, countF, boundF, outF, nextF, smallF, countsF}
 use Rattle.machine.specs.State.{room}
 use Rattle.meaning.specs.Events.{horizon}
 use Rattle.valid.specs.Valid.{nextOk, sizesOk, risen, ownOk, allRows, streamsIn}
@@ -103,7 +103,7 @@ rows-turn f n i s h =
 pub sizes-count : (r : Raw) → sizesOk r ≡ true → num countF r ≤ room
 unfolding sizesOk
 sizes-count r e =
-    let rest : Bool = leb (num boundF r) horizon && (nextOk (num outF r) (num nextF r) (num boundF r) && (eqb (num smallF r) 0 && eqb (num lastF r) 0)) in
+    let rest : Bool = leb (num boundF r) horizon && (nextOk (num outF r) (num nextF r) (num boundF r) && (eqb (num smallF r) 0 && eqb (num countsF r) 0)) in
     leb-true (num countF r) room (left (leb (num countF r) room) rest e)
 
 -- ---- how many records have an operator
