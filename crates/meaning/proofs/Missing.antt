@@ -1,5 +1,5 @@
 -- What is said at a stamp: its value is the row, it depends on the arguments up to the stamp, and counts go on from where they stand.
-use mathlib.Core.Path.{_≡_, refl, ap}
+use mathlib.Core.Path.{_≡_, refl, sym, _∙_, ap}
 use mathlib.Core.Bool.{Bool, true, false, cond, _&&_, _||_}
 use mathlib.Core.Option.{Option, none, some}
 use mathlib.Core.List.{List}
@@ -206,3 +206,16 @@ count-seam q e rd S s f y x l h =
 pub never-count : (e : Eqn) → canLack e ≡ false → (q : Reason) (rd S : Streams) (s y : ℕ) → countBelow q e rd S s y ≡ 0
 unfolding countBelow
 never-count e h q rd S s y = rw (tally-zero (λ t. saidFor q (says e rd S s t)) y (λ p l. never-lacks e h q rd S s p))
+
+-- nothing counted depends on the readings: only an input looks at them, and it never lacks a value
+pub count-readings : (e : Eqn) (q : Reason) (rd R S : Streams) (s y : ℕ) → countBelow q e rd S s y ≡ countBelow q e R S s y
+unfolding countBelow says
+count-readings input q rd R S s y = never-count input refl q rd S s y ∙ sym (never-count input refl q R S s y)
+count-readings nil q rd R S s y = refl
+count-readings unit q rd R S s y = refl
+count-readings (one f a) q rd R S s y = refl
+count-readings (two g a b) q rd R S s y = refl
+count-readings (last a b) q rd R S s y = refl
+count-readings (delay a b) q rd R S s y = refl
+count-readings (signal c a b) q rd R S s y = refl
+count-readings (window f k a) q rd R S s y = refl
