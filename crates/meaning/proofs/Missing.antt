@@ -17,6 +17,7 @@ use Rattle.num.specs.declared.Answer.the-variants.{Value, Outside, ZeroDivisor}
 use Rattle.num.specs.Arithmetic.{same, truth, less, atMost, equal}
 use Rattle.meaning.specs.Missing.{lacks, unaryLacks, calcLacks, binaryLacks, foldLacks, canLack, Said, valued, one-says, calc-says, two-says, signal-says, window-says, says, shown, Reason, saidFor, tally, countLimit, countBelow}
 use Rattle.meaning.proofs.Options.{none-some}
+use Rattle.meaning.proofs.Causal.{SameBelow, latest-cong, events-cong, fires-cong}
 use Rattle.meaning.proofs.Tests.{Is, yes!, no!, look, true-is, false-is}
 
 -- ---- the row is the value of what is said
@@ -157,6 +158,22 @@ never-lacks (delay a b) h q rd S s t = valued-lacks q (delay-at (fires (S a) (S 
 never-lacks (signal c a b) h q rd S s t = signal-lacks c h q (S a t) (S b t) (latest (S a) (suc t)) (latest (S b) (suc t))
 never-lacks (window f k a) h q rd S s t = window-lacks f h q (S a t) (latestOf (width k) (values (events (S a) (suc t))))
 
+-- ---- what is said depends on the streams up to the stamp
+
+pub says-cong : (e : Eqn) (rd S S′ : Streams) (s t : ℕ) → ((a : ℕ) → SameBelow (suc t) (S a) (S′ a)) → says e rd S s t ≡ says e rd S′ s t
+unfolding says
+says-cong input rd S S′ s t h = refl
+says-cong nil rd S S′ s t h = refl
+says-cong unit rd S S′ s t h = refl
+says-cong (one f a) rd S S′ s t h = rw (h a t (lt-suc-self t))
+says-cong (two g a b) rd S S′ s t h = rw (h a t (lt-suc-self t), h b t (lt-suc-self t))
+says-cong (last a b) rd S S′ s t h = rw (h b t (lt-suc-self t), latest-cong (S a) (S′ a) t (λ p l. h a p (omega arith)))
+says-cong (delay a b) rd S S′ s t h =
+    ap (λ z. valued (delay-at z)) (fires-cong (S a) (S b) (S s) (S′ a) (S′ b) (S′ s) t (λ p l. h a p (omega arith)) (λ p l. h b p (omega arith)) (λ p l. h s p (omega arith)))
+says-cong (signal c a b) rd S S′ s t h =
+    rw (h a t (lt-suc-self t), h b t (lt-suc-self t), latest-cong (S a) (S′ a) t (λ p l. h a p (omega arith)), latest-cong (S b) (S′ b) t (λ p l. h b p (omega arith)))
+says-cong (window f k a) rd S S′ s t h = rw (h a t (lt-suc-self t), events-cong (S a) (S′ a) t (λ p l. h a p (omega arith)))
+
 -- ---- counting
 
 pub tally-cong : (f g : ℕ → Bool) (t : ℕ) → ((p : ℕ) → p < t → f p ≡ g p) → tally f t ≡ tally g t
@@ -188,6 +205,11 @@ tally-seam f y (suc x) l = go (decLe y x) (λ m. tally-seam f y x m)
     go : Dec (y ≤ x) → (y ≤ x → tally f x ≡ tally f y + tally (λ p. leb y p && f p) x) → tally f (suc x) ≡ tally f y + tally (λ p. leb y p && f p) (suc x)
     go (yes m) ih = rw (tally, true-is (leb y x) (le→leb y x m)) (more (f x) (tally f x) (tally f y) (tally (λ p. leb y p && f p) x) (ih m))
     go (no m) ih = let e : y ≡ suc x = omega arith in let z = tally-none f (suc x) (suc x) (omega arith) in rw e (omega arith)
+
+-- a count depends on the streams below the bound
+pub count-cong : (q : Reason) (e : Eqn) (rd S S′ : Streams) (s y : ℕ) → ((a : ℕ) → SameBelow y (S a) (S′ a)) → countBelow q e rd S s y ≡ countBelow q e rd S′ s y
+unfolding countBelow
+count-cong q e rd S S′ s y h = ap (min countLimit) (tally-cong _ _ y (λ t l. ap (saidFor q) (says-cong e rd S S′ s t (λ a p m. h a p (omega arith)))))
 
 -- a count that is kept below y, with the stamps from y on and below x
 pub count-seam : (q : Reason) (e : Eqn) (rd S : Streams) (s : ℕ) (f : ℕ → Said) (y x : ℕ) → y ≤ x → ((t : ℕ) → y ≤ t → t < x → saidFor q (f t) ≡ saidFor q (says e rd S s t))

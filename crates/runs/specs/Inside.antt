@@ -1,4 +1,4 @@
--- Believe: demand 2 inside the state: what a stream holds and keeps, and where a move takes its bound, each told by the
+-- Believe: demand 2 inside the state: what a stream holds, keeps and counts, and where a move takes its bound, each told by the
 -- solution S, the bounds and the marks of collection alone.
 use Prim.Native.Nat.{ℕ, zero, suc, _+_, _≤_, _<_, max}
 use mathlib.Core.Path.{_≡_}
