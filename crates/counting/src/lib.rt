@@ -108,11 +108,12 @@ fn lack_beside(second: bool, op: Op, k: Kept, a: &[u8], b: &[u8], t: u64) -> Lac
     requires { ⌜ (length (now a) ≡ 256) × (length (now b) ≡ 256) × (t ≤ horizon) ⌝ }
     ensures { λ r. ⌜ ((q : Reason) → lackFor q r ≡ askedIn q second op k (now (a .entry)) (now (b .entry)) t) ⌝ }
 {
-    if second {
-        let x = queue::find(a, t);
-        if events::is_some(x) {
-            return Lack::No;
-        }
+    if !second {
+        return lack_at(op, k, a, b, t);
+    }
+    let x = queue::find(a, t);
+    if events::is_some(x) {
+        return Lack::No;
     }
     lack_at(op, k, a, b, t)
 }
@@ -161,7 +162,7 @@ fn tally_both(op: Op, k: Kept, a: &[u8], b: &[u8], y: u64, x: u64) -> Tally
 }
 
 // At how many stamps from y on and below x an event of an equation with this operator, that keeps k, is missing.
-pub fn tally(op: Op, k: Kept, a: &[u8], b: &[u8], y: u64, x: u64) -> Tally
+pub fn missed(op: Op, k: Kept, a: &[u8], b: &[u8], y: u64, x: u64) -> Tally
     requires { ⌜ (length (now a) ≡ 256) × (length (now b) ≡ 256) ⌝ }
     ensures { λ r. ⌜ ((q : Reason) → countIn q r ≡ talliedIn q op k (now (a .entry)) (now (b .entry)) y x) × (r .outside ≤ room + room) × (r .divisors ≤ room + room) ⌝ }
 {
