@@ -231,7 +231,8 @@ pub fn missing(k: usize, w: &[u8], n: usize, a: &[u8], y: u64, x: u64) -> usize
     let mut c = 0;
     let mut i = first;
     while i < count {
-        if x <= layout::stamp_at(a, i) {
+        let stamp = layout::stamp_at(a, i);
+        if x <= stamp {
             return c;
         }
         i += 1;
