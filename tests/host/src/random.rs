@@ -75,6 +75,21 @@ impl Random {
         }
     }
 
+    /// A value with which results are often missing: a divisor of 0 or −1, an end of the range, or one whose double or square is out
+    /// of it.
+    pub fn at_an_edge(&mut self) -> i64 {
+        match self.below(10) {
+            0..=2 => 0,
+            3 => self.pick(&[1, -1]),
+            4 => i64::MIN,
+            5 => i64::MAX,
+            6 => self.at_an_end(),
+            7 => self.pick(&[1 << 62, -(1 << 62), (1 << 62) - 1, -(1 << 62) - 1]),
+            8 => self.pick(&[1 << 32, -(1 << 32), 3_037_000_499, 3_037_000_500, -3_037_000_500, (1 << 31) + 1]),
+            _ => self.below(9) as i64 - 4,
+        }
+    }
+
     /// The width of a window: mostly small, now and then the least or the greatest.
     pub fn width(&mut self) -> i64 {
         match self.below(10) {

@@ -85,7 +85,7 @@ fn numbers_and_states_are_those_of_the_model_on_whole_histories() {
             }
         }
         eight += (windows(&plan).len() == 8) as u64;
-        missing += windows(&plan).into_iter().map(|s| board.calls.passed(s)).sum::<u64>();
+        missing += windows(&plan).into_iter().map(|s| board.calls.missing(s).outside as u64).sum::<u64>();
         down += (0..plan.len()).map(|s| rounded(&plan, &board.calls.events, s)).sum::<u64>();
         if plan.is_empty() {
             assert!(session.state().iter().all(|&x| x == 0), "{}", session.story());

@@ -91,11 +91,12 @@ fn but_for_values((answers, state): &(Vec<Answer>, Vec<u8>)) -> (Vec<Answer>, Ve
     (answers, Found::read(state).expect("a state").records.into_iter().map(record).collect())
 }
 
-/// Where no result of division by the earlier rule is inside, byte for byte. Where one is, the file is what its calls leave by
-/// that rule, today's is what they leave by the new one, and they differ in values alone.
+/// Where no result of division by the earlier rule is inside, byte for byte but for the counts, which no version before 1.8 has. Where
+/// one is, the file is what its calls leave by that rule, today's is what they leave by the new one, and they differ in values alone.
+/// Today's counts are the definition's.
 #[test]
 fn each_is_what_its_calls_leave_today() {
-    let mut cut = 0;
+    let (mut cut, mut counted) = (0, 0);
     for (name, saved) in states() {
         let then: (Vec<Answer>, Vec<u8>) = (saved.calls.iter().map(|(_, answer)| *answer).collect(), saved.bytes.clone());
         let mut session = Session::load(&saved.plan);
@@ -105,8 +106,12 @@ fn each_is_what_its_calls_leave_today() {
             assert!(x.1 == y.1, "{name}: bytes, {what}");
         };
         same(&today, &made_by(&saved, Division::Down), "today and the model");
+        counted += (session.check_missing().expect("few stamps") != [0, 0]) as u64;
+        // as that version left it
+        let at_that_time = |(answers, bytes): (Vec<Answer>, Vec<u8>)| (answers, if saved.before_counts() { layout::without_counts(&bytes) } else { bytes });
+        let today = at_that_time(today);
         if saved.is_cut() {
-            same(&then, &made_by(&saved, Division::TowardZero), "the file and the model by the earlier rule");
+            same(&then, &at_that_time(made_by(&saved, Division::TowardZero)), "the file and the model by the earlier rule");
             assert!(then != today, "{name}: holds no result of the earlier rule");
             assert_eq!(but_for_values(&then), but_for_values(&today), "{name}");
             cut += 1;
@@ -115,6 +120,7 @@ fn each_is_what_its_calls_leave_today() {
         }
     }
     assert!(cut >= 2, "only {cut} states with results of the earlier rule");
+    assert!(counted >= 4, "only {counted} states whose calls leave counts today");
 }
 
 /// Any calls on the state put back, directly and by a block of registers: answers and bytes are those of the model, and what was
