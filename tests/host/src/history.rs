@@ -12,8 +12,9 @@ use crate::registers::{line, writes, Act, Board, Direct};
 use crate::saved::Saved;
 use crate::texts::{given, pattern, Given};
 
-/// Stamps that the evaluator may look at before a check is given up.
+/// Stamps that the evaluator may look at before a check is given up, of what was handed out and of what is counted.
 const MOST: usize = 20_000;
+const MOST_COUNTED: usize = 3_000;
 
 #[derive(Clone)]
 pub struct Session {
@@ -199,7 +200,7 @@ impl Session {
     fn meant(&self) -> Option<Meaning> {
         let counts = (0..self.plan.len()).filter(|&s| self.plan[s].op.counts());
         let until = counts.map(|s| layout::bound(self.state(), s)).max().unwrap_or(0);
-        meaning(&self.plan, &self.accepted, until, MOST)
+        meaning(&self.plan, &self.accepted, until, MOST_COUNTED)
     }
 
     /// "After any list of calls [..] they equal the number of such stamps below the stream's bound": of every stream, by the call and
@@ -327,7 +328,7 @@ pub fn any_call(random: &mut Random, session: &Session) -> Call {
             let counts = session.plan.iter().any(|stream| stream.op.counts());
             let value = match random.below(100) {
                 0..=29 if sums => random.at_an_end(),
-                30..=49 if counts => random.at_an_edge(),
+                30..=59 if counts => random.at_an_edge(),
                 _ => random.value(),
             };
             Call::Reading(input, stamp, value)
