@@ -498,7 +498,7 @@ fn an_earlier_state_has_no_counts() {
         }
         all_0(&mut session);
     }
-    assert!(earlier >= 22 && missed > 20, "only {earlier} states, {missed} streams that would have counts");
+    assert!(earlier >= 22 && missed >= 15, "only {earlier} states, {missed} streams that would have counts");
 }
 
 /// The counts of streams, as (stream, outside, zero).
