@@ -15,13 +15,13 @@ use Rattle.missing.proofs.put_all.Statement.{statement}
 use Rattle.missing.proofs.put_all.Tie as tie
 
 abbrev Inv-loop : tie.InvT-loop
-Inv-loop out₀ state end₀ stream₀ out end stream = (stream ≤ streamLimit) × (end ≤ stream * countsRoom) × (length out ≡ length out₀) × Left out₀ state out end stream
+Inv-loop out₀ state end₀ stream₀ out end stream = (stream ≤ streamLimit) × Left out₀ state out end stream × (end ≤ stream * countsRoom) × (length out ≡ length out₀)
 
 abbrev μ-loop : tie.MeasureT-loop
 μ-loop out₀ state end₀ stream₀ out end stream = streamLimit - stream
 
 loop-holds : tie.Need-loop-holds Inv-loop μ-loop
-loop-holds c = (omega arith, omega arith, refl, λ r m p. p)
+loop-holds c = (omega arith, λ r m p. p, omega arith, refl)
 
 cast-loop : tie.Need-cast-loop Inv-loop μ-loop
 cast-loop c = search needs
@@ -30,10 +30,10 @@ ask-requires : tie.Need-ask-requires Inv-loop μ-loop
 ask-requires c κs = search needs
 
 same-length : tie.Need-same-length Inv-loop μ-loop
-same-length c = c .before .before .before .before .loop .inv .2
+same-length c = c .before .before .before .before .loop .inv .3
 
 returns : tie.Need-returns Inv-loop μ-loop
-returns c = (left-none (now (c .before .before .before .before .before .before .before .args .out)) (now (c .before .before .before .before .before .before .before .args .state)) (c .before .before .before .before .loop .out) (c .before .before .before .before .loop .end) (c .before .before .before .before .loop .stream) (c .before .before .before .before .loop .inv .3) (omega (arith, ltb-true)) (λ z. c .if1 .taken (c .before .before .ask .ensures .0 ∙ z)), (omega arith, sym (length-take-le (c .before .before .before .before .loop .end) (c .before .before .before .before .loop .out) (omega arith))))
+returns c = (left-none (now (c .before .before .before .before .before .before .before .args .out)) (now (c .before .before .before .before .before .before .before .args .state)) (c .before .before .before .before .loop .out) (c .before .before .before .before .loop .end) (c .before .before .before .before .loop .stream) (c .before .before .before .before .loop .inv .1) (omega (arith, ltb-true)) (λ z. c .if1 .taken (c .before .before .ask .ensures .0 ∙ z)), (omega arith, sym (length-take-le (c .before .before .before .before .loop .end) (c .before .before .before .before .loop .out) (omega arith))))
 
 put-counts-requires : tie.Need-put-counts-requires Inv-loop μ-loop
 put-counts-requires c κs = omega (arith, ltb-true)
@@ -45,13 +45,13 @@ loop-less : tie.Need-loop-less Inv-loop μ-loop
 loop-less c = omega (arith, ltb-true)
 
 loop-again : tie.Need-loop-again Inv-loop μ-loop
-loop-again c = (omega (arith, ltb-true), omega (arith, c .before .before .put-counts .ensures .past, counts-most (c .before .before .before .before .before .before .before .before .loop .stream) (c .before .before .before .before .before .before .ask .result .outside) (c .before .before .before .before .before .before .ask .result .zero)), put-length (c .before .before .put-counts .ensures) ∙ c .before .before .before .before .before .before .before .before .loop .inv .2, left-more (now (c .before .before .before .before .before .before .before .before .before .before .before .args .out)) (now (c .before .before .before .before .before .before .before .before .before .before .before .args .state)) (c .before .before .before .before .before .before .before .before .loop .out) (c .before .before .before .before .before .before .before .before .loop .end) (c .before .before .before .before .before .before .before .before .loop .stream) (c .before .before .before .before .before .before .before .before .loop .inv .3) (omega (arith, ltb-true)) (sym (c .before .before .before .before .before .before .ask .ensures .0) ∙ c .before .before .before .before .if1 .left) _ _ (rw (c .before .before .before .before .before .before .ask .ensures .1 .0, c .before .before .before .before .before .before .ask .ensures .1 .1) at (c .before .before .put-counts .ensures)))
+loop-again c = (omega (arith, ltb-true), left-more (now (c .before .before .before .before .before .before .before .before .before .before .before .args .out)) (now (c .before .before .before .before .before .before .before .before .before .before .before .args .state)) (c .before .before .before .before .before .before .before .before .loop .out) (c .before .before .before .before .before .before .before .before .loop .end) (c .before .before .before .before .before .before .before .before .loop .stream) (c .before .before .before .before .before .before .before .before .loop .inv .1) (omega (arith, ltb-true)) (sym (c .before .before .before .before .before .before .ask .ensures .0) ∙ c .before .before .before .before .if1 .left) _ _ (rw (c .before .before .before .before .before .before .ask .ensures .1 .0, c .before .before .before .before .before .before .ask .ensures .1 .1) at (c .before .before .put-counts .ensures)), omega (arith, c .before .before .put-counts .ensures .past, counts-most (c .before .before .before .before .before .before .before .before .loop .stream) (c .before .before .before .before .before .before .ask .result .outside) (c .before .before .before .before .before .before .ask .result .zero)), put-length (c .before .before .put-counts .ensures) ∙ c .before .before .before .before .before .before .before .before .loop .inv .3)
 
 same-length-2 : tie.Need-same-length-2 Inv-loop μ-loop
-same-length-2 c = c .before .loop .inv .2
+same-length-2 c = c .before .loop .inv .3
 
 returns-2 : tie.Need-returns-2 Inv-loop μ-loop
-returns-2 c = (left-over (now (c .before .before .before .before .args .out)) (now (c .before .before .before .before .args .state)) (c .before .loop .out) (c .before .loop .end) (c .before .loop .stream) (c .before .loop .inv .3) (omega (arith, ltb-false)), (omega arith, sym (length-take-le (c .before .loop .end) (c .before .loop .out) (omega arith))))
+returns-2 c = (left-over (now (c .before .before .before .before .args .out)) (now (c .before .before .before .before .args .state)) (c .before .loop .out) (c .before .loop .end) (c .before .loop .stream) (c .before .loop .inv .1) (omega (arith, ltb-false)), (omega arith, sym (length-take-le (c .before .loop .end) (c .before .loop .out) (omega arith))))
 
 pub put-all-spec : {M : Type 1} → statement M
 put-all-spec =
