@@ -84,11 +84,11 @@ fn the_events_printed_are_those_of_the_definition() {
     }
 }
 
-/// By plans/README.md: of hill the hour without a reading, of mean stamp 0, where sum and count are 0. No other stream has a gap that it
-/// counts.
+/// By plans/README.md: of hill the hour without a reading, of mean and share stamp 0, where the sums are 0; of share also the stamps
+/// from the first nonsense reading on. No other stream has a gap that it counts.
 #[test]
 fn why_events_of_the_plans_are_missing() {
-    let gaps = [("hill", 20), ("mean", 8)];
+    let gaps = [("hill", 20, 0, 1), ("mean", 8, 0, 1), ("share", 5, 1, 0), ("share", 12, 3, 0), ("share", 13, 0, 1)];
     let mut met = 0;
     for folder in folders() {
         let name = folder.file_name().unwrap().to_string_lossy().into_owned();
@@ -98,12 +98,13 @@ fn why_events_of_the_plans_are_missing() {
             assert!(session.rest(100_000), "{name}");
         }
         for s in 0..session.plan.len() {
-            let zero = gaps.contains(&(name.as_str(), s)) as u32;
-            assert_eq!(session.missing(s as u32), (0, Missing { outside: 0, zero }), "{name}: stream {s}");
-            met += zero;
+            let gap = gaps.iter().find(|gap| (gap.0, gap.1) == (name.as_str(), s));
+            let (outside, zero) = gap.map_or((0, 0), |gap| (gap.2, gap.3));
+            assert_eq!(session.missing(s as u32), (0, Missing { outside, zero }), "{name}: stream {s}");
+            met += gap.is_some() as usize;
         }
     }
-    assert_eq!(met, 2);
+    assert_eq!(met, gaps.len());
 }
 
 #[test]
