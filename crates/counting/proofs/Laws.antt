@@ -145,3 +145,13 @@ counted-none r ok =
     let h = num-small r countsF ok (lit< tt) in
     let e : min countLimit (num countsF r % 2 ^ 32 + 0) + min countLimit (num countsF r / 2 ^ 32 + 0) * 2 ^ 32 ≡ num countsF r = omega arith in
     ap (λ (v : ℕ). withNum countsF v r) e ∙ ap (λ (l : List ℕ). record { nums = l; slots = r .slots }) (set-getD (r .nums) countsF 0)
+
+-- ---- no event is passed
+
+pub none-at-end : (x n i : ℕ) (l : List Slot) → i ≡ n → takeBelow x (eventsIn i n l) ≡ []
+unfolding takeBelow
+none-at-end x n i l e = rw (e, events-none n l)
+
+pub none-below : (x i n : ℕ) (r : Raw) → i < n → n ≤ length (r .slots) → (t : ℕ) → t ≡ slotAt i r .stamp → x ≤ t → takeBelow x (eventsIn i n (r .slots)) ≡ []
+unfolding takeBelow
+none-below x i n r h many t stamp q = rw (events-more i n (r .slots) h many, ← stamp, le-ltb t x q)

@@ -2,6 +2,7 @@
 // for which nil stands here: crates/windows has theirs.
 ghost use mathlib.Core.Path.{_≡_};
 ghost use mathlib.Core.Bool.{cond, _&&_, not, false, true};
+ghost use mathlib.Core.List.{[]};
 ghost use Prim.Native.Nat.{suc, _+_, _≤_, _<_, _^_};
 ghost use lib.ListN.{length};
 ghost use Rattle.meaning.specs.Events.{found, has, horizon};
@@ -116,6 +117,19 @@ fn lack_beside(second: bool, op: Op, k: Kept, a: &[u8], b: &[u8], t: u64) -> Lac
         return Lack::No;
     }
     lack_at(op, k, a, b, t)
+}
+
+// Whether a record holds no event from y on and below x, as the first that is not below y tells.
+pub fn passes_none(r: &[u8], y: u64, x: u64) -> bool
+    requires { ⌜ length (now r) ≡ 256 ⌝ }
+    ensures { λ z. ⌜ (z ≡ true → takeBelow x (dropBelow y (heldOf (decRaw (now (r .entry))))) ≡ []) ⌝ }
+{
+    let n = queue::count(r);
+    let i = queue::first_from(r, n, y);
+    if i == n {
+        return true;
+    }
+    x <= layout::stamp_at(r, i)
 }
 
 // Over the held events of a record from y on and below x.

@@ -1,8 +1,17 @@
 -- What a move counts, on the whole buffer: a record with other counts is looked at as before, and keeps within its widths.
-use Prim.Native.Nat.{ℕ, _+_, _*_, _/_, _%_, _^_, _<_, _≤_, min}
-use mathlib.Core.Path.{_≡_, refl, sym, ap, ap₂, _∙_}
-use mathlib.Core.Bool.{Bool, true, false, cond, true≢false}
-use mathlib.Core.List.{List}
+use Prim.Native.Nat.{ℕ, suc, _+_, _*_, _/_, _%_, _^_, _<_, _≤_, min}
+use mathlib.Core.Path.{_≡_, refl, sym, ap, ap₂, _∙_, subst}
+use mathlib.Core.Bool.{Bool, true, false, not, cond, _&&_, true≢false}
+use mathlib.Core.List.{List, [], _∷_, _++_}
+use lib.Dec.{ltb}
+use lib.IntN.{ℤ}
+use Rattle.meaning.specs.Events.{Event, has}
+use Rattle.meaning.specs.Table.{folded, latestOf}
+use Rattle.meaning.specs.Table as meaning
+use Rattle.machine.specs.Reach.{view}
+use Rattle.machine.specs.Step.{hears, dropBelow}
+use Rattle.machine.specs.Windows.{takeBelow}
+use Rattle.sliding.specs.Slide.{missingRow}
 use native.Mathlib.Omega.{arith}
 use lib.ListN.{length, set}
 use lib.Seq.{set-getD, getD-set-other, getD-set-same}
@@ -10,9 +19,9 @@ use mir.Syntax.{w64}
 use mir.Val.{toZ}
 use Rattle.meaning.specs.Plan.{Fold, wsum, wmin, wmax, Eqn, input, nil, unit, one, two, last, delay, signal, window}
 use Rattle.meaning.specs.Arguments.{argA, argB}
-use Rattle.meaning.specs.Missing.{Reason, outside, divisor, canLack, countLimit}
+use Rattle.meaning.specs.Missing.{Reason, outside, divisor, saidFor, canLack, countLimit}
 use Rattle.machine.specs.State.{Cell, Kept}
-use Rattle.machine.specs.Counting.{tallied}
+use Rattle.machine.specs.Counting.{tallyOf, sumTally, tallied}
 use Rattle.operators.specs.Operators.{lacksAt}
 use Rattle.operators.proofs.Laws.{lacks-fields}
 use Rattle.operators.specs.Windows.{isWindowEqn}
@@ -29,7 +38,7 @@ use Rattle.streams.proofs.Laws.{look-eqn}
 use Rattle.counting.specs.declared.Tally.{Tally}
 use Rattle.counting.specs.Tally.{countIn, countedRow}
 use Rattle.counting.proofs.Laws.{of, counted-none}
-use Rattle.moves.specs.Move.{ownIn, otherIn, argIn, summedFor, missedRaw, countedRaw}
+use Rattle.moves.specs.Move.{ownIn, otherIn, argIn, summedFor, passing, Quiet, missedRaw, countedRaw}
 use Rattle.moves.proofs.Arms.{Other, no-window, plain-is}
 
 -- ---- what is looked at
@@ -150,3 +159,47 @@ summed-greatest divisor m e = refl
 pub summed-sum : (q : Reason) {f : code.Fold} (c m : ℕ) → f ≡ Sum → c ≡ m → countIn q (of c 0) ≡ summedFor q (folding f) m
 summed-sum outside c m e d = rw e d
 summed-sum divisor c m e d = refl
+
+-- ---- where no event is passed nothing is missing
+
+no-sum : (k x : ℕ) (w : List ℤ) (es : List Event) → takeBelow x es ≡ [] → sumTally k x w es ≡ 0
+unfolding takeBelow sumTally
+no-sum k x w [] h = refl
+no-sum k x w (e ∷ es) h = go (ltb (e .stamp) x) h
+  where
+    now : List ℤ
+    now = w ++ e .value ∷ []
+
+    go : (b : Bool) → cond b (e ∷ takeBelow x es) [] ≡ [] → cond b (cond (has (meaning.valueOf (folded wsum (latestOf k now)))) (sumTally k x now es) (suc (sumTally k x now es))) 0 ≡ 0
+    go true h = let z : _≡_ {A = ℕ} 0 1 = cc in absurd (omega arith)
+    go false h = refl
+
+summed-none : (q : Reason) (f : Fold) (m : ℕ) → m ≡ 0 → summedFor q f m ≡ 0
+summed-none outside wsum m e = e
+summed-none outside wmin m e = refl
+summed-none outside wmax m e = refl
+summed-none divisor f m e = refl
+
+none-tallied : (f : ℕ → Bool) (es : List Event) → es ≡ [] → tallyOf f es ≡ 0
+unfolding tallyOf
+none-tallied f es e = rw e
+
+pub quiet-none : (n i : ℕ) (e : Eqn) (k : Kept) (y x : ℕ) (st : Raws) → Quiet n e y x st → (q : Reason) → missedRaw q n i e k y x st ≡ 0
+unfolding missingRow
+quiet-none n i input k y x st h q = refl
+quiet-none n i nil k y x st h q = refl
+quiet-none n i unit k y x st h q = refl
+quiet-none n i (one f a) k y x st h q = none-tallied _ (passing y x (otherIn n a st)) h
+quiet-none n i (two g a b) k y x st h q = none-tallied _ (passing y x (otherIn n a st)) h
+quiet-none n i (last a b) k y x st h q = refl
+quiet-none n i (delay a b) k y x st h q = refl
+quiet-none n i (signal c a b) k y x st h q = let u = none-tallied (λ t. saidFor q (hears (signal c a b) (ownCell nil y k) (otherIn n a st) (otherIn n b st) t)) (passing y x (otherIn n a st)) (h .0) in let w = none-tallied (λ t. not (has (view (otherIn n a st) t)) && saidFor q (hears (signal c a b) (ownCell nil y k) (otherIn n a st) (otherIn n b st) t)) (passing y x (otherIn n b st)) (h .1) in omega (arith, u, w)
+quiet-none n i (window f m a) k y x st h q = summed-none q f _ (no-sum _ x _ (dropBelow y (otherIn n a st .held)) h)
+
+-- an arm of a match on the operator
+pub quiet-arm : (n y x : ℕ) (st : Raws) {p r : Op} → p ≡ r → Quiet n (equation r) y x st → Quiet n (equation p) y x st
+quiet-arm n y x st e h = subst (λ (o : Op). Quiet n (equation o) y x st) (sym e) h
+
+pub none-held : (n a y x : ℕ) (st : Raws) → takeBelow x (dropBelow y (heldOf (rowAt st (argIn n a)))) ≡ [] → passing y x (otherIn n a st) ≡ []
+unfolding lookOf toCell
+none-held n a y x st h = h

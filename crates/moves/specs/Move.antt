@@ -1,7 +1,10 @@
 -- How: a move and a run on raw records: total functions of n records.
 use Prim.Native.Nat.{ℕ, _+_, max}
 use mathlib.Core.Bool.{Bool, not, cond, _&&_}
+use mathlib.Core.Path.{_≡_}
 use mathlib.Core.List.{List, [], _∷_}
+use Rattle.meaning.specs.Events.{Event}
+use Rattle.machine.specs.Windows.{takeBelow}
 use lib.Dec.{ltb, leb, eqb}
 use mir.Syntax.{w64}
 use mir.Val.{ofZ}
@@ -9,7 +12,7 @@ use Rattle.meaning.specs.Plan.{Fold, wsum, wmin, wmax, Eqn, input, nil, unit, o
 use Rattle.meaning.specs.Arguments.{reads}
 use Rattle.machine.specs.State.{Cell, Kept, room, noKept}
 use Rattle.machine.specs.Reach.{Next, event, silent, limit, decide}
-use Rattle.machine.specs.Step.{absorb}
+use Rattle.machine.specs.Step.{absorb, dropBelow}
 use Rattle.machine.specs.Counting.{tallied, endOf}
 use Rattle.meaning.specs.Missing.{Reason, outside, divisor, canLack}
 use Rattle.meaning.specs.Arguments.{argA, argB}
@@ -90,6 +93,22 @@ abbrev pub missedRaw : Reason → ℕ → ℕ → Eqn → Kept → (y x : ℕ) �
 missedRaw q n i e k y x st =
     cond (isWindowEqn e) (summedFor q (foldOf e) (missingRow (widthIn (valueOf e)) i y x (otherIn n (argA e) st .held) st))
     (tallied q e (ownCell nil y k) (otherIn n (argA e) st) (otherIn n (argB e) st) x)
+
+-- the held events of a cell from y on and below x
+abbrev pub passing : (y x : ℕ) → Cell → List Event
+passing y x c = takeBelow x (dropBelow y (c .held))
+
+-- no event that the equation works on is passed
+abbrev pub Quiet : ℕ → Eqn → (y x : ℕ) → Raws → Type 0
+Quiet n input y x st = Unit {0}
+Quiet n nil y x st = Unit {0}
+Quiet n unit y x st = Unit {0}
+Quiet n (one f a) y x st = passing y x (otherIn n a st) ≡ []
+Quiet n (two g a b) y x st = passing y x (otherIn n a st) ≡ []
+Quiet n (last a b) y x st = Unit {0}
+Quiet n (delay a b) y x st = Unit {0}
+Quiet n (signal c a b) y x st = (passing y x (otherIn n a st) ≡ []) × (passing y x (otherIn n b st) ≡ [])
+Quiet n (window f k a) y x st = passing y x (otherIn n a st) ≡ []
 
 -- its record with them counted, if its events can be missing
 unfoldable pub countedRaw : ℕ → ℕ → Eqn → Kept → (y x : ℕ) → Raws → Raws

@@ -18,7 +18,7 @@ ghost use Rattle.machine.specs.State.{room};
 ghost use Rattle.meaning.specs.Missing.{Reason};
 ghost use Rattle.streams.specs.Look.{lookOf, equation, keptIn, ownOf, Bounded};
 ghost use Rattle.decide.specs.Near.{toNext, knownTo};
-ghost use Rattle.moves.specs.Move.{argIn, ownIn, otherIn, limitRaw, foundRaw, boundRaw, canRaw, slidRaw, keptRaw, summedFor, missedRaw, countedRaw, passedRaw, absorbedRaw, releasedArgs, releasedAll, silentRaw, eventRaw, stepRaw, movedRaw};
+ghost use Rattle.moves.specs.Move.{argIn, ownIn, otherIn, limitRaw, foundRaw, boundRaw, canRaw, slidRaw, keptRaw, summedFor, passing, Quiet, missedRaw, countedRaw, passedRaw, absorbedRaw, releasedArgs, releasedAll, silentRaw, eventRaw, stepRaw, movedRaw};
 use apply::Fold;
 use counting::Tally;
 use decide::Next;
@@ -306,14 +306,49 @@ fn missed(state: &[u8], n: usize, i: usize, op: Op, k: Kept, y: u64, x: u64) -> 
     counting::missed(op, k, a, b, y, x)
 }
 
+// Whether an argument holds no event from y on and below x.
+fn none_of(state: &[u8], n: usize, a: u8, y: u64, x: u64) -> bool
+    requires { ⌜ (n * 256 ≤ length (now state)) × (0 < n) ⌝ }
+    ensures { λ r. ⌜ (r ≡ true → passing y x (otherIn n a (decode n (now (state .entry)))) ≡ []) ⌝ }
+{
+    let i = argument(n, a);
+    counting::passes_none(layout::row_at(state, i), y, x)
+}
+
+// Whether the held events say that at no stamp from y on and below x an event is missing: none is passed.
+// Most moves end here.
+fn quiet(state: &[u8], n: usize, op: Op, y: u64, x: u64) -> bool
+    requires { ⌜ (n * 256 ≤ length (now state)) × (0 < n) ⌝ }
+    ensures { λ r. ⌜ (r ≡ true → Quiet n (equation op) y x (decode n (now (state .entry)))) ⌝ }
+{
+    match op {
+        Op::In => true,
+        Op::Nil => true,
+        Op::Unit => true,
+        Op::One(_, a) => none_of(state, n, a, y, x),
+        Op::Two(_, a, _) => none_of(state, n, a, y, x),
+        Op::Last(_, _) => true,
+        Op::Delay(_, _) => true,
+        Op::Signal(_, a, b) => {
+            if none_of(state, n, a, y, x) {
+                return none_of(state, n, b, y, x);
+            }
+            false
+        }
+        Op::Window(_, _, a) => none_of(state, n, a, y, x),
+    }
+}
+
 // Counts for stream i, with this operator, that keeps k, the stamps from y on and below x at which an event is missing.
-// Most moves pass none.
 fn count(state: &mut [u8], n: usize, i: usize, op: Op, k: Kept, y: u64, x: u64)
     requires { ⌜ (n * 256 + areaLength ≤ length (now state)) × (i < n) × (equation op ≡ ownIn i (decode n (now state)) .eqn) ⌝ }
     ensures { λ _. ⌜ now (state .exit) ≡ encode n (countedRaw n i (equation op) (keptIn k) y x (decode n (now (state .entry)))) ⌝ }
 {
     let row = layout::row_at(state, i);
     if !operators::can_lack(layout::byte_at(row, layout::OP)) {
+        return;
+    }
+    if quiet(state, n, op, y, x) {
         return;
     }
     let c = missed(state, n, i, op, k, y, x);

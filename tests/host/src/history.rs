@@ -195,19 +195,23 @@ impl Session {
         ends[0]
     }
 
-    /// What the definition gives for the accepted readings, as far as any stream that counts is known; none if that is too much to
-    /// look at.
-    fn meant(&self) -> Option<Meaning> {
+    /// What the definition gives for the accepted readings, as far as any stream that counts is known; none if more than `most` stamps
+    /// would have to be looked at.
+    fn meant(&self, most: usize) -> Option<Meaning> {
         let counts = (0..self.plan.len()).filter(|&s| self.plan[s].op.counts());
         let until = counts.map(|s| layout::bound(self.state(), s)).max().unwrap_or(0);
-        meaning(&self.plan, &self.accepted, until, MOST_COUNTED)
+        meaning(&self.plan, &self.accepted, until, most)
     }
 
     /// "After any list of calls [..] they equal the number of such stamps below the stream's bound": of every stream, by the call and
     /// in its record; and "a stream that isn't there gives 11". The sum of all counts, or none if the definition has too much to look
     /// at.
     pub fn check_missing(&mut self) -> Option<[u64; 2]> {
-        let meant = self.meant()?;
+        self.check_missing_within(MOST_COUNTED)
+    }
+
+    pub fn check_missing_within(&mut self, most: usize) -> Option<[u64; 2]> {
+        let meant = self.meant(most)?;
         let mut sum = [0; 2];
         for s in 0..self.plan.len() {
             let wanted = meant.counts(s, self.counted_from[s], layout::bound(self.state(), s));

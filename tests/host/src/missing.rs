@@ -35,7 +35,7 @@ pub fn absent(stream: Stream, here: [Option<i64>; 2], latest: [Option<i64>; 2], 
     Some(if stream.op.divides() && divisor == Some(0) { Why::Zero } else { Why::Outside })
 }
 
-/// The call of missing, by what a state is: "15 if the bytes are no state", then "Reading a stream that isn't there gives 11".
+/// What the call answers of a state, none for bytes that are no state: 15 first, then "Reading a stream that isn't there gives 11".
 pub fn given(found: Option<&Found>, stream: u32) -> (u32, Missing) {
     match found {
         None => (15, Missing::default()),

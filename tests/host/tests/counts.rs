@@ -538,7 +538,7 @@ fn a_long_run() {
     }
     println!("seed {}: counts of a long run {:?}", seed(), &counts[2..]);
     assert!(rounds(100) < 100 || (counts[2..].iter().all(|c| c.outside + c.zero > 100) && counts[3].outside > 10));
-    assert!(session.check_missing().is_some());
+    assert!(session.check_missing_within(usize::MAX).is_some());
 }
 
 // ---- any state

@@ -281,10 +281,9 @@ fn sums_of_windows() {
         }
         as_defined(&mut session);
     }
-    // of three: greatest, twice, three times, then − 1 in place of one, then the least
+    // of three: in range at 1, and at 5 with the greatest, −1 and the least
     let mut session = loaded("in; wsum 0 k3 out");
     offered(&mut session, 0, &[(1, GREATEST), (2, GREATEST), (3, GREATEST), (4, -1), (5, LEAST), (6, LEAST), (7, 0)]);
-    // in range: at 1; at 5 the greatest − 1 and the least; at 7 twice the least is not, nor at 6 with − 1
     runs_out(&mut session);
     missing(&mut session, 1, 5, 0);
     collected(&mut session, 1, &[(1, GREATEST), (5, -2)]);
@@ -418,7 +417,9 @@ fn in_a_run_as_far_as_it_goes() {
     let mut session = loaded("in; in; sdiv 0 1 out; rem 0 1 out");
     offered(&mut session, 0, &[(1, LEAST), (2, 4), (3, 5), (4, 6)]);
     offered(&mut session, 1, &[(1, -1), (2, 0), (3, 3), (4, 0)]);
-    for (n, of_quotient, of_remainder) in [(0, (0, 0), (0, 0)), (1, (1, 1), (0, 0)), (1, (1, 2), (0, 0)), (1, (1, 2), (0, 0)), (1, (1, 2), (0, 1)), (1, (1, 2), (0, 2))] {
+    // the quotient: 1 and 2 are missing, 3 has an event, 4 is missing; the remainder has one at 1 and at 3
+    let after = [(0, (0, 0), (0, 0)), (1, (1, 1), (0, 0)), (1, (1, 2), (0, 0)), (1, (1, 2), (0, 0)), (1, (1, 2), (0, 1)), (1, (1, 2), (0, 2))];
+    for (n, of_quotient, of_remainder) in after {
         runs(&mut session, n, n);
         missing(&mut session, 2, of_quotient.0, of_quotient.1);
         missing(&mut session, 3, of_remainder.0, of_remainder.1);
@@ -503,7 +504,11 @@ fn an_event_that_waits_for_a_reader() {
 /// Two arguments of 16 held events each, at 32 stamps: one move of a signal form passes all of them.
 #[test]
 fn one_move_passes_32_stamps() {
-    for (form, x, y, outside, zero) in [("smul", GREATEST, 2, 32, 0), ("sdiv", 5, 0, 0, 32), ("srem", LEAST, 0, 0, 32), ("sdiv", LEAST, -1, 32, 0), ("sadd", LEAST, -1, 32, 0), ("ssub", GREATEST, -1, 32, 0)] {
+    let cases = [
+        ("smul", GREATEST, 2, 32, 0), ("sdiv", 5, 0, 0, 32), ("srem", LEAST, 0, 0, 32), ("sdiv", LEAST, -1, 32, 0), ("sadd", LEAST, -1, 32, 0),
+        ("ssub", GREATEST, -1, 32, 0),
+    ];
+    for (form, x, y, outside, zero) in cases {
         let mut session = loaded(&format!("in; in; {form} 0 1"));
         // before: a has had one, b has not
         offered(&mut session, 0, &[(0, x)]);
@@ -674,7 +679,10 @@ fn only_moves_change_counts() {
         counts(&mut session);
     }
     // plain writes, refused writes, an offer and collections by the block
-    for (at, byte, number) in [(0, 1, 0), (4, 9, 0), (8, 200, 0), (19, 3, 0), (18, 3, 0), (17, 1, 17), (16, 0, 17), (16, 9, 17), (24, 1, 17), (16, 1, 0), (16, 1, 8), (16, 2, 13)] {
+    let writes = [
+        (0, 1, 0), (4, 9, 0), (8, 200, 0), (19, 3, 0), (18, 3, 0), (17, 1, 17), (16, 0, 17), (16, 9, 17), (24, 1, 17), (16, 1, 0), (16, 1, 8), (16, 2, 13),
+    ];
+    for (at, byte, number) in writes {
         assert_eq!(session.write(at, byte), number, "{byte} at {at}");
         counts(&mut session);
     }
@@ -720,7 +728,7 @@ fn a_copy_put_back() {
     missing(&mut back, 2, 2, 3);
 }
 
-/// A load over counts leaves none, of the same plan, another or none; one that is refused leaves them.
+/// A load over counts leaves none, of the same plan, another or none.
 #[test]
 fn a_load_over_counts() {
     for plan in ["in; in; div 0 1 out; smul 0 1", "in; in; mul 0 1; add 0 1; neg 0; wsum 0 k3", "in", ""] {
