@@ -1,7 +1,8 @@
 -- Believe: the page to read, demands 1 to 3 of any history of a lent buffer, told by what the exported calls return
--- (`loadReply`, `reply`, `planText`, `missingReply`, `write` and `line`, to which each is promised equal). It is read with the meaning of a plan
--- (crates/meaning: Plan, Events, Table), with what a caller sees and demand 3 itself (crates/runs: Seen, Demand3), with the
--- registers where they are written to (crates/block, crates/registers), and without machine or layout.
+-- (`loadReply`, `reply`, `planText`, `missingReply`, `write` and `line`, to which each is promised equal). It is read with the meaning
+-- of a plan (crates/meaning: Plan, Events, Table, Missing), with what a caller sees and demand 3 itself (crates/runs: Seen, Demand3),
+-- with the registers where they are written to (crates/block, crates/registers), and without machine or layout, but for where a
+-- stream's bound lies (`boundIn`).
 use Prim.Native.Nat.{ℕ, _+_, _*_, _≤_, _<_}
 use mathlib.Core.Path.{_≡_}
 use mathlib.Core.Logic.{_↔_}
@@ -64,8 +65,8 @@ pub record Taking : Type 0 where
 
 -- ## A history
 
--- a load of a plan text, one of the other calls, the plan's text written into a buffer, a stream's counts read, the write of a byte at a place of a block,
--- which may hold anything, as the buffer may, or a copy put back: the bytes that the state had after so many acts
+-- a load of a plan text, one of the other calls, the plan's text written into a buffer, a stream's counts read, the write of a byte at
+-- a place of a block, which may hold anything, as the buffer may, or a copy put back: the bytes that the state had after so many acts
 pub data Act : Type 0 where
   load : List ℕ → Act
   make : Call → Act
@@ -149,7 +150,7 @@ pub record RestAhead (ds : List Declared) (b : List ℕ) : Type 0 where
   pub typed : AllTyped more
   pub rest : AtRest ds (λ c. reply c (leftBy b more) .number)
 
--- the bound of stream s, where it lies in the bytes: eight of them from the sixteenth of its record on
+-- the bound of stream s, as it lies in the bytes: 16 to 23 of its record
 abbrev pub boundIn : List ℕ → ℕ → ℕ
 boundIn b s = le (part b (s * 256 + 16) 8)
 
