@@ -10,31 +10,24 @@ use Rattle.apply.proofs.two_lack.Reads as reads
 use Rattle.apply.proofs.two_lack.Lts as lts
 use Rattle.apply.proofs.calc_lack.Reads as calc-lack-reads
 
--- src/lib.rt:157:23
 enum-known-g : tie.Need-enum-known-g
 enum-known-g c = search needs
 
--- src/lib.rt:157:29
 calc-lack-requires : tie.Need-calc-lack-requires
 calc-lack-requires c κs = search needs
 
--- src/lib.rt:158:25
 enum-told : tie.Need-enum-told
 enum-told c = search needs
 
--- src/lib.rt:159:26
 enum-told-2 : tie.Need-enum-told-2
 enum-told-2 c = search needs
 
--- src/lib.rt:153:1
 returns : tie.Need-returns
 returns c = λ q. c .calc-lack .ensures q ∙ law.arith-lacks q (asOption (c .before .before .before .before .args .x)) (asOption (c .before .before .before .before .args .y)) (c .before .before .g .given .1)
 
--- src/lib.rt:153:1
 returns-2 : tie.Need-returns-2
 returns-2 c = λ q. law.keep-lacks q (asOption (c .before .before .args .x)) (asOption (c .before .before .args .y)) (c .enum-told .given .1)
 
--- src/lib.rt:153:1
 returns-3 : tie.Need-returns-3
 returns-3 c = λ q. law.merge-lacks q (asOption (c .before .before .args .x)) (asOption (c .before .before .args .y)) (c .enum-told2 .given .1)
 

@@ -17,43 +17,33 @@ use Rattle.layout.proofs.word_at.Reads as word-at-reads
 use Rattle.limits.proofs.Count.new.Reads as new-reads
 use Rattle.limits.proofs.Count.plus.Reads as plus-reads
 
--- src/lib.rt:186:9
 word-at-requires : tie.Need-word-at-requires
 word-at-requires c κs = search needs
 
--- src/lib.rt:187:15
 new-requires : tie.Need-new-requires
 new-requires c κs = search needs
 
--- src/lib.rt:187:9
 plus-requires : tie.Need-plus-requires
 plus-requires c κs = search needs
 
--- src/lib.rt:188:16
 new-requires-2 : tie.Need-new-requires-2
 new-requires-2 c κs = search needs
 
--- src/lib.rt:188:9
 plus-requires-2 : tie.Need-plus-requires-2
 plus-requires-2 c κs = search needs
 
--- src/lib.rt:189:47
 mul-put-word : tie.Need-mul-put-word
 mul-put-word c = search needs
 
--- src/lib.rt:189:41
 add-put-word : tie.Need-add-put-word
 add-put-word c = search needs
 
--- src/lib.rt:189:5
 put-word-requires : tie.Need-put-word-requires
 put-word-requires c κs = search needs
 
--- src/lib.rt:182:1
 same-length : tie.Need-same-length
 same-length c = search needs
 
--- src/lib.rt:182:1
 returns : tie.Need-returns
 returns c = let r = decRaw (now (c .before .before .before .before .before .before .before .before .before .before .before .args .r)) in c .before .before .put-word .ensures ∙ ap encRaw (sym (law.counted-is (c .before .before .before .before .before .before .before .before .before .before .before .args .outside) (c .before .before .before .before .before .before .before .before .before .before .before .args .divisors) (c .before .before .before .before .before .before .plus .result) (c .before .before .before .before .plus2 .result) r (c .before .before .before .before .before .before .plus .ensures .0 ∙ ap (λ (x : ℕ). min countLimit (x + c .before .before .before .before .before .before .before .before .before .before .before .args .outside)) (c .before .before .before .before .before .before .before .new .ensures ∙ ap (λ (w : ℕ). w % 2 ^ 32) (c .before .before .before .before .before .before .before .before .word-at .ensures))) (c .before .before .before .before .plus2 .ensures .0 ∙ ap (λ (x : ℕ). min countLimit (x + c .before .before .before .before .before .before .before .before .before .before .before .args .divisors)) (c .before .before .before .before .before .new2 .ensures ∙ ap (λ (w : ℕ). w / 2 ^ 32) (c .before .before .before .before .before .before .before .before .word-at .ensures)))))
 

@@ -14,31 +14,24 @@ use Rattle.counting.proofs.lack_at.Reads as lack-at-reads
 use Rattle.events.proofs.is_some.Reads as is-some-reads
 use Rattle.queue.proofs.find.Reads as find-reads
 
--- src/lib.rt:112:9
 lack-at-requires : tie.Need-lack-at-requires
 lack-at-requires c κs = search needs
 
--- src/lib.rt:112:9
 returns : tie.Need-returns
 returns c = λ q. c .lack-at .ensures q ∙ law.beside-first q (c .before .before .before .before .args .op) (c .before .before .before .before .args .k) (now (c .before .before .before .before .args .a)) (now (c .before .before .before .before .args .b)) (c .before .before .before .before .args .t) (not-true (c .before .before .before .before .args .second) (c .before .if1 .taken))
 
--- src/lib.rt:114:9
 find-requires : tie.Need-find-requires
 find-requires c κs = search needs
 
--- src/lib.rt:115:8
 is-some-requires : tie.Need-is-some-requires
 is-some-requires c κs = search needs
 
--- src/lib.rt:116:9
 returns-2 : tie.Need-returns-2
 returns-2 c = λ q. law.beside-there q (c .before .before .before .before .before .before .args .op) (c .before .before .before .before .before .before .args .k) (now (c .before .before .before .before .before .before .args .a)) (now (c .before .before .before .before .before .before .args .b)) (c .before .before .before .before .before .before .args .t) (not-false (c .before .before .before .before .before .before .args .second) (c .before .before .before .if1 .left)) (sym (c .before .is-some .ensures ∙ ap has (c .before .before .find .ensures)) ∙ c .if2 .taken)
 
--- src/lib.rt:118:5
 lack-at-requires-2 : tie.Need-lack-at-requires-2
 lack-at-requires-2 c κs = search needs
 
--- src/lib.rt:107:1
 returns-3 : tie.Need-returns-3
 returns-3 c = λ q. c .lack-at2 .ensures q ∙ law.beside-alone q (c .before .before .before .before .before .before .before .args .op) (c .before .before .before .before .before .before .before .args .k) (now (c .before .before .before .before .before .before .before .args .a)) (now (c .before .before .before .before .before .before .before .args .b)) (c .before .before .before .before .before .before .before .args .t) (not-false (c .before .before .before .before .before .before .before .args .second) (c .before .before .before .before .if1 .left)) (sym (c .before .before .is-some .ensures ∙ ap has (c .before .before .before .find .ensures)) ∙ c .before .if2 .left)
 

@@ -7,35 +7,27 @@ use Rattle.counting.proofs.more.Tie as tie
 use Rattle.counting.proofs.more.Reads as reads
 use Rattle.counting.proofs.more.Lts as lts
 
--- src/lib.rt:52:21
 enum-told : tie.Need-enum-told
 enum-told c = search needs
 
--- src/lib.rt:54:22
 enum-told-2 : tie.Need-enum-told-2
 enum-told-2 c = search needs
 
--- src/lib.rt:54:22
 add-t4 : tie.Need-add-t4
 add-t4 c = search needs
 
--- src/lib.rt:59:23
 enum-told-3 : tie.Need-enum-told-3
 enum-told-3 c = search needs
 
--- src/lib.rt:59:23
 add-t5 : tie.Need-add-t5
 add-t5 c = search needs
 
--- src/lib.rt:47:1
 returns : tie.Need-returns
 returns c = ((λ q. law.more-none q (c .before .before .args .c) (c .enum-told .given .1)), omega arith, omega arith)
 
--- src/lib.rt:47:1
 returns-2 : tie.Need-returns-2
 returns-2 c = ((λ q. law.more-outside q (c .before .before .before .args .c) (c .before .enum-told2 .given .1)), omega arith, omega arith)
 
--- src/lib.rt:47:1
 returns-3 : tie.Need-returns-3
 returns-3 c = ((λ q. law.more-divisor q (c .before .before .before .args .c) (c .before .enum-told3 .given .1)), omega arith, omega arith)
 

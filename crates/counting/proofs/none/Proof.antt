@@ -8,7 +8,6 @@ use Rattle.counting.proofs.none.Tie as tie
 use Rattle.counting.proofs.none.Reads as reads
 use Rattle.counting.proofs.none.Lts as lts
 
--- src/lib.rt:37:1
 returns : tie.Need-returns
 returns c = law.none-is
 

@@ -19,23 +19,18 @@ use Rattle.layout.proofs.stamp_at.Reads as stamp-at-reads
 use Rattle.queue.proofs.count.Reads as count-reads
 use Rattle.queue.proofs.first_from.Reads as first-from-reads
 
--- src/lib.rt:127:9
 count-requires : tie.Need-count-requires
 count-requires c κs = search needs
 
--- src/lib.rt:128:9
 first-from-requires : tie.Need-first-from-requires
 first-from-requires c κs = search needs
 
--- src/lib.rt:130:9
 returns : tie.Need-returns
 returns c = let r = decRaw (now (c .before .before .before .before .args .r)) in λ z. ap (takeBelow (c .before .before .before .before .args .x)) (sym (held-from (c .before .before .before .before .args .y) (c .before .before .count .result) (c .before .first-from .result) r (c .before .before .count .ensures .0) (c .before .first-from .ensures .0))) ∙ law.none-at-end (c .before .before .before .before .args .x) (c .before .before .count .result) (c .before .first-from .result) (r .slots) (c .if1 .taken)
 
--- src/lib.rt:132:10
 stamp-at-requires : tie.Need-stamp-at-requires
 stamp-at-requires c κs = search needs
 
--- src/lib.rt:123:1
 returns-2 : tie.Need-returns-2
 returns-2 c = let r = decRaw (now (c .before .before .before .before .before .args .r)) in let many = slots-many (now (c .before .before .before .before .before .args .r)) in λ z. ap (takeBelow (c .before .before .before .before .before .args .x)) (sym (held-from (c .before .before .before .before .before .args .y) (c .before .before .before .count .result) (c .before .before .first-from .result) r (c .before .before .before .count .ensures .0) (c .before .before .first-from .ensures .0))) ∙ law.none-below (c .before .before .before .before .before .args .x) (c .before .before .first-from .result) (c .before .before .before .count .result) r (omega arith) (omega arith) (c .stamp-at .result) (c .stamp-at .ensures .0) (leb-true (c .before .before .before .before .before .args .x) (c .stamp-at .result) z)
 

@@ -27,43 +27,33 @@ use Rattle.events.proofs.either.Reads as either-reads
 use Rattle.events.proofs.held_latest.Reads as held-latest-reads
 use Rattle.queue.proofs.find.Reads as find-reads
 
--- src/lib.rt:69:9
 find-requires : tie.Need-find-requires
 find-requires c κs = search needs
 
--- src/lib.rt:70:9
 find-requires-2 : tie.Need-find-requires-2
 find-requires-2 c κs = search needs
 
--- src/lib.rt:71:9
 either-requires : tie.Need-either-requires
 either-requires c κs = search needs
 
--- src/lib.rt:72:9
 returns : tie.Need-returns
 returns c = let t = c .before .before .before .before .before .before .args .t in let u = found (heldOf (decRaw (now (c .before .before .before .before .before .before .args .a)))) t in let z = found (heldOf (decRaw (now (c .before .before .before .before .before .before .args .b)))) t in let v = heldLatest (holding (now (c .before .before .before .before .before .before .args .a))) (suc t) (asOption (c .before .before .before .before .before .before .args .k .prev)) in let w = heldLatest (holding (now (c .before .before .before .before .before .before .args .b))) (suc t) (asOption (c .before .before .before .before .before .before .args .k .prevb)) in let g = calculation (c .before .before .before .before .before .before .args .g) in let e = c .before .either .ensures ∙ ap₂ (λ (x y : Option ℤ). has x || has y) (c .before .before .before .find .ensures) (c .before .before .find2 .ensures) in λ q. law.signal-quiet q g u z v w (sym e ∙ not-true (c .before .either .result) (c .if1 .taken))
 
--- src/lib.rt:76:36
 add-held-latest : tie.Need-add-held-latest
 add-held-latest c = search needs
 
--- src/lib.rt:76:9
 held-latest-requires : tie.Need-held-latest-requires
 held-latest-requires c κs = search needs
 
--- src/lib.rt:77:36
 add-held-latest-2 : tie.Need-add-held-latest-2
 add-held-latest-2 c = search needs
 
--- src/lib.rt:77:9
 held-latest-requires-2 : tie.Need-held-latest-requires-2
 held-latest-requires-2 c κs = search needs
 
--- src/lib.rt:78:5
 calc-lack-requires : tie.Need-calc-lack-requires
 calc-lack-requires c κs = search needs
 
--- src/lib.rt:65:1
 returns-2 : tie.Need-returns-2
 returns-2 c = let t = c .before .before .before .before .before .before .before .before .before .args .t in let u = found (heldOf (decRaw (now (c .before .before .before .before .before .before .before .before .before .args .a)))) t in let z = found (heldOf (decRaw (now (c .before .before .before .before .before .before .before .before .before .args .b)))) t in let v = heldLatest (holding (now (c .before .before .before .before .before .before .before .before .before .args .a))) (suc t) (asOption (c .before .before .before .before .before .before .before .before .before .args .k .prev)) in let w = heldLatest (holding (now (c .before .before .before .before .before .before .before .before .before .args .b))) (suc t) (asOption (c .before .before .before .before .before .before .before .before .before .args .k .prevb)) in let g = calculation (c .before .before .before .before .before .before .before .before .before .args .g) in let e = c .before .before .before .before .either .ensures ∙ ap₂ (λ (x y : Option ℤ). has x || has y) (c .before .before .before .before .before .before .find .ensures) (c .before .before .before .before .before .find2 .ensures) in λ q. c .calc-lack .ensures q ∙ ap₂ (λ (x y : Option ℤ). saidFor q (calc-says g x y)) (c .before .before .held-latest .ensures ∙ ap (λ (n : ℕ). heldLatest (holding (now (c .before .before .before .before .before .before .before .before .before .args .a))) n (asOption (c .before .before .before .before .before .before .before .before .before .args .k .prev))) (add-one t)) (c .before .held-latest2 .ensures ∙ ap (λ (n : ℕ). heldLatest (holding (now (c .before .before .before .before .before .before .before .before .before .args .b))) n (asOption (c .before .before .before .before .before .before .before .before .before .args .k .prevb))) (add-one t)) ∙ law.signal-heard q g u z v w (sym e ∙ not-false (c .before .before .before .before .either .result) (c .before .before .before .if1 .left))
 

@@ -11,23 +11,18 @@ use Rattle.counting.proofs.tally_both.Reads as reads
 use Rattle.counting.proofs.tally_both.Lts as lts
 use Rattle.counting.proofs.tally_held.Reads as tally-held-reads
 
--- src/lib.rt:156:9
 tally-held-requires : tie.Need-tally-held-requires
 tally-held-requires c κs = search needs
 
--- src/lib.rt:157:9
 tally-held-requires-2 : tie.Need-tally-held-requires-2
 tally-held-requires-2 c κs = search needs
 
--- src/lib.rt:159:18
 add-t9 : tie.Need-add-t9
 add-t9 c = search needs
 
--- src/lib.rt:160:19
 add-t10 : tie.Need-add-t10
 add-t10 c = search needs
 
--- src/lib.rt:152:1
 returns : tie.Need-returns
 returns c = ((λ q. law.both-sum q (c .before .before .before .before .before .tally-held .result) (c .before .before .before .before .tally-held2 .result) ∙ ap₂ _+_ (c .before .before .before .before .before .tally-held .ensures .0 q) (c .before .before .before .before .tally-held2 .ensures .0 q)), omega arith, omega arith)
 

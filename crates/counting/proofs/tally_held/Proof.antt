@@ -36,51 +36,39 @@ Inv-loop second op k a b held y x n first c₀ i₀ c i = (first ≤ i) × (i �
 abbrev μ-loop : tie.MeasureT-loop
 μ-loop second op k a b held y x n first c₀ i₀ c i = n - i
 
--- src/lib.rt:134:9
 count-requires : tie.Need-count-requires Inv-loop μ-loop
 count-requires c κs = search needs
 
--- src/lib.rt:135:9
 first-from-requires : tie.Need-first-from-requires Inv-loop μ-loop
 first-from-requires c κs = search needs
 
--- src/lib.rt:136:9
 none-requires : tie.Need-none-requires Inv-loop μ-loop
 none-requires c κs = search needs
 
--- src/lib.rt:138:5
 loop-holds : tie.Need-loop-holds Inv-loop μ-loop
 loop-holds c = let F : Reason → ℕ → Bool = λ q j. askedIn q (c .before .before .before .before .before .before .args .second) (c .before .before .before .before .before .before .args .op) (c .before .before .before .before .before .before .args .k) (now (c .before .before .before .before .before .before .args .a)) (now (c .before .before .before .before .before .before .args .b)) j in let r = decRaw (now (c .before .before .before .before .before .before .args .held)) in let many = slots-many (now (c .before .before .before .before .before .before .args .held)) in (omega arith, omega arith, omega arith, omega (arith, c .none .ensures outside), omega (arith, c .none .ensures divisor), λ q. let z = c .none .ensures q in let e = ap (λ (l : List Event). tallyOf (F q) (takeBelow (c .before .before .before .before .before .before .args .x) l)) (held-from (c .before .before .before .before .before .before .args .y) (c .before .before .count .result) (c .before .first-from .result) r (c .before .before .count .ensures .0) (c .before .first-from .ensures .0)) in omega (arith, z, e))
 
--- src/lib.rt:139:13
 stamp-at-requires : tie.Need-stamp-at-requires Inv-loop μ-loop
 stamp-at-requires c κs = (omega arith, omega arith)
 
--- src/lib.rt:141:13
 returns : tie.Need-returns Inv-loop μ-loop
 returns c = let F : Reason → ℕ → Bool = λ q j. askedIn q (c .before .before .before .before .before .before .before .before .before .before .args .second) (c .before .before .before .before .before .before .before .before .before .before .args .op) (c .before .before .before .before .before .before .before .before .before .before .args .k) (now (c .before .before .before .before .before .before .before .before .before .before .args .a)) (now (c .before .before .before .before .before .before .before .before .before .before .args .b)) j in let r = decRaw (now (c .before .before .before .before .before .before .before .before .before .before .args .held)) in let many = slots-many (now (c .before .before .before .before .before .before .before .before .before .before .args .held)) in ((λ q. let e = law.tally-stop (F q) (c .before .before .before .before .before .before .before .before .before .before .args .x) (c .before .before .before .loop .i) (c .before .before .before .before .before .before .count .result) r (omega arith) (omega arith) (c .before .stamp-at .result) (c .before .stamp-at .ensures .0) (c .if1 .taken) in let j = c .before .before .before .loop .inv .5 q in omega (arith, e, j)), omega arith, omega arith)
 
--- src/lib.rt:143:13
 lack-beside-requires : tie.Need-lack-beside-requires Inv-loop μ-loop
 lack-beside-requires c κs = (omega arith, omega arith, omega arith)
 
--- src/lib.rt:144:9
 more-requires : tie.Need-more-requires Inv-loop μ-loop
 more-requires c κs = (omega arith, omega arith)
 
--- src/lib.rt:145:9
 add-i : tie.Need-add-i Inv-loop μ-loop
 add-i c = omega arith
 
--- src/lib.rt:138:5
 loop-less : tie.Need-loop-less Inv-loop μ-loop
 loop-less c = omega arith
 
--- src/lib.rt:138:5
 loop-again : tie.Need-loop-again Inv-loop μ-loop
 loop-again c = let F : Reason → ℕ → Bool = λ q j. askedIn q (c .before .before .before .before .before .before .before .before .before .before .before .before .args .second) (c .before .before .before .before .before .before .before .before .before .before .before .before .args .op) (c .before .before .before .before .before .before .before .before .before .before .before .before .args .k) (now (c .before .before .before .before .before .before .before .before .before .before .before .before .args .a)) (now (c .before .before .before .before .before .before .before .before .before .before .before .before .args .b)) j in let r = decRaw (now (c .before .before .before .before .before .before .before .before .before .before .before .before .args .held)) in let many = slots-many (now (c .before .before .before .before .before .before .before .before .before .before .before .before .args .held)) in (omega arith, omega arith, omega arith, omega arith, omega arith, λ q. law.tallied-on (F q (c .before .before .before .stamp-at .result)) (lackFor q (c .before .lack-beside .result)) (countIn q (c .before .before .before .before .before .loop .c)) (countIn q (c .more .result)) (tallyOf (F q) (takeBelow (c .before .before .before .before .before .before .before .before .before .before .before .before .args .x) (eventsIn (c .before .before .before .before .before .loop .i + 1) (c .before .before .before .before .before .before .before .before .count .result) (r .slots)))) (tallyOf (F q) (takeBelow (c .before .before .before .before .before .before .before .before .before .before .before .before .args .x) (eventsIn (c .before .before .before .before .before .loop .i) (c .before .before .before .before .before .before .before .before .count .result) (r .slots)))) (tallyOf (F q) (takeBelow (c .before .before .before .before .before .before .before .before .before .before .before .before .args .x) (dropBelow (c .before .before .before .before .before .before .before .before .before .before .before .before .args .y) (heldOf r)))) (c .before .lack-beside .ensures q) (c .more .ensures .0 q) (law.tally-more (F q) (c .before .before .before .before .before .before .before .before .before .before .before .before .args .x) (c .before .before .before .before .before .loop .i) (c .before .before .before .before .before .before .before .before .count .result) r (omega arith) (omega arith) (c .before .before .before .stamp-at .result) (c .before .before .before .stamp-at .ensures .0) (omega arith)) (c .before .before .before .before .before .loop .inv .5 q))
 
--- src/lib.rt:121:1
 returns-2 : tie.Need-returns-2 Inv-loop μ-loop
 returns-2 c = let F : Reason → ℕ → Bool = λ q j. askedIn q (c .before .before .before .before .before .before .before .before .args .second) (c .before .before .before .before .before .before .before .before .args .op) (c .before .before .before .before .before .before .before .before .args .k) (now (c .before .before .before .before .before .before .before .before .args .a)) (now (c .before .before .before .before .before .before .before .before .args .b)) j in let r = decRaw (now (c .before .before .before .before .before .before .before .before .args .held)) in let many = slots-many (now (c .before .before .before .before .before .before .before .before .args .held)) in let i : c .before .loop .i ≡ c .before .before .before .before .count .result = omega arith in ((λ q. let e = law.tally-end (F q) (c .before .before .before .before .before .before .before .before .args .x) (c .before .before .before .before .count .result) (r .slots) in let f = ap (λ (j : ℕ). tallyOf (F q) (takeBelow (c .before .before .before .before .before .before .before .before .args .x) (eventsIn j (c .before .before .before .before .count .result) (r .slots)))) i in let j = c .before .loop .inv .5 q in omega (arith, e, f, j)), omega arith, omega arith)
 

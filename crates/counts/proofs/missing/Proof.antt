@@ -15,27 +15,21 @@ use Rattle.counts.proofs.missing.Lts as lts
 use Rattle.layout.proofs.row_at.Reads as row-at-reads
 use Rattle.layout.proofs.word_at.Reads as word-at-reads
 
--- src/lib.rt:20:9
 returns : tie.Need-returns
 returns c = let e = sym (law.missing-none (now (c .before .before .args .state)) (c .before .before .args .n) (c .before .before .pre) (c .before .before .args .stream) (c .if1 .taken)) in (ap (λ (m : Missing). m .number) e, (ap (λ (m : Missing). m .outside) e, ap (λ (m : Missing). m .divisors) e))
 
--- src/lib.rt:22:32
 row-at-requires : tie.Need-row-at-requires
 row-at-requires c κs = let r = room-for (now (c .before .before .args .state)) (λ j. omega (arith, c .before .shared-slice-known .given j)) (c .before .before .args .n) (c .before .before .pre) in omega arith
 
--- src/lib.rt:22:9
 word-at-requires : tie.Need-word-at-requires
 word-at-requires c κs = search needs
 
--- src/lib.rt:23:16
 cast-outside : tie.Need-cast-outside
 cast-outside c = search needs
 
--- src/lib.rt:24:13
 cast-zero : tie.Need-cast-zero
 cast-zero c = search needs
 
--- src/lib.rt:10:1
 returns-2 : tie.Need-returns-2
 returns-2 c = let e = sym (law.missing-there (now (c .before .before .before .before .args .state)) (c .before .before .before .before .args .n) (c .before .before .before .before .pre) (c .before .before .before .before .args .stream) (omega arith) (now (c .before .row-at .result)) (c .before .row-at .ensures .0)) in (ap (λ (m : Missing). m .number) e, (ap (λ (x : ℕ). x % 2 ^ 32) (c .word-at .ensures) ∙ ap (λ (m : Missing). m .outside) e, ap (λ (x : ℕ). x / 2 ^ 32) (c .word-at .ensures) ∙ ap (λ (m : Missing). m .divisors) e))
 

@@ -12,27 +12,21 @@ use Rattle.engine.proofs.tessla_missing.Lts as lts
 use Rattle.counts.proofs.missing.Reads as missing-reads
 use Rattle.valid.proofs.streams.Reads as streams-reads
 
--- src/lib.rt:139:11
 streams-requires : tie.Need-streams-requires
 streams-requires c κs = search needs
 
--- src/lib.rt:140:23
 enum-known-n : tie.Need-enum-known-n
 enum-known-n c = search needs
 
--- src/lib.rt:140:29
 missing-requires : tie.Need-missing-requires
 missing-requires c κs = tested-state _ _ (sym (c .before .before .before .n .given .1) ∙ c .before .before .before .before .before .streams .ensures)
 
--- src/lib.rt:142:13
 enum-told : tie.Need-enum-told
 enum-told c = search needs
 
--- src/lib.rt:128:1
 returns : tie.Need-returns
 returns c = let s = now (c .before .before .before .before .before .before .before .before .args .state) in rw (reply-state (c .before .before .before .before .before .before .before .before .args .stream) s (tested-state s _ (sym (c .before .before .before .before .n .given .1) ∙ c .before .before .before .before .before .before .streams .ensures) .isValid)) (c .missing .ensures)
 
--- src/lib.rt:128:1
 returns-2 : tie.Need-returns-2
 returns-2 c = let s = now (c .before .before .before .before .args .state) in rw (reply-none (c .before .before .before .before .args .stream) s (tested-none s (sym (c .enum-told .given .1) ∙ c .before .before .streams .ensures))) (refl, (refl, refl))
 

@@ -24,83 +24,63 @@ use Rattle.moves.proofs.missed.Reads as missed-reads
 use Rattle.moves.proofs.quiet.Reads as quiet-reads
 use Rattle.operators.proofs.can_lack.Reads as can-lack-reads
 
--- src/lib.rt:347:9
 row-at-requires : tie.Need-row-at-requires
 row-at-requires c κs = search needs
 
--- src/lib.rt:348:29
 byte-at-requires : tie.Need-byte-at-requires
 byte-at-requires c κs = search needs
 
--- src/lib.rt:348:9
 can-lack-requires : tie.Need-can-lack-requires
 can-lack-requires c κs = search needs
 
--- src/lib.rt:349:9
 same-length : tie.Need-same-length
 same-length c = search needs
 
--- src/lib.rt:349:9
 returns : tie.Need-returns
 returns c = let n = c .before .before .before .before .before .before .args .n in let s = now (c .before .before .before .before .before .before .args .state) in let e = equation (c .before .before .before .before .before .before .args .op) in let k = keptIn (c .before .before .before .before .before .before .args .k) in let row = record-row n s (now (c .before .before .before .row-at .result)) (c .before .before .before .before .before .before .args .i) (omega arith) (c .before .before .before .row-at .ensures .0) in let who : canLack e ≡ c .before .can-lack .result = ap canLack (c .before .before .before .before .before .before .pre .2) ∙ law.lacks-row (rowAt (decode n s) (c .before .before .before .before .before .before .args .i)) ∙ ap (λ (r : Raw). lacksAt (num opF r)) (sym row) ∙ ap lacksAt (sym (c .before .before .byte-at .ensures .0)) ∙ sym (c .before .can-lack .ensures) in law.counted-other n (c .before .before .before .before .before .before .args .i) e k (c .before .before .before .before .before .before .args .y) (c .before .before .before .before .before .before .args .x) s (omega arith) (λ j. omega (arith, c .before .before .before .before .before .slice-known .given j)) (who ∙ not-true (c .before .can-lack .result) (c .if1 .taken))
 
--- src/lib.rt:351:8
 quiet-requires : tie.Need-quiet-requires
 quiet-requires c κs = search needs
 
--- src/lib.rt:352:9
 same-length-2 : tie.Need-same-length-2
 same-length-2 c = search needs
 
--- src/lib.rt:352:9
 returns-2 : tie.Need-returns-2
 returns-2 c = let n = c .before .before .before .before .before .before .before .before .before .args .n in let s = now (c .before .before .before .before .before .before .before .before .before .args .state) in let e = equation (c .before .before .before .before .before .before .before .before .before .args .op) in let k = keptIn (c .before .before .before .before .before .before .before .before .before .args .k) in let row = record-row n s (now (c .before .before .before .before .before .before .row-at .result)) (c .before .before .before .before .before .before .before .before .before .args .i) (omega arith) (c .before .before .before .before .before .before .row-at .ensures .0) in let who : canLack e ≡ c .before .before .before .before .can-lack .result = ap canLack (c .before .before .before .before .before .before .before .before .before .pre .2) ∙ law.lacks-row (rowAt (decode n s) (c .before .before .before .before .before .before .before .before .before .args .i)) ∙ ap (λ (r : Raw). lacksAt (num opF r)) (sym row) ∙ ap lacksAt (sym (c .before .before .before .before .before .byte-at .ensures .0)) ∙ sym (c .before .before .before .before .can-lack .ensures) in let h = law.quiet-none n (c .before .before .before .before .before .before .before .before .before .args .i) e k (c .before .before .before .before .before .before .before .before .before .args .y) (c .before .before .before .before .before .before .before .before .before .args .x) (decode n s) (c .before .quiet .ensures (c .if2 .taken)) in law.counted-none-is n (c .before .before .before .before .before .before .before .before .before .args .i) e k (c .before .before .before .before .before .before .before .before .before .args .y) (c .before .before .before .before .before .before .before .before .before .args .x) s (omega arith) (λ j. omega (arith, c .before .before .before .before .before .before .before .before .slice-known .given j)) (omega arith) (h outside) (h divisor)
 
--- src/lib.rt:354:9
 missed-requires : tie.Need-missed-requires
 missed-requires c κs = search needs
 
--- src/lib.rt:355:8
 add-if3 : tie.Need-add-if3
 add-if3 c = search needs
 
--- src/lib.rt:356:9
 same-length-3 : tie.Need-same-length-3
 same-length-3 c = search needs
 
--- src/lib.rt:356:9
 returns-3 : tie.Need-returns-3
 returns-3 c = let n = c .before .before .before .before .before .before .before .before .before .before .before .before .before .args .n in let s = now (c .before .before .before .before .before .before .before .before .before .before .before .before .before .args .state) in let e = equation (c .before .before .before .before .before .before .before .before .before .before .before .before .before .args .op) in let k = keptIn (c .before .before .before .before .before .before .before .before .before .before .before .before .before .args .k) in let row = record-row n s (now (c .before .before .before .before .before .before .before .before .before .before .row-at .result)) (c .before .before .before .before .before .before .before .before .before .before .before .before .before .args .i) (omega arith) (c .before .before .before .before .before .before .before .before .before .before .row-at .ensures .0) in let who : canLack e ≡ c .before .before .before .before .before .before .before .before .can-lack .result = ap canLack (c .before .before .before .before .before .before .before .before .before .before .before .before .before .pre .2) ∙ law.lacks-row (rowAt (decode n s) (c .before .before .before .before .before .before .before .before .before .before .before .before .before .args .i)) ∙ ap (λ (r : Raw). lacksAt (num opF r)) (sym row) ∙ ap lacksAt (sym (c .before .before .before .before .before .before .before .before .before .byte-at .ensures .0)) ∙ sym (c .before .before .before .before .before .before .before .before .can-lack .ensures) in let z : c .before .before .missed .result .outside + c .before .before .missed .result .divisors ≡ 0 = c .if3 .taken in let u : c .before .before .missed .result .outside ≡ 0 = omega arith in let w : c .before .before .missed .result .divisors ≡ 0 = omega arith in law.counted-none-is n (c .before .before .before .before .before .before .before .before .before .before .before .before .before .args .i) e k (c .before .before .before .before .before .before .before .before .before .before .before .before .before .args .y) (c .before .before .before .before .before .before .before .before .before .before .before .before .before .args .x) s (omega arith) (λ j. omega (arith, c .before .before .before .before .before .before .before .before .before .before .before .before .slice-known .given j)) (omega arith) (sym (c .before .before .missed .ensures .0 outside) ∙ u) (sym (c .before .before .missed .ensures .0 divisor) ∙ w)
 
--- src/lib.rt:358:14
 mul-at : tie.Need-mul-at
 mul-at c = search needs
 
--- src/lib.rt:359:15
 add-end : tie.Need-add-end
 add-end c = search needs
 
--- src/lib.rt:360:19
 sub-add : tie.Need-sub-add
 sub-add c = search needs
 
--- src/lib.rt:360:19
 part-add-start : tie.Need-part-add-start
 part-add-start c = search needs
 
--- src/lib.rt:360:19
 part-add-end : tie.Need-part-add-end
 part-add-end c = search needs
 
--- src/lib.rt:360:5
 add-requires : tie.Need-add-requires
 add-requires c κs = search needs
 
--- src/lib.rt:343:1
 same-length-4 : tie.Need-same-length-4
 same-length-4 c = search needs
 
--- src/lib.rt:343:1
 returns-4 : tie.Need-returns-4
 returns-4 c = let n = c .before .before .before .before .before .before .before .before .before .before .before .before .before .before .before .before .before .args .n in let s = now (c .before .before .before .before .before .before .before .before .before .before .before .before .before .before .before .before .before .args .state) in let e = equation (c .before .before .before .before .before .before .before .before .before .before .before .before .before .before .before .before .before .args .op) in let k = keptIn (c .before .before .before .before .before .before .before .before .before .before .before .before .before .before .before .before .before .args .k) in let row = record-row n s (now (c .before .before .before .before .before .before .before .before .before .before .before .before .before .before .row-at .result)) (c .before .before .before .before .before .before .before .before .before .before .before .before .before .before .before .before .before .args .i) (omega arith) (c .before .before .before .before .before .before .before .before .before .before .before .before .before .before .row-at .ensures .0) in let who : canLack e ≡ c .before .before .before .before .before .before .before .before .before .before .before .before .can-lack .result = ap canLack (c .before .before .before .before .before .before .before .before .before .before .before .before .before .before .before .before .before .pre .2) ∙ law.lacks-row (rowAt (decode n s) (c .before .before .before .before .before .before .before .before .before .before .before .before .before .before .before .before .before .args .i)) ∙ ap (λ (r : Raw). lacksAt (num opF r)) (sym row) ∙ ap lacksAt (sym (c .before .before .before .before .before .before .before .before .before .before .before .before .before .byte-at .ensures .0)) ∙ sym (c .before .before .before .before .before .before .before .before .before .before .before .before .can-lack .ensures) in law.counted-some n (c .before .before .before .before .before .before .before .before .before .before .before .before .before .before .before .before .before .args .i) e k (c .before .before .before .before .before .before .before .before .before .before .before .before .before .before .before .before .before .args .y) (c .before .before .before .before .before .before .before .before .before .before .before .before .before .before .before .before .before .args .x) s (omega arith) (λ j. omega (arith, c .before .before .before .before .before .before .before .before .before .before .before .before .before .before .before .before .slice-known .given j)) (who ∙ not-false (c .before .before .before .before .before .before .before .before .before .before .before .before .can-lack .result) (c .before .before .before .before .before .before .before .before .before .before .before .if1 .left)) _ (c .before .before .before .before .before .before .missed .result .outside) (c .before .before .before .before .before .before .missed .result .divisors) (c .before .before .before .before .before .before .missed .ensures .0 outside) (c .before .before .before .before .before .before .missed .ensures .0 divisor) (lent n s (c .before .before .add .last .0) (c .before .before .before .before .before .before .before .before .before .before .before .before .before .before .before .before .before .args .i) (c .before .before .before .before .before .before .before .before .before .before .before .before .before .before .before .before .before .args .i * 256 + 256 - c .before .before .before .before .before .before .before .before .before .before .before .before .before .before .before .before .before .args .i * 256) (countedRow (c .before .before .before .before .before .before .missed .result .outside) (c .before .before .before .before .before .before .missed .result .divisors)) (omega arith) (omega arith) (λ j. omega (arith, c .before .before .before .before .before .before .before .before .before .before .before .before .before .before .before .before .slice-known .given j)) (omega arith) (c .before .before .add .ensures))
 

@@ -30,75 +30,57 @@ use Rattle.moves.proofs.stuck.Reads as stuck-reads
 use Rattle.streams.proofs.complete.Reads as complete-reads
 use Rattle.streams.proofs.operator_at.Reads as operator-at-reads
 
--- src/lib.rt:355:9
 row-at-requires : tie.Need-row-at-requires
 row-at-requires c κs = search needs
 
--- src/lib.rt:356:9
 word-at-requires : tie.Need-word-at-requires
 word-at-requires c κs = search needs
 
--- src/lib.rt:357:9
 operator-at-requires : tie.Need-operator-at-requires
 operator-at-requires c κs = search needs
 
--- src/lib.rt:358:8
 stuck-requires : tie.Need-stuck-requires
 stuck-requires c κs = search needs
 
--- src/lib.rt:359:9
 same-length : tie.Need-same-length
 same-length c = search needs
 
--- src/lib.rt:359:9
 returns : tie.Need-returns
 returns c = let l0 = c .before .before .before .before .before .before .before .pre .0 in let l1 = c .before .before .before .before .before .before .before .pre .1 in let n = c .before .before .before .before .before .before .before .args .n in let s = now (c .before .before .before .before .before .before .before .args .state) in let st = decode n s in let i = c .before .before .before .before .before .before .before .args .i in let mid = sym (record-row n s (now (c .before .before .before .before .row-at .result)) i (omega arith) (c .before .before .before .before .row-at .ensures .0)) in let at : min (c .before .before .before .word-at .result) horizon ≡ ownIn i st .bound = ap (λ (x : ℕ). min x horizon) (c .before .before .before .word-at .ensures) ∙ sym (look-bound _) ∙ ap (λ (r : Raw). lookOf r .bound) (sym mid) in let is : equation (c .before .before .operator-at .result) ≡ ownIn i st .eqn = c .before .before .operator-at .ensures ∙ ap (λ (r : Raw). lookOf r .eqn) (sym mid) in let e = Decides.can-stuck n i st (equation (c .before .before .operator-at .result)) (min (c .before .before .before .word-at .result) horizon) is at (c .before .stuck .ensures (c .if1 .taken)) in (sym e, sym (rw e))
 
--- src/lib.rt:361:9
 smaller-requires : tie.Need-smaller-requires
 smaller-requires c κs = search needs
 
--- src/lib.rt:362:9
 complete-requires : tie.Need-complete-requires
 complete-requires c κs = (search needs, search needs, c .smaller .ensures ∙ ap (λ (x : ℕ). min x horizon) (c .before .before .before .before .word-at .ensures) ∙ sym (look-bound _))
 
--- src/lib.rt:363:9
 byte-at-requires : tie.Need-byte-at-requires
 byte-at-requires c κs = search needs
 
--- src/lib.rt:364:9
 ahead-requires : tie.Need-ahead-requires
 ahead-requires c κs = (omega arith, omega arith, is-sound (c .before .before .complete .result) _ (c .before .before .complete .ensures))
 
--- src/lib.rt:365:9
 bound-after-requires : tie.Need-bound-after-requires
 bound-after-requires c κs = search needs
 
--- src/lib.rt:367:9
 same-length-2 : tie.Need-same-length-2
 same-length-2 c = search needs
 
--- src/lib.rt:367:9
 returns-2 : tie.Need-returns-2
 returns-2 c = let l0 = c .before .before .before .before .before .before .before .before .before .before .before .before .before .before .pre .0 in let l1 = c .before .before .before .before .before .before .before .before .before .before .before .before .before .before .pre .1 in let n = c .before .before .before .before .before .before .before .before .before .before .before .before .before .before .args .n in let s = now (c .before .before .before .before .before .before .before .before .before .before .before .before .before .before .args .state) in let st = decode n s in let i = c .before .before .before .before .before .before .before .before .before .before .before .before .before .before .args .i in let mid = sym (record-row n s (now (c .before .before .before .before .before .before .before .before .before .before .before .row-at .result)) i (omega arith) (c .before .before .before .before .before .before .before .before .before .before .before .row-at .ensures .0)) in let at : min (c .before .before .before .before .before .before .before .before .before .before .word-at .result) horizon ≡ ownIn i st .bound = ap (λ (x : ℕ). min x horizon) (c .before .before .before .before .before .before .before .before .before .before .word-at .ensures) ∙ sym (look-bound _) ∙ ap (λ (r : Raw). lookOf r .bound) (sym mid) in let w = c .before .before .before .before .before .complete .result in let ew : equation (w .op) ≡ ownIn i st .eqn = c .before .before .before .before .before .complete .ensures .eqn ∙ ap (λ (r : Raw). lookOf r .eqn) (sym mid) in let low : w .bound ≡ ownIn i st .bound = c .before .before .before .before .before .complete .ensures .bound ∙ ap (λ (r : Raw). lookOf r .bound) (sym mid) in let kq : keptIn (w .kept) ≡ ownIn i st .kept = c .before .before .before .before .before .complete .ensures .kept ∙ ap (λ (r : Raw). lookOf r .kept) (sym mid) in let h : c .before .before .before .before .byte-at .result ≡ num countF (rowAt st i) = c .before .before .before .before .byte-at .ensures .0 ∙ ap (num countF) (sym mid) in let ah = c .before .before .ahead .ensures .0 ∙ Decides.ahead-is n i st (equation (w .op)) (w .bound) ew low (keptIn (w .kept)) kq in let u : c .before .bound-after .result ≡ boundRaw (aheadRaw n i st) (num countF (rowAt st i)) = c .before .bound-after .ensures .0 ∙ ap₂ boundRaw ah h in let bq : c .before .before .before .before .before .before .smaller .result ≡ ownIn i st .bound = c .before .before .before .before .before .before .smaller .ensures ∙ at in let e = Decides.can-stays n i st (sym u ∙ c .if2 .taken ∙ bq) in (sym e, sym (rw e))
 
--- src/lib.rt:370:40
 counted-to-requires : tie.Need-counted-to-requires
 counted-to-requires c κs = search needs
 
--- src/lib.rt:370:5
 pass-requires : tie.Need-pass-requires
 pass-requires c κs = let l0 = c .before .before .before .before .before .before .before .before .before .before .before .before .before .before .before .before .before .pre .0 in let l1 = c .before .before .before .before .before .before .before .before .before .before .before .before .before .before .before .before .before .pre .1 in let n = c .before .before .before .before .before .before .before .before .before .before .before .before .before .before .before .before .before .args .n in let s = now (c .before .before .before .before .before .before .before .before .before .before .before .before .before .before .before .before .before .args .state) in let st = decode n s in let i = c .before .before .before .before .before .before .before .before .before .before .before .before .before .before .before .before .before .args .i in let mid = sym (record-row n s (now (c .before .before .before .before .before .before .before .before .before .before .before .before .before .before .row-at .result)) i (omega arith) (c .before .before .before .before .before .before .before .before .before .before .before .before .before .before .row-at .ensures .0)) in let is : equation (c .before .before .before .before .before .before .before .before .before .before .before .before .operator-at .result) ≡ ownIn i st .eqn = c .before .before .before .before .before .before .before .before .before .before .before .before .operator-at .ensures ∙ ap (λ (r : Raw). lookOf r .eqn) (sym mid) in (omega arith, omega arith, is)
 
--- src/lib.rt:371:5
 make-requires : tie.Need-make-requires
 make-requires c κs = let l0 = c .before .before .before .before .before .before .before .before .before .before .before .before .before .before .before .before .before .before .before .before .before .pre .0 in let l1 = c .before .before .before .before .before .before .before .before .before .before .before .before .before .before .before .before .before .before .before .before .before .pre .1 in let n = c .before .before .before .before .before .before .before .before .before .before .before .before .before .before .before .before .before .before .before .before .before .args .n in let s = now (c .before .before .before .before .before .before .before .before .before .before .before .before .before .before .before .before .before .before .before .before .before .args .state) in let st = decode n s in let i = c .before .before .before .before .before .before .before .before .before .before .before .before .before .before .before .before .before .before .before .before .before .args .i in let mid = sym (record-row n s (now (c .before .before .before .before .before .before .before .before .before .before .before .before .before .before .before .before .before .before .row-at .result)) i (omega arith) (c .before .before .before .before .before .before .before .before .before .before .before .before .before .before .before .before .before .before .row-at .ensures .0)) in let at : min (c .before .before .before .before .before .before .before .before .before .before .before .before .before .before .before .before .before .word-at .result) horizon ≡ ownIn i st .bound = ap (λ (x : ℕ). min x horizon) (c .before .before .before .before .before .before .before .before .before .before .before .before .before .before .before .before .before .word-at .ensures) ∙ sym (look-bound _) ∙ ap (λ (r : Raw). lookOf r .bound) (sym mid) in let is : equation (c .before .before .before .before .before .before .before .before .before .before .before .before .before .before .before .before .operator-at .result) ≡ ownIn i st .eqn = c .before .before .before .before .before .before .before .before .before .before .before .before .before .before .before .before .operator-at .ensures ∙ ap (λ (r : Raw). lookOf r .eqn) (sym mid) in let w = c .before .before .before .before .before .before .before .before .before .before .before .before .complete .result in let ew : equation (w .op) ≡ ownIn i st .eqn = c .before .before .before .before .before .before .before .before .before .before .before .before .complete .ensures .eqn ∙ ap (λ (r : Raw). lookOf r .eqn) (sym mid) in let low : w .bound ≡ ownIn i st .bound = c .before .before .before .before .before .before .before .before .before .before .before .before .complete .ensures .bound ∙ ap (λ (r : Raw). lookOf r .bound) (sym mid) in let kq : keptIn (w .kept) ≡ ownIn i st .kept = c .before .before .before .before .before .before .before .before .before .before .before .before .complete .ensures .kept ∙ ap (λ (r : Raw). lookOf r .kept) (sym mid) in let bq : c .before .before .before .before .before .before .before .before .before .before .before .before .before .smaller .result ≡ ownIn i st .bound = c .before .before .before .before .before .before .before .before .before .before .before .before .before .smaller .ensures ∙ at in let pa = c .before .before .before .pass .ensures ∙ (λ j. encode n (passedRaw n i (is j) (kq j) (bq j) (c .before .before .before .before .before .before .before .before .bound-after .result) (c .before .before .before .before .counted-to .result) st)) in (omega arith, omega arith, c .before .before .before .before .before .before .before .before .before .ahead .ensures .1, kq ∙ Steps.passed-kept n i (omega arith) s (λ j. omega (arith, c .before .before .before .before .before .before .before .before .before .before .before .before .before .before .before .before .before .before .before .before .slice-known .given j)) (c .before .before .before .pass .last .0) (c .before .before .before .before .before .before .before .before .bound-after .result) (c .before .before .before .before .counted-to .result) pa)
 
--- src/lib.rt:350:1
 same-length-3 : tie.Need-same-length-3
 same-length-3 c = search needs
 
--- src/lib.rt:350:1
 returns-3 : tie.Need-returns-3
 unfolding movedRaw
 returns-3 c = let l0 = c .before .before .before .before .before .before .before .before .before .before .before .before .before .before .before .before .before .before .before .before .before .before .before .before .pre .0 in let l1 = c .before .before .before .before .before .before .before .before .before .before .before .before .before .before .before .before .before .before .before .before .before .before .before .before .pre .1 in let n = c .before .before .before .before .before .before .before .before .before .before .before .before .before .before .before .before .before .before .before .before .before .before .before .before .args .n in let s = now (c .before .before .before .before .before .before .before .before .before .before .before .before .before .before .before .before .before .before .before .before .before .before .before .before .args .state) in let st = decode n s in let i = c .before .before .before .before .before .before .before .before .before .before .before .before .before .before .before .before .before .before .before .before .before .before .before .before .args .i in let mid = sym (record-row n s (now (c .before .before .before .before .before .before .before .before .before .before .before .before .before .before .before .before .before .before .before .before .before .row-at .result)) i (omega arith) (c .before .before .before .before .before .before .before .before .before .before .before .before .before .before .before .before .before .before .before .before .before .row-at .ensures .0)) in let at : min (c .before .before .before .before .before .before .before .before .before .before .before .before .before .before .before .before .before .before .before .before .word-at .result) horizon ≡ ownIn i st .bound = ap (λ (x : ℕ). min x horizon) (c .before .before .before .before .before .before .before .before .before .before .before .before .before .before .before .before .before .before .before .before .word-at .ensures) ∙ sym (look-bound _) ∙ ap (λ (r : Raw). lookOf r .bound) (sym mid) in let is : equation (c .before .before .before .before .before .before .before .before .before .before .before .before .before .before .before .before .before .before .before .operator-at .result) ≡ ownIn i st .eqn = c .before .before .before .before .before .before .before .before .before .before .before .before .before .before .before .before .before .before .before .operator-at .ensures ∙ ap (λ (r : Raw). lookOf r .eqn) (sym mid) in let w = c .before .before .before .before .before .before .before .before .before .before .before .before .before .before .before .complete .result in let ew : equation (w .op) ≡ ownIn i st .eqn = c .before .before .before .before .before .before .before .before .before .before .before .before .before .before .before .complete .ensures .eqn ∙ ap (λ (r : Raw). lookOf r .eqn) (sym mid) in let low : w .bound ≡ ownIn i st .bound = c .before .before .before .before .before .before .before .before .before .before .before .before .before .before .before .complete .ensures .bound ∙ ap (λ (r : Raw). lookOf r .bound) (sym mid) in let kq : keptIn (w .kept) ≡ ownIn i st .kept = c .before .before .before .before .before .before .before .before .before .before .before .before .before .before .before .complete .ensures .kept ∙ ap (λ (r : Raw). lookOf r .kept) (sym mid) in let h : c .before .before .before .before .before .before .before .before .before .before .before .before .before .before .byte-at .result ≡ num countF (rowAt st i) = c .before .before .before .before .before .before .before .before .before .before .before .before .before .before .byte-at .ensures .0 ∙ ap (num countF) (sym mid) in let ah = c .before .before .before .before .before .before .before .before .before .before .before .before .ahead .ensures .0 ∙ Decides.ahead-is n i st (equation (w .op)) (w .bound) ew low (keptIn (w .kept)) kq in let u : c .before .before .before .before .before .before .before .before .before .before .before .bound-after .result ≡ boundRaw (aheadRaw n i st) (num countF (rowAt st i)) = c .before .before .before .before .before .before .before .before .before .before .before .bound-after .ensures .0 ∙ ap₂ boundRaw ah h in let bq : c .before .before .before .before .before .before .before .before .before .before .before .before .before .before .before .before .smaller .result ≡ ownIn i st .bound = c .before .before .before .before .before .before .before .before .before .before .before .before .before .before .before .before .smaller .ensures ∙ at in let zq : c .before .before .before .before .before .before .before .counted-to .result ≡ endOf (aheadRaw n i st) = c .before .before .before .before .before .before .before .counted-to .ensures ∙ ap endOf ah in let e = Decides.can-moves n i st (λ q. c .before .before .before .before .before .before .before .before .before .before .if2 .left (u ∙ q ∙ sym bq)) in let pa = c .before .before .before .before .before .before .pass .ensures ∙ (λ j. encode n (passedRaw n i (is j) (kq j) (bq j) (u j) (zq j) st)) in (sym e, Steps.made-is n i (omega arith) s (λ j. omega (arith, c .before .before .before .before .before .before .before .before .before .before .before .before .before .before .before .before .before .before .before .before .before .before .before .slice-known .given j)) (c .before .before .before .before .before .before .pass .last .0) (c .before .before .make .last .0) (boundRaw (aheadRaw n i st) (num countF (rowAt st i))) (endOf (aheadRaw n i st)) pa (c .before .before .make .ensures ∙ (λ j. encode n (stepRaw n i (is j) (kq j) (ah j) (h j) (decode n (c .before .before .before .before .before .before .pass .last .0))))) ∙ sym (rw e))

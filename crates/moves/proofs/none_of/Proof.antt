@@ -19,19 +19,15 @@ use Rattle.counting.proofs.passes_none.Reads as passes-none-reads
 use Rattle.layout.proofs.row_at.Reads as row-at-reads
 use Rattle.moves.proofs.argument.Reads as argument-reads
 
--- src/lib.rt:314:9
 argument-requires : tie.Need-argument-requires
 argument-requires c κs = search needs
 
--- src/lib.rt:315:27
 row-at-requires : tie.Need-row-at-requires
 row-at-requires c κs = search needs
 
--- src/lib.rt:315:5
 passes-none-requires : tie.Need-passes-none-requires
 passes-none-requires c κs = search needs
 
--- src/lib.rt:310:1
 returns : tie.Need-returns
 returns c = let n = c .before .before .before .before .args .n in let s = now (c .before .before .before .before .args .state) in let st = decode n s in let r : rowAt st (argIn n (c .before .before .before .before .args .a)) ≡ decRaw (now (c .before .row-at .result)) = sym (record-row n s (now (c .before .row-at .result)) (c .before .before .argument .result) (omega arith) (c .before .row-at .ensures .0) ∙ ap (rowAt st) (c .before .before .argument .ensures .0)) in λ z. law.none-held n (c .before .before .before .before .args .a) (c .before .before .before .before .args .y) (c .before .before .before .before .args .x) st (ap (λ (w : Raw). takeBelow (c .before .before .before .before .args .x) (dropBelow (c .before .before .before .before .args .y) (heldOf w))) r ∙ c .passes-none .ensures z)
 

@@ -13,19 +13,15 @@ use Rattle.moves.proofs.pass.Lts as lts
 use Rattle.moves.proofs.count.Reads as count-reads
 use Rattle.moves.proofs.slide.Reads as slide-reads
 
--- src/lib.rt:334:5
 count-requires : tie.Need-count-requires
 count-requires c κs = search needs
 
--- src/lib.rt:335:5
 slide-requires : tie.Need-slide-requires
 slide-requires c κs = search needs
 
--- src/lib.rt:330:1
 same-length : tie.Need-same-length
 same-length c = search needs
 
--- src/lib.rt:330:1
 returns : tie.Need-returns
 returns c = Steps.passed-is (c .before .before .before .before .before .before .before .before .before .args .n) (c .before .before .before .before .before .before .before .before .before .args .i) (omega arith) (equation (c .before .before .before .before .before .before .before .before .before .args .op)) (keptIn (c .before .before .before .before .before .before .before .before .before .args .k)) (c .before .before .before .before .before .before .before .before .before .args .y) (c .before .before .before .before .before .before .before .before .before .args .x) (c .before .before .before .before .before .before .before .before .before .args .z) (now (c .before .before .before .before .before .before .before .before .before .args .state)) (c .before .before .before .before .before .before .count .last .0) (c .before .before .slide .last .0) (λ j. omega (arith, c .before .before .before .before .before .before .before .before .slice-known .given j)) (c .before .before .before .before .before .before .count .ensures) (c .before .before .slide .ensures)
 

@@ -13,31 +13,24 @@ use Rattle.moves.proofs.summed.Reads as reads
 use Rattle.moves.proofs.summed.Lts as lts
 use Rattle.sliding.proofs.missing.Reads as missing-reads
 
--- src/lib.rt:282:22
 enum-told : tie.Need-enum-told
 enum-told c = search needs
 
--- src/lib.rt:282:22
 missing-requires : tie.Need-missing-requires
 missing-requires c κs = search needs
 
--- src/lib.rt:285:24
 enum-told-2 : tie.Need-enum-told-2
 enum-told-2 c = search needs
 
--- src/lib.rt:289:27
 enum-told-3 : tie.Need-enum-told-3
 enum-told-3 c = search needs
 
--- src/lib.rt:276:1
 returns : tie.Need-returns
 returns c = let st = decode (c .before .before .before .before .args .n) (now (c .before .before .before .before .args .state)) in ((λ q. law.summed-sum q (c .missing .result) (missingRow (c .before .before .before .before .args .k) (c .before .before .before .before .args .i) (c .before .before .before .before .args .y) (c .before .before .before .before .args .x) (heldOf (rowAt st (c .before .before .before .before .args .a))) st) (c .before .enum-told .given .1) (c .missing .ensures .0)), omega arith, omega arith)
 
--- src/lib.rt:276:1
 returns-2 : tie.Need-returns-2
 returns-2 c = let st = decode (c .before .before .before .args .n) (now (c .before .before .before .args .state)) in ((λ q. law.summed-least q (missingRow (c .before .before .before .args .k) (c .before .before .before .args .i) (c .before .before .before .args .y) (c .before .before .before .args .x) (heldOf (rowAt st (c .before .before .before .args .a))) st) (c .enum-told2 .given .1)), omega arith, omega arith)
 
--- src/lib.rt:276:1
 returns-3 : tie.Need-returns-3
 returns-3 c = let st = decode (c .before .before .before .args .n) (now (c .before .before .before .args .state)) in ((λ q. law.summed-greatest q (missingRow (c .before .before .before .args .k) (c .before .before .before .args .i) (c .before .before .before .args .y) (c .before .before .before .args .x) (heldOf (rowAt st (c .before .before .before .args .a))) st) (c .enum-told3 .given .1)), omega arith, omega arith)
 

@@ -19,43 +19,33 @@ use Rattle.sliding.proofs.fill_of.Reads as fill-of-reads
 use Rattle.sliding.proofs.place_of.Reads as place-of-reads
 use Rattle.windows.proofs.missing.Reads as missing-reads
 
--- src/lib.rt:84:48
 place-of-requires : tie.Need-place-of-requires
 place-of-requires c κs = search needs
 
--- src/lib.rt:84:9
 window-start-requires : tie.Need-window-start-requires
 window-start-requires c κs = search needs
 
--- src/lib.rt:85:15
 add-end : tie.Need-add-end
 add-end c = search needs
 
--- src/lib.rt:86:9
 fill-of-requires : tie.Need-fill-of-requires
 fill-of-requires c κs = search needs
 
--- src/lib.rt:87:9
 row-at-requires : tie.Need-row-at-requires
 row-at-requires c κs = search needs
 
--- src/lib.rt:88:25
 sub-missing : tie.Need-sub-missing
 sub-missing c = search needs
 
--- src/lib.rt:88:25
 part-missing-start : tie.Need-part-missing-start
 part-missing-start c = search needs
 
--- src/lib.rt:88:25
 part-missing-end : tie.Need-part-missing-end
 part-missing-end c = search needs
 
--- src/lib.rt:88:5
 missing-requires : tie.Need-missing-requires
 missing-requires c κs = search needs
 
--- src/lib.rt:80:1
 returns : tie.Need-returns
 returns c = let st = decode (c .before .before .before .before .before .before .before .args .n) (now (c .before .before .before .before .before .before .before .args .state)) in (missing-is (c .before .before .before .before .before .before .before .args .n) (now (c .before .before .before .before .before .before .before .args .state)) (omega arith) (c .before .before .before .before .before .before .before .args .i) (c .before .before .before .before .before .place-of .result) (c .before .before .before .before .window-start .result) (c .before .before .before .before .window-start .result + 512 - c .before .before .before .before .window-start .result) (c .before .before .before .before .before .place-of .ensures .0) (c .before .before .before .before .window-start .ensures .0) (omega arith) (c .before .before .before .before .before .before .before .args .k) (c .before .before .before .fill-of .result) (c .before .before .before .fill-of .ensures .0) (c .before .before .before .before .before .before .before .args .y) (c .before .before .before .before .before .before .before .args .x) (heldOf (decRaw (now (c .before .before .row-at .result)))) (c .missing .result) (c .missing .ensures .0) ∙ ap (λ (r : Raw). missingRow (c .before .before .before .before .before .before .before .args .k) (c .before .before .before .before .before .before .before .args .i) (c .before .before .before .before .before .before .before .args .y) (c .before .before .before .before .before .before .before .args .x) (heldOf r) st) (record-row (c .before .before .before .before .before .before .before .args .n) (now (c .before .before .before .before .before .before .before .args .state)) (now (c .before .before .row-at .result)) (c .before .before .before .before .before .before .before .args .a) (omega arith) (c .before .before .row-at .ensures .0)), omega arith)
 

@@ -7,23 +7,18 @@ use Rattle.windows.proofs.lacking.Tie as tie
 use Rattle.windows.proofs.lacking.Reads as reads
 use Rattle.windows.proofs.lacking.Lts as lts
 
--- src/lib.rt:219:28
 enum-told : tie.Need-enum-told
 enum-told c = search needs
 
--- src/lib.rt:220:27
 enum-told-2 : tie.Need-enum-told-2
 enum-told-2 c = search needs
 
--- src/lib.rt:220:27
 add-result : tie.Need-add-result
 add-result c = search needs
 
--- src/lib.rt:214:1
 returns : tie.Need-returns
 returns c = search needs
 
--- src/lib.rt:214:1
 returns-2 : tie.Need-returns-2
 returns-2 c = (law.lack-more (c .before .before .args .c) (c .enum-told2 .given .1), omega arith)
 
