@@ -172,6 +172,15 @@ static void texts(const struct plan *p) {
     if (length != strlen(p->text) || memcmp(page, p->text, length) != 0) fail("another plan text");
 }
 
+/* the counts of the plan's last stream, of every copy */
+static void counts(const struct plan *p) {
+    uint32_t outside, zero;
+    begin();
+    for (unsigned i = 0; i < used; i++)
+        if (tessla_missing(copies[i], TESSLA_STATE_LENGTH, p->streams - 1, &outside, &zero) != 0) fail("missing");
+    end(p->name, "missing", used, p->streams);
+}
+
 static void operations(const struct plan *p) {
     uint32_t moves, stamp;
     int64_t value;
@@ -193,6 +202,7 @@ static void operations(const struct plan *p) {
     end(p->name, "run at rest", used, p->streams);
 
     texts(p);
+    counts(p);
 
     begin();
     for (unsigned i = 0; i < used; i++) registered(copies[i], TESSLA_AT_COMMAND, TESSLA_COMMAND_RUN);
@@ -345,6 +355,32 @@ static void missing_sums(void) {
     if (all_to_rest(&p, 0) != used) fail("one move past all of them");
 }
 
+/*
+ * One move that passes 16 readings of each of two inputs, at one stamp or by turns, with no event at any of them: of keep, which counts
+ * nothing, and of arithmetic that counts each.
+ */
+static void passing(const char *name, const char *form, uint32_t apart, int64_t x, int64_t y, uint32_t outside, uint32_t zero) {
+    static struct plan p;
+    uint32_t found_outside, found_zero;
+    make(&p, name, form);
+    if (tessla_load(start, sizeof start, (const uint8_t *)p.text, strlen(p.text)) != 0) fail(p.name);
+    for (uint32_t t = 0; t < TESSLA_ROOM; t++)
+        if (tessla_offer_reading(start, sizeof start, 0, 4 * t, x) != 0 || tessla_offer_reading(start, sizeof start, 1, 4 * t + apart, y) != 0) fail("offer");
+    for (uint32_t input = 0; input < 2; input++)
+        if (tessla_offer_progress(start, sizeof start, input, 4 * TESSLA_ROOM) != 0) fail("progress");
+    if (all_to_rest(&p, 1) != used) fail("one move past all of them");
+    if (tessla_missing(copies[0], TESSLA_STATE_LENGTH, 2, &found_outside, &found_zero) != 0) fail("missing");
+    if (found_outside != outside || found_zero != zero) fail("other counts");
+}
+
+static void all_passing(void) {
+    passing("KEEP(16)", "in; in; keep 0 1 out", 0, 7, 0, 0, 0);
+    passing("DIV(16)", "in; in; div 0 1 out", 0, 7, 0, 0, 16);
+    passing("MUL(16)", "in; in; mul 0 1 out", 0, INT64_MAX, 2, 16, 0);
+    /* its first stamp has an event of the first input alone */
+    passing("SDIV(32)", "in; in; sdiv 0 1 out", 1, 7, 0, 0, 31);
+}
+
 static int alone; /* only these runs, and what bytes they leave */
 
 static uint32_t fingerprint(const uint8_t *s) {
@@ -423,5 +459,6 @@ int main(int words, char **word) {
     windowed("WMAX(64)", "in; wmax 0 k64 out");
     windowed("WINDOWS(8)", "in; wsum 0 k64 out; wmin 0 k64 out; wmax 0 k64 out; wsum 0 k64 out; wmin 0 k64 out; wmax 0 k64 out; wsum 0 k64 out; wmin 0 k64 out");
     missing_sums();
+    all_passing();
     return 0;
 }

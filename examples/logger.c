@@ -8,6 +8,7 @@
  *              long as the line has room, and one that is lost is said.
  *   schedule   each minute: says how far every sensor is known, a silent or dead one above all.
  *   work       runs and collects until nothing moves or waits.
+ *   say_missing   once a day: says of every stream with gaps why its events are missing.
  *   save, restore   the state in two places of the flash, in turn (saving.c).
  *
  * On a computer it prints to the standard output; firmware/main.c is this file on the board.
@@ -105,6 +106,21 @@ static void work(void) {
     } while (moves != 0 || events != 0);
 }
 
+/*
+ * Why events are missing, of each stream of which some are: how many results were out of range, a sign of a broken sensor, and how
+ * many divisors were 0. All streams are asked and not the outputs alone: one that passes others on has no counts of its own. A
+ * millisecond each, so once a day. The counts go on from where they were, as the state does, and begin at 0 with a plan that is loaded.
+ */
+static void say_missing(void) {
+    for (uint32_t stream = 0; stream < tessla_streams(state); stream++) {
+        uint32_t outside, zero;
+        if (tessla_missing(state, sizeof state, stream, &outside, &zero) != TESSLA_DONE || (outside == 0 && zero == 0)) continue;
+        put_number("stream ", stream, " missing: ");
+        put_number("", outside, " out of range, ");
+        put_number("", zero, " by a divisor of 0\n");
+    }
+}
+
 /* ---- what comes in */
 
 struct reading {
@@ -200,7 +216,9 @@ static void evening(void) {
     receive(RING, 99, 7041);
     receive(THERMOMETER, 20, 50); /* late: the thermometer is known past 20 */
     receive(BALANCE, 97, 318);
+    receive(BALANCE, 98, INT64_MAX); /* a broken balance: with two grams more it is out of range, and there is no weight */
     schedule(120);
+    say_missing();
 }
 
 int main(void) {

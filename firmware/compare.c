@@ -61,8 +61,8 @@ static uint64_t hash(int paged) {
     return (uint64_t)sums.h << 32 | sums.g;
 }
 
-enum { LOAD, READING, PROGRESS, MOVE, RUN, COLLECT, TEXT, WRITE, LINE, CALLS };
-static const char *const CALL[CALLS] = { "load ", "reading ", "progress ", "move ", "run ", "collect ", "text ", "write ", "line " };
+enum { LOAD, READING, PROGRESS, MOVE, RUN, COLLECT, TEXT, MISSING, WRITE, LINE, CALLS };
+static const char *const CALL[CALLS] = { "load ", "reading ", "progress ", "move ", "run ", "collect ", "text ", "missing ", "write ", "line " };
 static uint32_t returned[CALLS]; /* a bit for each number, bit 31 for any other */
 static uint32_t made[CALLS];
 
@@ -95,6 +95,12 @@ static uint32_t collect(uint32_t s) {
     int64_t v = 0x5A5A5A5A5A5A5A5A;
     uint32_t number = tessla_collect(state, length, s, &t, &v);
     return note(COLLECT, number, t, (uint64_t)v);
+}
+
+static uint32_t missing(uint32_t s) {
+    uint32_t outside = 0xA5A5A5A5, zero = 0x5A5A5A5A;
+    uint32_t number = tessla_missing(state, length, s, &outside, &zero);
+    return note(MISSING, number, outside, zero);
 }
 
 static uint64_t given; /* the length of the last text that came back */
@@ -230,6 +236,8 @@ static void wrong_lengths(uint64_t text_length) {
         collect(5);
         plan_text(0);
         plan_text(MOST);
+        missing(0);
+        missing(99);
     }
     length = LENGTH;
 }
@@ -241,6 +249,7 @@ static void streams(void) {
         progress(STREAMS[i], 60 + i);
         move(STREAMS[i]);
         collect(STREAMS[i]);
+        missing(STREAMS[i]);
     }
 }
 
@@ -285,6 +294,7 @@ static void values(void) {
         progress(0, TESSLA_HORIZON);
         progress(1, TESSLA_HORIZON);
         work_off(n);
+        for (uint32_t s = 0; s < n; s++) missing(s);
     }
 }
 
@@ -375,7 +385,7 @@ static void weigh(uint32_t t, int64_t v) {
    what each keeps, changed in the state */
 static void windows(void) {
     static const int64_t WORKED[] = { 5, -7, INT64_MAX, INT64_MAX, INT64_MIN, INT64_MIN, 0, 3 };
-    static const uint8_t FIELDS[] = { 2, 5, 6, 8, 9, 12, 15, 32, 39, 40, 47, 48, 55, 56 };
+    static const uint8_t FIELDS[] = { 2, 5, 6, 8, 9, 12, 15, 32, 39, 40, 47, 48, 55, 56, 59, 60, 63 };
     uint32_t n;
     head("worked windows");
     rows[0] = (struct row){ .op = IN };
@@ -405,6 +415,7 @@ static void windows(void) {
             reading(0, 300, 6);
             run(100);
             collect(1 + i % 8);
+            missing(1 + i % 8);
             memcpy(state, copy, LENGTH);
         }
     for (uint32_t j = 0; j < 8; j++)
@@ -473,6 +484,7 @@ static void without_a_plan(void) {
     collect(0);
     plan_text(0);
     plan_text(5);
+    missing(0);
     for (uint8_t which = 1; which < 4; which++) command(which);
     uint32_t i = 0;
     while (i < LENGTH && state[i] == 0) i++;
@@ -750,6 +762,131 @@ static void plan_texts(void) {
         }
     state[LENGTH - 1] = 1;
     plan_text(300);
+}
+
+/* ---- why events are missing */
+
+/* input 0 and, if there is a second, input 1, at one stamp */
+static void two_readings(uint32_t t, int64_t x, int64_t y) {
+    reading(0, t, x);
+    reading(1, t, y);
+}
+
+/* both counts of a stream put into the state, the least byte first */
+static void put_counts(uint32_t s, uint32_t outside, uint32_t zero) {
+    for (uint32_t i = 0; i < 4; i++) {
+        state[256 * s + 56 + i] = (uint8_t)(outside >> 8 * i);
+        state[256 * s + 60 + i] = (uint8_t)(zero >> 8 * i);
+    }
+}
+
+/* cases worked out by hand: firmware/test knows the numbers and the counts */
+static void worked_missing(void) {
+    head("worked missing");
+    /* 6 by 0, the least by -1, 6 by 2 */
+    rows[0] = rows[1] = (struct row){ .op = IN };
+    rows[2] = (struct row){ .op = DIV, .b = 1, .out = 1 };
+    load_rows(3);
+    two_readings(1, 6, 0);
+    two_readings(2, INT64_MIN, -1);
+    two_readings(3, 6, 2);
+    missing(2);
+    run(9);
+    missing(2);
+    missing(0);
+    missing(3);
+    /* from counts near the limit, of which each stops by itself: three times the least by -1, then twice the least by 0 */
+    put_counts(2, 0xFFFFFFFE, 5);
+    missing(2);
+    for (uint32_t t = 4; t < 7; t++) two_readings(t, INT64_MIN, -1);
+    run(9);
+    missing(2);
+    put_counts(2, 7, 0xFFFFFFFE);
+    for (uint32_t t = 7; t < 9; t++) two_readings(t, INT64_MIN, 0);
+    run(9);
+    missing(2);
+    load_rows(3);
+    missing(2);
+    /* plus 1, neg, a sum of two of the greatest twice and the least */
+    rows[1] = (struct row){ .op = PLUS, .k = 1 };
+    rows[2] = (struct row){ .op = NEG };
+    rows[3] = (struct row){ .op = WSUM, .k = 2 };
+    load_rows(4);
+    reading(0, 1, INT64_MAX);
+    reading(0, 2, INT64_MAX);
+    reading(0, 3, INT64_MIN);
+    run(99);
+    for (uint32_t s = 1; s < 4; s++) missing(s);
+    /* one move past 16 squares */
+    rows[1] = (struct row){ .op = MUL };
+    load_rows(2);
+    for (uint32_t t = 0; t < 16; t++) reading(0, t, INT64_C(1) << 40);
+    move(1);
+    missing(1);
+    /* a form at the stamps of either: the greatest at 1 by 2 at 2 and by 3 at 3, then 1 at 4 */
+    rows[1] = (struct row){ .op = IN };
+    rows[2] = (struct row){ .op = SMUL, .b = 1 };
+    load_rows(3);
+    reading(0, 1, INT64_MAX);
+    reading(1, 2, 2);
+    reading(1, 3, 3);
+    reading(0, 4, 1);
+    progress(0, 9);
+    progress(1, 9);
+    run(9);
+    missing(2);
+}
+
+/* every operator with counts and without, every bit of the counts changed, every alignment, one move past 32 stamps */
+static void all_missing(void) {
+    uint32_t n = 0;
+    head("missing");
+    for (uint32_t o = 0; o < 8; o++) {
+        memset(room, 0xEE, sizeof room);
+        state = room + o;
+        n = all_operators();
+        load_rows(n);
+        for (uint32_t t = 0; t < 8; t++) two_readings(3 * t, VALUES[COUNT(VALUES) - 1 - t], VALUES[(o + t) % 3]);
+        run(100);
+        for (uint32_t s = 0; s < n; s++)
+            while (collect(s) == 0) {}
+        run(1000);
+        for (uint32_t s = 0; s < n + 2; s++) missing(s);
+    }
+    state = room;
+    load_rows(n);
+    for (uint32_t fresh = 0; fresh < 2; fresh++) {
+        memcpy(copy, state, LENGTH);
+        for (uint32_t s = 0; s < n + 1; s++)
+            for (uint32_t bit = 0; bit < 64; bit += 7) {
+                state[256 * s + 56 + bit / 8] ^= (uint8_t)(1 << bit % 8);
+                missing(s);
+                two_readings(500, INT64_MIN, 0);
+                run(40);
+                missing(s);
+                memcpy(state, copy, LENGTH);
+            }
+        for (uint32_t t = 0; t < 4; t++) two_readings(t, INT64_MIN, (int64_t)t - 1);
+        run(1000);
+    }
+    static const uint8_t FORMS[] = { SADD, SMUL, SDIV, SREM };
+    for (uint32_t i = 0; i < COUNT(FORMS); i++) {
+        rows[0] = rows[1] = (struct row){ .op = IN };
+        rows[2] = (struct row){ .op = FORMS[i], .b = 1, .out = 1 };
+        load_rows(3);
+        for (uint32_t t = 0; t < 16; t++) {
+            reading(0, 2 * t, INT64_MIN);
+            reading(1, 2 * t + 1, i < 2 ? -1 : 0);
+        }
+        progress(0, 40);
+        progress(1, 50);
+        move(2);
+        missing(2);
+        put_counts(2, 0xFFFFFFF0, 0xFFFFFFF8);
+        for (uint32_t t = 20; t < 36; t++) two_readings(2 * t, INT64_MIN, i < 2 ? -1 : 0);
+        run(9);
+        missing(2);
+    }
 }
 
 /* ---- the block of registers */
@@ -1034,7 +1171,7 @@ static void some_write(uint32_t s, uint32_t *now) {
 /* one draw in each expression: the order of two would be the compiler's choice; without streams a call asks for the first */
 static void some_call(uint32_t n, uint32_t *now) {
     uint32_t t, most = n ? n : 1, s = next(20) ? next(most) : next(40);
-    switch (next(12)) {
+    switch (next(13)) {
     case 0:
     case 1:
     case 2:
@@ -1055,6 +1192,7 @@ static void some_call(uint32_t n, uint32_t *now) {
     case 8: collect(s); break;
     case 9: some_write(s, now); break;
     case 10: plan_text(next(3) ? 17 + next(30 * most) : MOST); break;
+    case 11: missing(s); break;
     default:
         write(0, (uint8_t)s);
         command((uint8_t)(2 + next(2)));
@@ -1074,6 +1212,7 @@ static void random_calls(uint32_t plans, uint32_t calls) {
         text = words + next(8);
         if (load_rows(n) != 0) continue;
         for (uint32_t i = 0; i < calls; i++) some_call(n, &now);
+        for (uint32_t s = 0; s < n; s++) missing(s);
         /* a damaged byte, and the state put back */
         memcpy(copy, state, LENGTH);
         for (uint32_t i = 0; i < 6; i++) {
@@ -1135,6 +1274,8 @@ int main(void) {
     texts();
     worked_texts();
     plan_texts();
+    worked_missing();
+    all_missing();
     worked_blocks();
     registers();
     random_calls(RANDOM_PLANS, RANDOM_CALLS);

@@ -66,6 +66,9 @@ static uint32_t deep;
         if (deep < sp - mark) deep = sp - mark;           \
     } while (0)
 
+/* the counts of a stream; the number is both together */
+#define MEASURE_MISSING(stream) MEASURE_CALL("missing", (tessla_missing(S, (stream), &outside, &zero), outside + zero))
+
 /* the plan's text into a page that is long enough; the number is its length */
 #define MEASURE_TEXT() MEASURE_CALL("plan text", (tessla_plan_text(S, page, sizeof page, &length), (uint32_t)length))
 
@@ -118,7 +121,7 @@ static void fill_block(uint32_t stream, uint32_t at, int64_t value) {
 }
 
 static void measure(const char *name, const struct row *rows, uint32_t n) {
-    uint32_t moves, stamp, up, mover = 0, output = 0;
+    uint32_t moves, stamp, up, outside, zero, mover = 0, output = 0;
     uint64_t length = write_plan(text, rows, n);
     int64_t value;
     plan = name;
@@ -132,6 +135,7 @@ static void measure(const char *name, const struct row *rows, uint32_t n) {
     MEASURE_CALL("validation", tessla_move(S, 99));
     MEASURE_CALL("run at rest", tessla_run(S, 100000, &moves));
     MEASURE_TEXT();
+    MEASURE_MISSING(n - 1);
     fill_block(0, 70, 7);
     MEASURE_CALL("plain write", tessla_register_write(S, B, TESSLA_AT_STAMP, 70));
     MEASURE_CALL("line", tessla_register_line(B, &up));
@@ -278,6 +282,34 @@ static void windows(void) {
     windowed("one input, eight windows of 64", eight, eight_windows(eight));
 }
 
+/*
+ * One move that passes 16 readings of each of two inputs, at one stamp or by turns, with no event at any of them: of keep, which counts
+ * nothing, and of arithmetic that counts each.
+ */
+static void passing(const char *name, uint8_t op, uint32_t apart, int64_t x, int64_t y) {
+    const struct row rows[] = { { .op = IN }, { .op = IN }, { .op = op, .b = 1, .out = 1 } };
+    uint32_t moves, outside, zero;
+    plan = name;
+    tessla_load(S, text, write_plan(text, rows, 3));
+    for (uint32_t t = 0; t < TESSLA_ROOM; t++) {
+        tessla_offer_reading(S, 0, 4 * t, x);
+        tessla_offer_reading(S, 1, 4 * t + apart, y);
+    }
+    tessla_offer_progress(S, 0, 4 * TESSLA_ROOM);
+    tessla_offer_progress(S, 1, 4 * TESSLA_ROOM);
+    MEASURE_CALL("check before", tessla_move(S, 99));
+    MEASURE_CALL("run past them", (tessla_run(S, 100000, &moves), moves));
+    MEASURE_CALL("validation", tessla_move(S, 99));
+    MEASURE_MISSING(2);
+}
+
+static void all_passing(void) {
+    passing("two inputs, keep past 16 stamps", KEEP, 0, 7, 0);
+    passing("two inputs, div past 16 stamps", DIV, 0, 7, 0);
+    passing("two inputs, mul past 16 stamps", MUL, 0, INT64_MAX, 2);
+    passing("two inputs, sdiv past 32 stamps", SDIV, 1, 7, 0);
+}
+
 /* one move of a calculation to its event, both arguments having one; lt does the same but for the arithmetic */
 static void calculation(const char *name, uint8_t op, const char *operands, int64_t x, int64_t y) {
     const struct row rows[] = { { .op = IN }, { .op = IN }, { .op = op, .b = 1, .out = 1 } };
@@ -378,6 +410,7 @@ int main(void) {
     signals();
     windows();
     divisions();
+    all_passing();
     put("stack|");
     put_number(deep);
     put("\n");

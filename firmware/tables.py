@@ -96,6 +96,23 @@ print()
 print('Refused 19, a byte too few for the longest: %s.'
       % ', '.join('%s instructions on the %s' % (count(zones[n][LONGEST, 'plan text refused'][1]), CORES[n]) for n in names))
 print()
+print('The counts of a stream: instructions of the call, and what it takes beside the check of the state:')
+print()
+print('| plan | %s |' % ' | '.join('%s, instructions | beside the check' % CORES[n] for n in names))
+print('|---|%s' % ('---:|---:|' * len(names)))
+for plan in plans:
+    zone = lambda n, call: int(zones[n][plan, call][1])
+    print('| %s | %s |' % (plan, ' | '.join('%s | %s' % (count(zone(n, 'missing')), count(zone(n, 'missing') - zone(n, 'validation'))) for n in names)))
+print()
+print('A run whose one move passes 16 readings of each of two inputs, with no event; keep counts nothing, the others count each stamp:')
+print()
+print('| plan | counted | %s | ms, %s |' % (' | '.join('%s, instructions | beside the check' % CORES[n] for n in names), CORES[c]))
+print('|---|---:|%s---:|' % ('---:|---:|' * len(names)))
+for plan in ['keep past 16 stamps', 'div past 16 stamps', 'mul past 16 stamps', 'sdiv past 32 stamps']:
+    zone = lambda n, call: zones[n]['two inputs, ' + plan, call]
+    cells = ['%s | %s' % (count(zone(n, 'run past them')[1]), count(int(zone(n, 'run past them')[1]) - int(zone(n, 'check before')[1]))) for n in names]
+    print('| two inputs, %s | %s | %s | %s |' % (plan, zone(c, 'missing')[0], ' | '.join(cells), ms(zone(c, 'run past them')[2])))
+print()
 print('A signal form against the five streams that it stands for, a reading to rest:')
 print()
 print('| plan | moves | %s | ms, %s |' % (' | '.join('%s, instructions | beside the inputs alone' % CORES[n] for n in names), CORES[c]))

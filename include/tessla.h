@@ -9,7 +9,7 @@
  * at stamps below y are known. A value is any int64_t.
  *
  * Every call returns a number, 0 for done. On any other number
- *   - each further result (*moves, *stamp, *value, *up, *length) is 0, and
+ *   - each further result (*moves, *stamp, *value, *up, *length, *outside, *zero) is 0, and
  *   - the state is byte for byte as it was, and so is the text buffer of tessla_plan_text. One lent buffer alone is changed by a
  *     refusal, the block of tessla_register_write, and only as is said there.
  * No call relies on its caller having tested anything. Two things are the caller's all the same, because no callee can
@@ -18,12 +18,12 @@
  * Every length is a uint64_t, on a 32-bit controller too. Include this header; do not write the prototypes again: with
  * size_t in place of uint64_t a program for a 32-bit machine still links, and every call answers wrongly.
  *
- * No plan. Load takes a text of no bytes too, for a logger that goes out before its plan is chosen: a plan of no streams, at rest
- * from the start, and a state of zeros. On it both offers are refused 7, move 11 and collect 13, a run makes 0 moves, its text has
- * no bytes, and the zeros stay. A buffer that begins as zeros, as every static one does, is that state before the first load: it
- * is not refused 15. A load that is refused leaves the state as it was, zeros too: only its number tells. tessla_streams says
- * whether there is a plan. A plan may be loaded at any time, over whatever is there; so may no plan, and that ends the one that
- * runs, with all it holds. So do not load the nothing that a card gives which could not be read.
+ * No plan. Load takes a text of no bytes too, for a logger that goes out before its plan is chosen: a plan of no streams, at
+ * rest from the start, and a state of zeros. On it both offers are refused 7, move and missing 11 and collect 13, a run makes 0
+ * moves, its text has no bytes, and the zeros stay. A buffer that begins as zeros, as every static one does, is that state
+ * before the first load: it is not refused 15. A load that is refused leaves the state as it was, zeros too: only its number
+ * tells. tessla_streams says whether there is a plan. A plan may be loaded at any time, over whatever is there; so may no plan,
+ * and that ends the one that runs, with all it holds. So do not load the nothing that a card gives which could not be read.
  *
  * What a logger does with the calls; examples/logger.c does all of it, but for the registers:
  *
@@ -48,12 +48,17 @@
  * a run of n moves takes at most 1.3 ms and a millisecond for each four moves, if the outputs are collected; where 31 outputs
  * are full a move takes 1.1 ms. By that the 64 moves of a command 3 take 18 ms. Leave the watchdog twice that. Few calls with
  * much work in each cost least (docs/PERFORMANCE.md, "On the controller"). The plan's text takes 1.1 to 2.0 ms, and 11 ms if every
- * value in it has nineteen digits.
+ * value in it has nineteen digits; the counts of a stream hardly more than the look at the state.
  *
  * Windows. The operators wsum, wmin and wmax give at each event of their argument the sum, the least or the greatest of its
  * latest k values, that event's included, or of all so far while they are fewer; k is 1 to 64, and a plan has at most eight
  * windows. A sum outside the range of values gives no event, and the window goes on over the argument's events. What a window
  * looks back at is kept in the state, behind the records.
+ *
+ * A gap. Where a calculation has something to work on and no value, its stream has no event: a huge value took the result out of
+ * the range, or the divisor was 0. Each stream counts both, and tessla_missing reads the two counts. An output that only passes
+ * others on, as merge and last do, counts nothing itself: look at the streams that it reads. Written down once a day with the
+ * output's events, the counts tell a broken sensor from a mean of no readings.
  *
  * Registers. A board that talks in single bytes makes the calls through a block of 24 bytes, tessla_register_write below;
  * examples/reader.c is a driver for one. A firmware that makes the calls itself needs no block.
@@ -98,10 +103,13 @@ extern "C" {
  *         which zeros stand for it, is not refused.
  *   1.7   tessla_plan_text, which gives the plan of a state back as text, and number 19. The other calls, the plan texts and the
  *         states are those of 1.6.
+ *   1.8   tessla_missing, and in the state the two counts that it reads. The other calls and the plan texts are those of 1.7. A
+ *         state saved before 1.8 is read; its counts are 0 and grow from its first move on, whatever was missing before. An
+ *         earlier engine refuses a state 15 in which a count is not 0.
  */
 #define TESSLA_VERSION_MAJOR 1
-#define TESSLA_VERSION_MINOR 7
-#define TESSLA_VERSION "1.7"
+#define TESSLA_VERSION_MINOR 8
+#define TESSLA_VERSION "1.8"
 
 /* The length of the state in bytes. Any other length is refused 15. */
 #define TESSLA_STATE_LENGTH 12288
@@ -136,7 +144,7 @@ enum tessla_number {
     TESSLA_TOO_EARLY = 8,      /* both offers        the stamp, or the new bound, lies below the present bound */
     TESSLA_FULL = 9,           /* offer_reading      the input already holds 16 events: run, collect, offer again */
     TESSLA_PAST_HORIZON = 10,  /* offer_progress     the new bound is above the horizon */
-    TESSLA_NO_EQUATION = 11,   /* move               no such stream, or it is in */
+    TESSLA_NO_EQUATION = 11,   /* move, missing      no such stream; move also: it is in */
     TESSLA_CANNOT_MOVE = 12,   /* move               the equation cannot move now */
     TESSLA_NO_OUTPUT = 13,     /* collect            no such stream, or out=0 */
     TESSLA_NOTHING = 14,       /* collect            nothing waits to be collected */
@@ -204,6 +212,26 @@ uint32_t tessla_collect(uint8_t *state, uint64_t state_length, uint32_t stream, 
  * refused 15 load takes the text, and leaves the state that is fresh with the same plan.
  */
 uint32_t tessla_plan_text(const uint8_t *state, uint64_t state_length, uint8_t *text, uint64_t text_length, uint64_t *length);
+
+/*
+ * Missing: why events of a stream are missing. A stamp counts if the operator has something to work on there, its argument's event,
+ * both arguments' events, or of a signal form an event of either with the latest values of both, and has no value.
+ * Numbers: 15, 11. Done: *outside is the number of stamps at which the result is outside the range of values, *zero the number of
+ * those at which the divisor is 0. Where both could be said, the least value by 0, the zero divisor is. The state stays as it is.
+ *
+ *    operators                        outside                     zero
+ *    plus neg add sub mul wsum        a result out of range
+ *    sadd ssub smul                   a result out of range
+ *    div sdiv                         the least value by -1       a divisor of 0
+ *    rem srem                                                     a divisor of 0
+ *    all others, in among them        always 0                    always 0
+ *
+ * The stamps are those below the stream's bound: each is counted once, by the move that takes the bound past it, whether that move
+ * adds an event or not. So the counts hang on the readings and on how far the stream is known, not on the order of the calls. Load
+ * leaves 0 and 0; only moves change a count, by themselves or in a run. A copy of the state has the counts that were there; one that
+ * was saved before 1.8 counts from its first move on. Each count stops at 4294967295 by itself.
+ */
+uint32_t tessla_missing(const uint8_t *state, uint64_t state_length, uint32_t stream, uint32_t *outside, uint32_t *zero);
 
 /*
  * The block of registers: TESSLA_BLOCK_LENGTH bytes that the firmware owns and lends beside a state. A number lies with its least
@@ -288,9 +316,9 @@ uint32_t tessla_register_line(const uint8_t *block, uint64_t block_length, uint3
 /*
  * What the state's bytes say without a call, by the layout in docs/LAYOUT.md, of a state that load and the calls left: stream
  * i has the record of TESSLA_RECORD bytes at i * TESSLA_RECORD; its first byte is 0 if there is no such stream and 28 to 30 if
- * it is a window, its byte 3 is 1 if it is an output, its bytes 16 to 23 are its bound. The values of the plan's j-th window,
- * counted from 0 by stream number, lie at TESSLA_WINDOWS + j * TESSLA_WINDOW, the oldest first, 8 bytes each, as many as byte 5
- * of its record says; all other bytes there are 0.
+ * it is a window, its byte 3 is 1 if it is an output, its bytes 16 to 23 are its bound, its bytes 56 to 59 and 60 to 63 the two
+ * counts of tessla_missing. The values of the plan's j-th window, counted from 0 by stream number, lie at TESSLA_WINDOWS + j *
+ * TESSLA_WINDOW, the oldest first, 8 bytes each, as many as byte 5 of its record says; all other bytes there are 0.
  */
 #define TESSLA_RECORD 256
 #define TESSLA_WINDOWS (TESSLA_STREAM_LIMIT * TESSLA_RECORD)
@@ -349,7 +377,7 @@ static inline uint64_t tessla_bounds(const uint8_t *state) {
     X(8, "too early: the input is already known past this stamp") \
     X(9, "the input holds 16 events that somebody waits for") \
     X(10, "progress past 4294967296") \
-    X(11, "move: no such stream, or it is an input") \
+    X(11, "move, missing: no such stream; move also: it is an input") \
     X(12, "move: the equation cannot move now") \
     X(13, "collect: no such stream, or it is no output") \
     X(14, "collect: nothing waits") \

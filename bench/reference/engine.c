@@ -32,6 +32,8 @@ static bool waits_for_a(unsigned op) { return uses_a(op) && op != LAST && op != 
 /* the signal forms stand in the order of the operations that they do */
 static bool is_signal(unsigned op) { return op >= SADD && op <= SEQ; }
 static unsigned operation(unsigned signal) { return signal - SADD + ADD; }
+/* those whose events may be missing with something to work on: the arithmetic, its signal forms, the sum of a window */
+static bool counts(unsigned op) { return (op >= PLUS && op <= REM) || (op >= SADD && op <= SREM) || op == WSUM; }
 
 /* ---- numbers in bytes, least byte first */
 
@@ -99,6 +101,10 @@ static struct maybe prior_of(const uint8_t *r) { return kept(r, 6, 48); }
 /* of a signal form: the latest values of a and of b below the bound */
 static struct maybe latest_a(const uint8_t *r) { return kept(r, 5, 32); }
 static struct maybe latest_b(const uint8_t *r) { return kept(r, 6, 40); }
+
+/* at how many stamps below the bound the result was outside the range, and the divisor 0 */
+static uint32_t outside_of(const uint8_t *r) { return get4(r + 56); }
+static uint32_t zero_of(const uint8_t *r) { return get4(r + 60); }
 
 /* of a window: how many values it keeps, and how many it keeps at most */
 static unsigned fill_of(const uint8_t *r) { return r[5]; }
@@ -222,7 +228,8 @@ static bool record_good(const uint8_t *r, unsigned n) {
     if (op_of(r) < IN || op_of(r) >= OPS || r[3] > 1) return false;
     if (!fields_good(op_of(r), arg_a(r), arg_b(r), get8(r + 8) == 0, r[3], n)) return false;
     uint64_t bound = bound_of(r);
-    if (held(r) > ROOM || r[7] != 0 || bound > HORIZON || !all_zero(r + 56, 8)) return false;
+    if (held(r) > ROOM || r[7] != 0 || bound > HORIZON) return false;
+    if (get8(r + 56) != 0 && (bound == 0 || !counts(op_of(r)))) return false;
     if (is_out(r) ? mark_of(r) > bound : mark_of(r) != 0) return false;
     uint64_t low = 0;
     for (unsigned j = 0; j < held(r); j++) {
@@ -368,24 +375,55 @@ uint32_t ref_load(uint8_t *state, uint64_t state_length, const uint8_t *text, ui
     return 0;
 }
 
-/* ---- what a move finds: an event (t, v), or silence up to t */
+/* ---- what a move finds: an event (t, v), or silence up to t, and how many events are missing before it */
+
+/* what an operator has at a stamp: nothing to work on, a value, or none because of the range or of the divisor */
+enum kind { NONE_THERE, VALUE, OUTSIDE, ZERO };
+
+struct result {
+    enum kind is;
+    int64_t v;
+};
+
+static const struct result NO_RESULT = { NONE_THERE, 0 };
+
+static struct result gives(int64_t v) { return (struct result){ VALUE, v }; }
+static struct result missing(enum kind why) { return (struct result){ why, 0 }; }
+/* of arithmetic that tells whether it left the range */
+static struct result in_range(bool left, int64_t v) { return left ? missing(OUTSIDE) : gives(v); }
+static struct result of(struct maybe m) { return m.is ? gives(m.v) : NO_RESULT; }
 
 struct next {
     bool event;
     uint64_t t;
     int64_t v;
+    uint32_t outside, zero;
 };
 
-static struct next found(uint64_t t, int64_t v) { return (struct next){ true, t, v }; }
-static struct next silent(uint64_t t) { return (struct next){ false, t, 0 }; }
+/* whether the search ends at t with an event; if not, a missing one is counted */
+static bool ends(struct next *x, uint64_t t, struct result r) {
+    if (r.is == VALUE) {
+        x->event = true;
+        x->t = t;
+        x->v = r.v;
+        return true;
+    }
+    x->outside += r.is == OUTSIDE;
+    x->zero += r.is == ZERO;
+    return false;
+}
 
-static struct maybe one_value(unsigned op, int64_t k, uint64_t t, int64_t x) {
+static struct next found(uint64_t t, int64_t v) { return (struct next){ true, t, v, 0, 0 }; }
+static struct next silent(uint64_t t) { return (struct next){ false, t, 0, 0, 0 }; }
+
+static struct result one_value(unsigned op, int64_t k, uint64_t t, int64_t x) {
     int64_t v;
+    bool left;
     switch (op) {
-    case TIME: return some((int64_t)t);
-    case SET: return some(k);
-    case PLUS: return __builtin_add_overflow(x, k, &v) ? NOTHING : some(v);
-    default: return x == INT64_MIN ? NOTHING : some(-x);
+    case TIME: return gives((int64_t)t);
+    case SET: return gives(k);
+    case PLUS: left = __builtin_add_overflow(x, k, &v); return in_range(left, v);
+    default: left = __builtin_sub_overflow(0, x, &v); return in_range(left, v);
     }
 }
 
@@ -398,31 +436,37 @@ static bool cut_above(int64_t x, int64_t y) { return (x < 0) != (y < 0) && x % y
 static int64_t quotient(int64_t x, int64_t y) { return cut_above(x, y) ? x / y - 1 : x / y; }
 static int64_t left_over(int64_t x, int64_t y) { return cut_above(x, y) ? x % y + y : x % y; }
 
-static struct maybe two_values(unsigned op, struct maybe a, struct maybe b) {
+static struct result two_values(unsigned op, struct maybe a, struct maybe b) {
     int64_t v;
-    if (op == MERGE) return or_else(a, b);
-    if (!a.is || !b.is) return NOTHING;
+    bool left;
+    if (op == MERGE) return of(or_else(a, b));
+    if (!a.is || !b.is) return NO_RESULT;
     switch (op) {
-    case ADD: return __builtin_add_overflow(a.v, b.v, &v) ? NOTHING : some(v);
-    case SUB: return __builtin_sub_overflow(a.v, b.v, &v) ? NOTHING : some(v);
-    case MUL: return __builtin_mul_overflow(a.v, b.v, &v) ? NOTHING : some(v);
-    case DIV: return b.v == 0 || (a.v == INT64_MIN && b.v == -1) ? NOTHING : some(quotient(a.v, b.v));
-    case REM: return b.v == 0 ? NOTHING : some(b.v == -1 ? 0 : left_over(a.v, b.v));
-    case LT: return some(a.v < b.v);
-    case LE: return some(a.v <= b.v);
-    case EQ: return some(a.v == b.v);
-    default: return b.v != 0 ? a : NOTHING; /* keep */
+    case ADD: left = __builtin_add_overflow(a.v, b.v, &v); return in_range(left, v);
+    case SUB: left = __builtin_sub_overflow(a.v, b.v, &v); return in_range(left, v);
+    case MUL: left = __builtin_mul_overflow(a.v, b.v, &v); return in_range(left, v);
+    /* "Where both could be said, the zero divisor is." */
+    case DIV:
+        if (b.v == 0) return missing(ZERO);
+        return a.v == INT64_MIN && b.v == -1 ? missing(OUTSIDE) : gives(quotient(a.v, b.v));
+    case REM:
+        if (b.v == 0) return missing(ZERO);
+        return gives(b.v == -1 ? 0 : left_over(a.v, b.v));
+    case LT: return gives(a.v < b.v);
+    case LE: return gives(a.v <= b.v);
+    case EQ: return gives(a.v == b.v);
+    default: return b.v != 0 ? of(a) : NO_RESULT; /* keep */
     }
 }
 
 static struct next one_next(const uint8_t *o, const uint8_t *a) {
-    uint64_t y = bound_of(o), reach = most(y, bound_of(a));
+    uint64_t y = bound_of(o);
+    struct next next = silent(most(y, bound_of(a)));
     for (unsigned j = place(a, y); j < held(a); j++) {
         uint64_t t = stamp_at(a, j);
-        struct maybe v = one_value(op_of(o), k_of(o), t, value_at(a, j));
-        if (v.is) return found(t, v.v);
+        if (ends(&next, t, one_value(op_of(o), k_of(o), t, value_at(a, j)))) break;
     }
-    return silent(reach);
+    return next;
 }
 
 /*
@@ -449,62 +493,62 @@ static void added(int64_t *sum, int *over, int64_t v) {
     if (__builtin_add_overflow(*sum, v, sum)) *over += v < 0 ? -1 : 1;
 }
 
-static struct maybe sum_of(struct latest_k x) {
+static struct result sum_of(struct latest_k x) {
     int64_t sum = 0;
     int over = 0;
     for (unsigned i = x.oldest; i < x.fill; i++) added(&sum, &over, value_in(x.w, i));
     for (unsigned j = x.from; j < x.to; j++) added(&sum, &over, value_at(x.a, j));
-    return over == 0 ? some(sum) : NOTHING;
+    return in_range(over != 0, sum);
 }
 
 static int64_t better(unsigned op, int64_t x, int64_t y) { return (op == WMIN ? y < x : y > x) ? y : x; }
 
 /* there is at least one held event among them */
-static struct maybe best_of(unsigned op, struct latest_k x) {
+static struct result best_of(unsigned op, struct latest_k x) {
     int64_t v = value_at(x.a, x.to - 1);
     for (unsigned i = x.oldest; i < x.fill; i++) v = better(op, v, value_in(x.w, i));
     for (unsigned j = x.from; j < x.to; j++) v = better(op, v, value_at(x.a, j));
-    return some(v);
+    return gives(v);
 }
 
 static struct next window_next(const uint8_t *o, const uint8_t *w, const uint8_t *a) {
-    uint64_t y = bound_of(o), reach = most(y, bound_of(a));
+    uint64_t y = bound_of(o);
+    struct next next = silent(most(y, bound_of(a)));
     unsigned first = place(a, y);
     for (unsigned j = first; j < held(a); j++) {
         struct latest_k x = latest_k(o, w, a, first, j + 1);
-        struct maybe v = op_of(o) == WSUM ? sum_of(x) : best_of(op_of(o), x);
-        if (v.is) return found(stamp_at(a, j), v.v);
+        if (ends(&next, stamp_at(a, j), op_of(o) == WSUM ? sum_of(x) : best_of(op_of(o), x))) break;
     }
-    return silent(reach);
+    return next;
 }
 
 static struct next two_next(const uint8_t *o, const uint8_t *a, const uint8_t *b) {
     uint64_t y = bound_of(o), reach = most(y, least(bound_of(a), bound_of(b)));
+    struct next next = silent(reach);
     unsigned i = place(a, y), j = place(b, y);
     for (;;) {
         uint64_t ta = i < held(a) ? stamp_at(a, i) : HORIZON, tb = j < held(b) ? stamp_at(b, j) : HORIZON;
         uint64_t t = least(ta, tb);
-        if (t >= reach) return silent(reach);
+        if (t >= reach) return next;
         struct maybe x = ta == t ? some(value_at(a, i++)) : NOTHING;
         struct maybe z = tb == t ? some(value_at(b, j++)) : NOTHING;
-        struct maybe v = two_values(op_of(o), x, z);
-        if (v.is) return found(t, v.v);
+        if (ends(&next, t, two_values(op_of(o), x, z))) return next;
     }
 }
 
 /* at each stamp of either, on the latest values: those held below the bound, or kept, to begin with */
 static struct next signal_next(const uint8_t *o, const uint8_t *a, const uint8_t *b) {
     uint64_t y = bound_of(o), reach = most(y, least(bound_of(a), bound_of(b)));
+    struct next next = silent(reach);
     struct maybe x = or_else(latest(a, y), latest_a(o)), z = or_else(latest(b, y), latest_b(o));
     unsigned i = place(a, y), j = place(b, y);
     for (;;) {
         uint64_t ta = i < held(a) ? stamp_at(a, i) : HORIZON, tb = j < held(b) ? stamp_at(b, j) : HORIZON;
         uint64_t t = least(ta, tb);
-        if (t >= reach) return silent(reach);
+        if (t >= reach) return next;
         if (ta == t) x = some(value_at(a, i++));
         if (tb == t) z = some(value_at(b, j++));
-        struct maybe v = two_values(operation(op_of(o)), x, z);
-        if (v.is) return found(t, v.v);
+        if (ends(&next, t, two_values(operation(op_of(o)), x, z))) return next;
     }
 }
 
@@ -647,14 +691,21 @@ static void raise(uint8_t *state, unsigned n, unsigned s, uint64_t y, bool event
     if (uses_b(op_of(o))) release(state, n, arg_b(o));
 }
 
-/* moves equation s if it can */
+/* "each count stopping at 4,294,967,295" */
+static void count(uint8_t *p, uint32_t more) {
+    if (more > 0) put4(p, UINT32_MAX - get4(p) < more ? UINT32_MAX : get4(p) + more);
+}
+
+/* moves equation s if it can; all missing events that were found lie below its new bound, be it t or t + 1 */
 static bool moved(uint8_t *state, unsigned n, unsigned s) {
-    const uint8_t *o = state + RECORD * s;
+    uint8_t *o = state + RECORD * s;
     if (op_of(o) == IN) return false;
     struct next x = next_of(state, o);
     bool event = x.event && held(o) < ROOM;
     uint64_t y = event ? x.t + 1 : x.t;
     if (y == bound_of(o)) return false;
+    count(o + 56, x.outside);
+    count(o + 60, x.zero);
     raise(state, n, s, y, event, x.t, x.v);
     return true;
 }
@@ -737,6 +788,19 @@ uint32_t ref_collect(uint8_t *state, uint64_t state_length, uint32_t stream, uin
     *value = 0;
     unsigned n;
     return is_state(state, state_length, &n) ? collected(state, n, stream, stamp, value) : 15;
+}
+
+/* ---- missing */
+
+uint32_t ref_missing(const uint8_t *state, uint64_t state_length, uint32_t stream, uint32_t *outside, uint32_t *zero) {
+    *outside = 0;
+    *zero = 0;
+    unsigned n;
+    if (!is_state(state, state_length, &n)) return 15;
+    if (stream >= n) return 11;
+    *outside = outside_of(state + RECORD * stream);
+    *zero = zero_of(state + RECORD * stream);
+    return 0;
 }
 
 /* ---- plan text */

@@ -1,6 +1,7 @@
 /*
  * What include/tessla.h says of a state's bytes without a call, against the calls; its places, commands and flags, against writes
- * to a block; the lengths of plan texts, against the texts that come back; and its texts of the numbers.
+ * to a block; the lengths of plan texts, against the texts that come back; its table of what counts missing events, against every
+ * operator; and its texts of the numbers.
  */
 #include <stdio.h>
 #include <string.h>
@@ -80,6 +81,69 @@ static void look_at_the_longest(void) {
     expect(at == 1470, "the longest text", at);
     expect(tessla_load(state, sizeof state, (const uint8_t *)text, at) == TESSLA_DONE, "load of the longest text", at);
     look_at_text(text, at);
+}
+
+/* the call once more, as above */
+uint32_t tessla_missing(const uint8_t *, uint64_t, uint32_t, uint32_t *, uint32_t *);
+
+/* the call has this number and these counts, and the state stays */
+static void missing_is(uint32_t stream, uint64_t length, uint32_t number, uint32_t outside, uint32_t zero) {
+    static uint8_t before[TESSLA_STATE_LENGTH];
+    uint32_t x = 0xA5A5A5A5, y = 0x5A5A5A5A;
+    memcpy(before, state, sizeof before);
+    expect(tessla_missing(state, length, stream, &x, &y) == number, "the number of missing", stream);
+    expect(x == outside, "how many are outside", stream);
+    expect(y == zero, "how many divisors are 0", stream);
+    expect(memcmp(before, state, sizeof before) == 0, "the state after missing", stream);
+}
+
+/* the counts of a stream, and where the header says they lie, the least byte first */
+static void counts_are(uint32_t stream, uint32_t outside, uint32_t zero) {
+    const uint8_t *record = state + stream * TESSLA_RECORD;
+    missing_is(stream, sizeof state, TESSLA_DONE, outside, zero);
+    for (uint32_t i = 0; i < 4; i++) {
+        expect(record[56 + i] == (uint8_t)(outside >> 8 * i), "bytes 56 to 59", stream);
+        expect(record[60 + i] == (uint8_t)(zero >> 8 * i), "bytes 60 to 63", stream);
+    }
+}
+
+/*
+ * Every operator on the same five pairs, at one stamp each: the least value and -1, the greatest and -2, 5 and 0, the least and 0, the
+ * least and 1. What is missing of each, worked out by hand; those of the header's last row have 0 and 0.
+ */
+static void look_at_missing(void) {
+    static const struct {
+        const char *name;
+        int b, k;
+        uint32_t outside, zero;
+    } rows[] = {
+        { "in", 0, 0, 0, 0 },   { "nil", 0, 0, 0, 0 },  { "unit", 0, 0, 0, 0 },  { "time", 0, 0, 0, 0 },  { "set", 0, 1, 0, 0 },
+        { "plus", 0, 1, 1, 0 }, { "neg", 0, 0, 3, 0 },  { "add", 1, 0, 1, 0 },   { "sub", 1, 0, 2, 0 },   { "mul", 1, 0, 2, 0 },
+        { "div", 1, 0, 1, 2 },  { "rem", 1, 0, 0, 2 },  { "lt", 1, 0, 0, 0 },    { "le", 1, 0, 0, 0 },    { "eq", 1, 0, 0, 0 },
+        { "keep", 1, 0, 0, 0 }, { "merge", 1, 0, 0, 0 }, { "last", 1, 0, 0, 0 }, { "delay", 1, 0, 0, 0 }, { "sadd", 1, 0, 1, 0 },
+        { "ssub", 1, 0, 2, 0 }, { "smul", 1, 0, 2, 0 }, { "sdiv", 1, 0, 1, 2 },  { "srem", 1, 0, 0, 2 },  { "slt", 1, 0, 0, 0 },
+        { "sle", 1, 0, 0, 0 },  { "seq", 1, 0, 0, 0 },  { "wsum", 0, 2, 2, 0 },  { "wmin", 0, 2, 0, 0 },  { "wmax", 0, 2, 0, 0 },
+    };
+    static const int64_t pairs[][2] = { { INT64_MIN, -1 }, { INT64_MAX, -2 }, { 5, 0 }, { INT64_MIN, 0 }, { INT64_MIN, 1 } };
+    enum { ROWS = sizeof rows / sizeof *rows };
+    char text[TESSLA_TEXT_LIMIT + 1];
+    uint32_t moves, at = (uint32_t)sprintf(text, "plan=1\nstreams=%d\n", ROWS + 2);
+    for (int i = 0; i < 2; i++) at += (uint32_t)sprintf(text + at, "op=in\na=0\nb=0\nk=0\nout=0\n");
+    for (int i = 0; i < ROWS; i++) at += (uint32_t)sprintf(text + at, "op=%s\na=0\nb=%d\nk=%d\nout=0\n", rows[i].name, rows[i].b, rows[i].k);
+    expect(tessla_load(state, sizeof state, (const uint8_t *)text, at) == TESSLA_DONE, "load of every operator", at);
+    for (uint32_t t = 0; t < sizeof pairs / sizeof *pairs; t++)
+        for (uint32_t input = 0; input < 2; input++)
+            expect(tessla_offer_reading(state, sizeof state, input, t, pairs[t][input]) == TESSLA_DONE, "a reading", t);
+    for (uint32_t i = 0; i < ROWS + 2; i++) counts_are(i, 0, 0);
+    expect(tessla_run(state, sizeof state, 1000, &moves) == TESSLA_DONE && moves < 1000, "a run of every operator", moves);
+    for (uint32_t i = 0; i < ROWS; i++) counts_are(i + 2, rows[i].outside, rows[i].zero);
+    counts_are(0, 0, 0);
+    missing_is(ROWS + 2, sizeof state, TESSLA_NO_EQUATION, 0, 0);
+    missing_is(UINT32_MAX, sizeof state, TESSLA_NO_EQUATION, 0, 0);
+    missing_is(12, sizeof state - 1, TESSLA_BAD_STATE, 0, 0);
+    missing_is(UINT32_MAX, 0, TESSLA_BAD_STATE, 0, 0);
+    expect(tessla_load(state, sizeof state, (const uint8_t *)text, at) == TESSLA_DONE, "load of every operator", at);
+    for (uint32_t i = 0; i < ROWS + 2; i++) counts_are(i, 0, 0);
 }
 
 /* the loaded plan has n streams and no window */
@@ -272,12 +336,14 @@ int main(void) {
     expect(tessla_offer_progress(state, sizeof state, 0, TESSLA_HORIZON + 1) == TESSLA_NO_INPUT, "progress without a plan", 0);
     expect(tessla_move(state, sizeof state, 0) == TESSLA_NO_EQUATION, "a move without a plan", 0);
     expect(tessla_run(state, sizeof state, 5, &moves) == TESSLA_DONE && moves == 0, "a run without a plan", moves);
+    missing_is(0, sizeof state, TESSLA_NO_EQUATION, 0, 0);
     look(0);
     uint64_t none = 1;
     expect(tessla_plan_text(state, sizeof state, NULL, 0, &none) == TESSLA_DONE && none == 0, "the text of no plan", 0);
     expect(!tessla_is_output(state, UINT32_MAX) && !tessla_is_output(state, 1u << 24), "a stream far out", 0);
 
     look_at_the_longest();
+    look_at_missing();
     look_at_windows();
     look_at_bounds();
     look_at_places();

@@ -1,11 +1,13 @@
 // The rows of the operator table that compute: what an equation has at a stamp, from what its arguments have there.
 ghost use mathlib.Core.Path.{_≡_};
-ghost use Prim.Native.Nat.{_≤_};
+ghost use Prim.Native.Nat.{ℕ, _≤_};
 ghost use Rattle.num.specs.Arithmetic.{isZero};
 ghost use Rattle.meaning.specs.Events.{horizon, orElse};
 ghost use Rattle.meaning.specs.Table.{one-at, two-at, calculated, valueOf};
+ghost use Rattle.meaning.specs.Missing.{Reason, lacks, saidFor, one-says, calc-says, two-says};
 ghost use Rattle.queue.specs.Found.{asOption};
 ghost use Rattle.apply.specs.Named.{unary, calculation, binary};
+ghost use Rattle.apply.specs.Lack.{lackFor};
 use num::Answer;
 use queue::Found;
 
@@ -43,6 +45,16 @@ pub enum Fold {
     Greatest,
 }
 
+// Whether an event is missing, and why.
+pub enum Lack {
+    // There is nothing to work on, or a value.
+    No,
+    // The result lies outside the value range.
+    Outside,
+    // The divisor is zero.
+    ZeroDivisor,
+}
+
 // The value of an answer, if it has one.
 fn value_of(x: Answer) -> Found
     ensures { λ r. ⌜ asOption r ≡ valueOf x ⌝ }
@@ -51,6 +63,17 @@ fn value_of(x: Answer) -> Found
         Answer::Value(v) => Found::Value(v),
         Answer::Outside => Found::Nothing,
         Answer::ZeroDivisor => Found::Nothing,
+    }
+}
+
+// Why an answer has no value.
+fn lack_of(x: Answer) -> Lack
+    ensures { λ r. ⌜ ((q : Reason) → lackFor q r ≡ lacks q x) ⌝ }
+{
+    match x {
+        Answer::Value(_) => Lack::No,
+        Answer::Outside => Lack::Outside,
+        Answer::ZeroDivisor => Lack::ZeroDivisor,
     }
 }
 
@@ -96,6 +119,45 @@ pub fn calc_at(g: Calc, x: Found, y: Found) -> Found
         return Found::Nothing;
     };
     value_of(calculate(g, v, w))
+}
+
+// plus, neg: why the equation has no event where its argument has x. The others always have one.
+pub fn one_lack(f: Unary, x: Found) -> Lack
+    ensures { λ r. ⌜ ((q : Reason) (t : ℕ) → lackFor q r ≡ saidFor q (one-says (unary f) t (asOption x))) ⌝ }
+{
+    let Found::Value(v) = x else {
+        return Lack::No;
+    };
+    match f {
+        Unary::Time => Lack::No,
+        Unary::Set(_) => Lack::No,
+        Unary::Plus(k) => lack_of(num::add(v, k)),
+        Unary::Neg => lack_of(num::neg(v)),
+    }
+}
+
+// add to eq: why there is no value of two events or of two latest values.
+pub fn calc_lack(g: Calc, x: Found, y: Found) -> Lack
+    ensures { λ r. ⌜ ((q : Reason) → lackFor q r ≡ saidFor q (calc-says (calculation g) (asOption x) (asOption y))) ⌝ }
+{
+    let Found::Value(v) = x else {
+        return Lack::No;
+    };
+    let Found::Value(w) = y else {
+        return Lack::No;
+    };
+    lack_of(calculate(g, v, w))
+}
+
+// Why an equation of two arguments has no event where they have x and y. keep and merge have one for whatever they work on.
+pub fn two_lack(g: Binary, x: Found, y: Found) -> Lack
+    ensures { λ r. ⌜ ((q : Reason) → lackFor q r ≡ saidFor q (two-says (binary g) (asOption x) (asOption y))) ⌝ }
+{
+    match g {
+        Binary::Arith(c) => calc_lack(c, x, y),
+        Binary::Keep => Lack::No,
+        Binary::Merge => Lack::No,
+    }
 }
 
 fn is_zero(v: i64) -> bool

@@ -1,5 +1,5 @@
 -- A sound cell's record keeps within its widths, and is read back as the cell.
-use Prim.Native.Nat.{ℕ, zero, suc, _^_, _<_, _≤_, min}
+use Prim.Native.Nat.{ℕ, zero, suc, _+_, _*_, _^_, _<_, _≤_, min}
 use mathlib.Core.Path.{_≡_, refl, sym, ap, ap₂, _∙_}
 use mathlib.Core.List.{List, [], _∷_, map}
 use mathlib.Core.Bool.{Bool, true, false, not}
@@ -14,6 +14,7 @@ use mir.Facts.{toZ-ofZ}
 use Rattle.meaning.specs.Plan.{Eqn, input, nil, unit, one, two, last, delay, signal, window}
 use Rattle.meaning.specs.Arguments.{reads, argA, argB, AllBelow}
 use Rattle.meaning.specs.Events.{Event, ev, horizon}
+use Rattle.meaning.specs.Missing.{outside, divisor, canLack}
 use Rattle.machine.specs.State.{Kept, Passed, Cell, room, noPassed, withPassed}
 use Rattle.operators.specs.Windows.{IsWidth}
 use Rattle.operators.specs.Operators.{groupOf, numberOf, valueOf, eqnOf}
@@ -21,9 +22,9 @@ use Rattle.operators.proofs.Laws.{one-group, two-group, signal-group, window-gr
 use Rattle.le.proofs.RoundTrip.{All}
 use Rattle.layout.specs.Record.{noSlot}
 use Rattle.layout.proofs.Laws.{RawOk, SlotOk}
-use Rattle.encoding.specs.View.{flag, flagOf, bitsOf, KeptNums, keptNums, slotOf, padTo, rawOf, ofCell}
+use Rattle.encoding.specs.View.{flag, flagOf, bitsOf, KeptNums, keptNums, slotOf, padTo, countsWord, rawOf, ofCell}
 use Rattle.encoding.specs.Back.{optional, eventOf, heldOf, keptOf, toCell}
-use Rattle.encoding.specs.Sound.{IsValue, IsOptional, Rising, IsNext, IsKept, IsPassed, SoundCell}
+use Rattle.encoding.specs.Sound.{IsValue, IsOptional, Rising, IsNext, IsKept, IsPassed, IsCount, SoundCell}
 
 -- ---- numbers below their widths
 
@@ -142,7 +143,7 @@ cell-raw n c h ok =
               bool-below (c .out),
               (
                 omega arith,
-                (k .flag, (k .priorFlag, (lit< tt, (bits-below (valueOf (c .eqn)) (ok .value), (omega arith, (next-small (c .out) (ok .next), (k .kept, (k .value, (k .prior, (lit< tt, tt)))))))))),
+                (k .flag, (k .priorFlag, (lit< tt, (bits-below (valueOf (c .eqn)) (ok .value), (omega arith, (next-small (c .out) (ok .next), (k .kept, (k .value, (k .prior, (counts-small (c .passed .outside) (c .passed .divisors) (ok .counts outside) (ok .counts divisor), tt)))))))))),
               ),
             ),
           ),
@@ -152,6 +153,13 @@ cell-raw n c h ok =
       good = slots-small 0 (c .bound) room (c .held) b (ok .held);
     }
   where
+    count-small : (b : Bool) (m : ℕ) → IsCount b (c .bound) m → m < 2 ^ 32
+    count-small true m q = q .0
+    count-small false m q = omega arith
+
+    counts-small : (m n : ℕ) → IsCount (canLack (c .eqn)) (c .bound) m → IsCount (canLack (c .eqn)) (c .bound) n → m + n * 2 ^ 32 < 256 ^ 8
+    counts-small m n p q = let i = count-small (canLack (c .eqn)) m p in let j = count-small (canLack (c .eqn)) n q in omega arith
+
     next-small : (o : Bool) → IsNext o (c .next) (c .bound) → c .next < 256 ^ 8
     next-small true q = omega (arith, ok .bound)
     next-small false q = omega (arith, q)
@@ -166,31 +174,31 @@ held-back lo top zero (e ∷ es) h r = absurd (omega arith)
 held-back lo top (suc n) (e ∷ es) h r =
     ap₂ _∷_ (ap (ev (e .stamp)) (value-back (e .value) (r .1))) (held-back (suc (e .stamp)) top n es (omega arith) (r .2))
 
-kept-back : (e : Eqn) (k : Kept) (w : Passed) (o : Bool) (y : ℕ) (h : List Event) (m : ℕ) → IsKept e y k → keptOf (rawOf e o y h m (keptNums e k w)) ≡ k
+kept-back : (e : Eqn) (k : Kept) (w : Passed) (o : Bool) (y : ℕ) (h : List Event) (m z : ℕ) → IsKept e y k → keptOf (rawOf e o y h m (keptNums e k w) z) ≡ k
 unfolding keptOf groupOf numberOf
-kept-back input k w o y h m ok = sym ok
-kept-back nil k w o y h m ok = sym ok
-kept-back unit k w o y h m ok = sym ok
-kept-back (one f a) k w o y h m ok = rw (one-group f) (sym ok)
-kept-back (two g a b) k w o y h m ok = rw (two-group g) (sym ok)
-kept-back (last a b) k w o y h m ok =
+kept-back input k w o y h m z ok = sym ok
+kept-back nil k w o y h m z ok = sym ok
+kept-back unit k w o y h m z ok = sym ok
+kept-back (one f a) k w o y h m z ok = rw (one-group f) (sym ok)
+kept-back (two g a b) k w o y h m z ok = rw (two-group g) (sym ok)
+kept-back (last a b) k w o y h m z ok =
     let p = optional-back (k .prev) (ok .prev) in
     λ i. record { prev = p i; prevB = sym (ok .prevB) i; since = sym (ok .since) i; value = sym (ok .value) i; prior = sym (ok .prior) i }
-kept-back (delay a b) k w o y h m ok =
+kept-back (delay a b) k w o y h m z ok =
     let v = optional-back (k .value) (ok .value) in
     let p = optional-back (k .prior) (ok .prior) in
     λ i. record { prev = sym (ok .prev) i; prevB = sym (ok .prevB) i; since = k .since; value = v i; prior = p i }
-kept-back (signal c a b) k w o y h m ok =
+kept-back (signal c a b) k w o y h m z ok =
     let p = optional-back (k .prev) (ok .prev) in
     let q = optional-back (k .prevB) (ok .prevB) in
     rw (signal-group c) (λ i. record { prev = p i; prevB = q i; since = sym (ok .since) i; value = sym (ok .value) i; prior = sym (ok .prior) i })
-kept-back (window f n a) k w o y h m ok = rw (window-group f) (sym ok)
+kept-back (window f n a) k w o y h m z ok = rw (window-group f) (sym ok)
 
 out-back : (b : Bool) → not (eqb (flag b) 0) ≡ b
 out-back true = refl
 out-back false = refl
 
--- every sound cell is what its record gives, but for what a window keeps
+-- every sound cell is what its record gives, but for what is kept of the passed stamps
 pub cell-back : (n : ℕ) (c : Cell) → SoundCell n c → toCell (ofCell c) ≡ withPassed noPassed c
 unfolding toCell heldOf ofCell
 cell-back n c ok =
@@ -198,5 +206,5 @@ cell-back n c ok =
     let m : min (length (c .held)) room ≡ length (c .held) = omega arith in
     let e = ap (eqnOf (numberOf (c .eqn)) (argA (c .eqn)) (argB (c .eqn))) (value-back (valueOf (c .eqn)) (ok .value)) ∙ eqn-back (c .eqn) in
     let h = ap (λ (j : ℕ). map eventOf (take j (padTo room noSlot (map slotOf (c .held))))) m ∙ held-back 0 (c .bound) room (c .held) f (ok .held) in
-    let k = kept-back (c .eqn) (c .kept) (c .passed) (c .out) (c .bound) (c .held) (c .next) (ok .kept) in
+    let k = kept-back (c .eqn) (c .kept) (c .passed) (c .out) (c .bound) (c .held) (c .next) (countsWord (c .passed)) (ok .kept) in
     λ i. record { eqn = e i; out = out-back (c .out) i; bound = c .bound; held = h i; next = c .next; kept = k i; passed = noPassed }

@@ -1,5 +1,5 @@
 -- How: a raw record read as a cell of the machine: total, also where the numbers are no cell's.
-use Prim.Native.Nat.{ℕ, _-_, min}
+use Prim.Native.Nat.{ℕ, _-_, _/_, _%_, _^_, min}
 use mathlib.Core.Bool.{not, cond}
 use mathlib.Core.Option.{Option, none, some}
 use mathlib.Core.List.{List, [], _∷_, map}
@@ -9,10 +9,10 @@ use lib.IntN.{ℤ}
 use mir.Syntax.{w64}
 use mir.Val.{toZ}
 use Rattle.meaning.specs.Events.{Event, ev}
-use Rattle.machine.specs.State.{Kept, Passed, Cell, State, room, noKept, noPassed, withPassed}
+use Rattle.machine.specs.State.{Kept, Passed, Cell, State, room, noKept, noPassed, withWindow, withPassed}
 use Rattle.operators.specs.Operators.{groupOf, isLast, isDelay, isSignal, isWindow, eqnOf}
 use Rattle.layout.specs.Windows.{windowLength, areaLength, decWindow}
-use Rattle.layout.specs.Record.{Slot, Raw, num, decode, opF, aF, bF, outF, countF, flagF, priorFlagF, kF, boundF, nextF, keptF, valueF, priorF}
+use Rattle.layout.specs.Record.{Slot, Raw, num, decode, opF, aF, bF, outF, countF, flagF, priorFlagF, kF, boundF, nextF, keptF, valueF, priorF, countsF}
 
 -- what may be absent
 abbrev pub optional : ℕ → ℕ → Option ℤ
@@ -43,7 +43,7 @@ keptOf r =
     (cond (isDelay (groupOf (num opF r))) (delayOf r)
     (cond (isSignal (groupOf (num opF r))) (signalOf r) noKept))
 
--- but for what a window keeps, which lies outside its record
+-- but for what is kept of the passed stamps: the counts, and a window's values, which lie outside its record
 unfoldable pub toCell : Raw → Cell
 unfolding heldOf keptOf
 toCell r =
@@ -57,9 +57,13 @@ toCell r =
       passed = noPassed;
     }
 
--- what a window with so many values keeps, of its bytes
-abbrev pub passedOf : ℕ → List ℕ → Passed
-passedOf n s = record { window = map (toZ w64) (take n (decWindow s)) }
+-- the counts of missing events, of one word
+abbrev pub countsIn : Raw → Passed
+countsIn r = record { window = []; outside = num countsF r % 2 ^ 32; divisors = num countsF r / 2 ^ 32 }
+
+-- the values of a window with so many, of its bytes
+abbrev pub windowIn : ℕ → List ℕ → List ℤ
+windowIn n s = map (toZ w64) (take n (decWindow s))
 
 -- the cells of records, with the bytes of the windows that are left for them
 unfoldable pub cells : List Raw → List ℕ → State
@@ -67,8 +71,8 @@ unfolding toCell
 cells [] b = []
 cells (r ∷ rs) b =
     cond (isWindow (groupOf (num opF r)))
-    (withPassed (passedOf (num flagF r) (take windowLength b)) (toCell r) ∷ cells rs (drop windowLength b))
-    (toCell r ∷ cells rs b)
+    (withPassed (withWindow (windowIn (num flagF r) (take windowLength b)) (countsIn r)) (toCell r) ∷ cells rs (drop windowLength b))
+    (withPassed (countsIn r) (toCell r) ∷ cells rs b)
 
 -- the windows' bytes, of all that lie behind the records
 abbrev pub areaOf : List ℕ → List ℕ

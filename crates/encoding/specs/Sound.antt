@@ -13,7 +13,8 @@ use Rattle.meaning.specs.Table.{width}
 use Rattle.meaning.specs.Arguments.{reads, AllBelow}
 use Rattle.meaning.specs.Events.{Event, horizon}
 use Rattle.meaning.specs.Cycle.{Acyclic}
-use Rattle.machine.specs.State.{Kept, Passed, Cell, State, room, noKept, noPassed, cellAt, planOf}
+use Rattle.meaning.specs.Missing.{Reason, canLack}
+use Rattle.machine.specs.State.{Kept, Passed, Cell, State, room, noKept, countOf, cellAt, planOf}
 use Rattle.operators.specs.Operators.{eqnGroup, isDelay, valueOf}
 use Rattle.operators.specs.Limits.{windowLimit}
 use Rattle.operators.specs.Windows.{IsWidth, windows}
@@ -84,16 +85,22 @@ pub record WindowKept (k y : ℕ) (w : Passed) : Type 0 where
   pub values : AllValues (w .window)
   pub fresh : y ≡ 0 → w .window ≡ []
 
+-- the values of an equation with this bound: only a window keeps any
 abbrev pub IsPassed : Eqn → ℕ → Passed → Type 0
-IsPassed input y w = w ≡ noPassed
-IsPassed nil y w = w ≡ noPassed
-IsPassed unit y w = w ≡ noPassed
-IsPassed (one f a) y w = w ≡ noPassed
-IsPassed (two g a b) y w = w ≡ noPassed
-IsPassed (last a b) y w = w ≡ noPassed
-IsPassed (delay a b) y w = w ≡ noPassed
-IsPassed (signal c a b) y w = w ≡ noPassed
+IsPassed input y w = w .window ≡ []
+IsPassed nil y w = w .window ≡ []
+IsPassed unit y w = w .window ≡ []
+IsPassed (one f a) y w = w .window ≡ []
+IsPassed (two g a b) y w = w .window ≡ []
+IsPassed (last a b) y w = w .window ≡ []
+IsPassed (delay a b) y w = w .window ≡ []
+IsPassed (signal c a b) y w = w .window ≡ []
 IsPassed (window f k a) y w = WindowKept (width k) y w
+
+-- a count of an equation with this bound, and whether it counts: any number of four bytes, and 0 where nothing was counted yet
+abbrev pub IsCount : Bool → ℕ → ℕ → Type 0
+IsCount true y n = (n < 2 ^ 32) × (y ≡ 0 → n ≡ 0)
+IsCount false y n = n ≡ 0
 
 -- a cell of a state of n streams
 pub record SoundCell (n : ℕ) (c : Cell) : Type 0 where
@@ -107,6 +114,7 @@ pub record SoundCell (n : ℕ) (c : Cell) : Type 0 where
   pub next : IsNext (c .out) (c .next) (c .bound)
   pub kept : IsKept (c .eqn) (c .bound) (c .kept)
   pub passed : IsPassed (c .eqn) (c .bound) (c .passed)
+  pub counts : (q : Reason) → IsCount (canLack (c .eqn)) (c .bound) (countOf q (c .passed))
 
 -- a delay's own events are set points, and `since` is one past the latest
 abbrev pub Own : Cell → Type 0

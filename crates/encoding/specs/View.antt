@@ -1,5 +1,5 @@
 -- Believe: a cell of the machine as a raw record, and a state as bytes.
-use Prim.Native.Nat.{ℕ, zero, suc, _*_, _-_}
+use Prim.Native.Nat.{ℕ, zero, suc, _+_, _*_, _-_, _^_}
 use mathlib.Core.Bool.{Bool, true, false, cond}
 use mathlib.Core.Option.{Option, none, some}
 use mathlib.Core.List.{List, [], _∷_, _++_, map}
@@ -70,17 +70,21 @@ padTo zero d l = []
 padTo (suc n) d [] = d ∷ padTo n d []
 padTo (suc n) d (a ∷ l) = a ∷ padTo n d l
 
+-- both counts of missing events in one word, outside the range in its lower half
+abbrev pub countsWord : Passed → ℕ
+countsWord w = w .outside + w .divisors * 2 ^ 32
+
 -- the fifteen numbers of the head and the sixteen slots
-abbrev pub rawOf : Eqn → Bool → ℕ → List Event → ℕ → KeptNums → Raw
-rawOf e out bound held next n =
+abbrev pub rawOf : Eqn → Bool → ℕ → List Event → ℕ → KeptNums → (counts : ℕ) → Raw
+rawOf e out bound held next n counts =
     record {
       nums = numberOf e ∷ argA e ∷ argB e ∷ flag out ∷ length held ∷ n .flag ∷ n .priorFlag ∷ 0
-          ∷ ofZ w64 (valueOf e) ∷ bound ∷ next ∷ n .kept ∷ n .value ∷ n .prior ∷ 0 ∷ [];
+          ∷ ofZ w64 (valueOf e) ∷ bound ∷ next ∷ n .kept ∷ n .value ∷ n .prior ∷ counts ∷ [];
       slots = padTo room noSlot (map slotOf held);
     }
 
 unfoldable pub ofCell : Cell → Raw
-ofCell c = rawOf (c .eqn) (c .out) (c .bound) (c .held) (c .next) (keptNums (c .eqn) (c .kept) (c .passed))
+ofCell c = rawOf (c .eqn) (c .out) (c .bound) (c .held) (c .next) (keptNums (c .eqn) (c .kept) (c .passed)) (countsWord (c .passed))
 
 -- what the windows of the state keep, by stream number
 abbrev pub windowsOf : State → List (List ℤ)

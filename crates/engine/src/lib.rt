@@ -1,5 +1,5 @@
 // The calls that the firmware links. Each works on lent buffers, asks nothing of its caller, and is promised equal to a
-// definition (`loadReply`, `reply`, `planText`, `write`, `line`): its number, its results and the buffers it leaves.
+// definition (`loadReply`, `reply`, `planText`, `missingReply`, `write`, `line`): its number, its results and the buffers it leaves.
 ghost use mathlib.Core.Path.{_≡_};
 ghost use Rattle.block.specs.Block as board;
 ghost use Rattle.registers.specs.Write.{write};
@@ -7,6 +7,7 @@ ghost use Rattle.machine.specs.Calls.{reading, progress, moving, running, colle
 ghost use Rattle.engine.specs.Load.{loadReply};
 ghost use Rattle.calls.specs.Reply.{reply};
 ghost use Rattle.writing.specs.Text.{planText};
+ghost use Rattle.counts.specs.Missing.{missingReply};
 use operators::Plan;
 use valid::Tested;
 
@@ -117,6 +118,29 @@ pub extern "C" fn tessla_plan_text(state: &[u8], text: &mut [u8], length: &mut u
         Tested::State(n) => writing::write(state, n, text, length),
         Tested::NoState => {
             *length = 0;
+            15
+        }
+    }
+}
+
+// Reads the two counts of a stream: at how many stamps below its bound an event is missing because its result is outside the
+// range, and because the divisor is zero.
+#[no_mangle]
+pub extern "C" fn tessla_missing(
+    state: &[u8],
+    stream: u32,
+    outside: &mut u32,
+    zero: &mut u32,
+) -> u32
+    ensures number { λ r. ⌜ r ≡ missingReply stream (now (state .entry)) .number ⌝ }
+    ensures outside { λ _. ⌜ now (outside .exit) ≡ missingReply stream (now (state .entry)) .outside ⌝ }
+    ensures zero { λ _. ⌜ now (zero .exit) ≡ missingReply stream (now (state .entry)) .divisors ⌝ }
+{
+    match valid::streams(state) {
+        Tested::State(n) => counts::missing(state, n, stream, outside, zero),
+        Tested::NoState => {
+            *outside = 0;
+            *zero = 0;
             15
         }
     }

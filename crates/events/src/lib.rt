@@ -109,7 +109,7 @@ pub fn is_some(x: Found) -> bool
 }
 
 // Whether one of the two is there.
-fn either(x: Found, y: Found) -> bool
+pub fn either(x: Found, y: Found) -> bool
     ensures { λ r. ⌜ r ≡ (has (asOption x) || has (asOption y)) ⌝ }
 {
     match x {

@@ -8,7 +8,7 @@ use lib.ListN.{length, getD}
 use borrow.Author.Tests.{lt-ltb, le-ltb}
 use Rattle.machine.specs.State.{Declared, loaded}
 use Rattle.machine.specs.Reach.{least}
-use Rattle.machine.specs.Calls.{Call, reading, progress, moving, running, collecting, Outcome, refused, unless, offerReading, offerProgress, noEquation, moveOne, lowest, run, collect, call}
+use Rattle.machine.specs.Calls.{Call, reading, progress, moving, running, collecting, Outcome, refused, unless, offerReading, offerProgress, noEquation, moveOne, lowest, run, collect, call, noCounts, missing}
 use Rattle.operators.specs.Limits.{capacity}
 use Rattle.plan.specs.Rules.{declared}
 use Rattle.plan.proofs.Taken.{taken-rendered}
@@ -17,6 +17,9 @@ use Rattle.encoding.specs.View.{bytesOf}
 use Rattle.valid.specs.Valid.{count, valid}
 use Rattle.roundtrip.proofs.Empty.{none-sound, none-bytes, zeros-alone}
 use Rattle.roundtrip.proofs.Whole.{bytes-count}
+use Rattle.roundtrip.proofs.In.{bytes-are, bytes-in}
+use Rattle.counts.specs.Missing.{missingReply}
+use Rattle.counts.proofs.Cases.{reply-state}
 use Rattle.load.proofs.Taken.{many}
 use Rattle.load.proofs.Fresh.{loaded-sound}
 use Rattle.calls.specs.Reply.{Reply, plain, replyOf, notState, reply}
@@ -41,6 +44,10 @@ answered (moving s) = stopped (noEquation s []) 11 _ (no-equation s)
 answered (running zero) = refl
 answered (running (suc n)) = refl
 answered (collecting s) = refl
+
+nobody : (i : ℕ) → missing i [] ≡ noCounts 11
+unfolding missing
+nobody i = rw (le-ltb i 0 (omega arith))
 
 no-loaded : loaded [] ≡ []
 unfolding loaded
@@ -72,6 +79,11 @@ module _ (size : ℕ) (l : 0 < capacity size) where
       reply-machine size c [] (zeros size) (none-sound l) (sym (none-bytes size l))
       ∙ ap (replyOf size) (answered c) ∙ ap (plain (answer c)) (none-bytes size l)
 
+  zeros-counts : (i : ℕ) → missingReply i (zeros size) ≡ noCounts 11
+  zeros-counts i =
+      let z = sym (none-bytes size l) in
+      reply-state i (zeros size) (bytes-are size [] (zeros size) 0 (none-sound l) refl z .isValid) ∙ ap (missing i) (bytes-in size [] (zeros size) (none-sound l) z) ∙ nobody i
+
   others-15 : (c : Call) (s : List ℕ) → length s ≡ size → getD s 0 0 ≡ 0 → (s ≡ zeros size → ⊥) → reply c s ≡ notState s
   others-15 c s e z n = reply-none c s (by (valid s) refl)
     where
@@ -80,4 +92,4 @@ module _ (size : ℕ) (l : 0 < capacity size) where
       by false v = v
 
   pub no-plan : NoPlan size
-  no-plan = record { loads = loaded-zeros; textAlone = one-text; answers = zeros-answer; zerosAlone = others-15 }
+  no-plan = record { loads = loaded-zeros; textAlone = one-text; answers = zeros-answer; counts = zeros-counts; zerosAlone = others-15 }

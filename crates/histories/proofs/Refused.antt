@@ -6,6 +6,8 @@ use Rattle.calls.specs.Reply.{Reply, plain, reply}
 use Rattle.histories.specs.Demands.{LeavesAll, Refusals}
 use Rattle.calls.proofs.Answers.{refused-plain}
 use Rattle.writing.proofs.Cases.{text-refused}
+use Rattle.machine.specs.Calls.{Missing}
+use Rattle.counts.proofs.Cases.{missing-refused}
 use Rattle.block.proofs.Flags.{line-refused}
 use Rattle.registers.proofs.Refusals.{laws}
 use Rattle.engine.proofs.Loads.{load-refused, load-results}
@@ -20,6 +22,7 @@ refusals = record {
   ofLoad = λ text s z. let r = load-results text s in record { noMoves = r .0; noStamp = r .1; noValue = r .2; sameBuffer = load-refused text s z };
   ofCall = λ c s b z. plain-leaves (reply c s) (reply c s .number) s (refused-plain c s b z);
   ofText = text-refused;
+  ofMissing = λ i s z. let e = missing-refused i s z in (ap (λ (m : Missing). m .outside) e, ap (λ (m : Missing). m .divisors) e);
   ofWrite = λ s b at x h. laws .refusal s b at x h .sameState;
   ofLine = line-refused;
 }

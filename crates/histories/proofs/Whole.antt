@@ -1,24 +1,37 @@
 -- The whole theorem, over bytes: any history of loads, calls, register writes and copies put back on a lent buffer.
-use Prim.Native.Nat.{ℕ, zero, suc, _≤_, _<_}
+use Prim.Native.Nat.{ℕ, zero, suc, _+_, _*_, _≤_, _<_}
 use mathlib.Core.Path.{_≡_, refl, sym, ap, ap₂, _∙_, subst}
 use mathlib.Core.Bool.{Bool, true, false, cond}
 use mathlib.Core.Option.{Option, none, some}
 use mathlib.Core.List.{List, [], _∷_, _++_, append-nil, append-assoc}
 use native.Mathlib.Omega.{arith}
-use lib.Dec.{eqb}
-use lib.ListN.{length, length-append, getD}
-use borrow.Author.Tests.{eqb-true, eqb-false}
+use lib.Dec.{eqb, lit<, lit≤}
+use lib.ListN.{length, length-append, length-map, getD, take, drop}
+use lib.Seq.{drop-drop}
+use borrow.Author.Tests.{eqb-true, eqb-false, le-ltb}
+use Rattle.meaning.specs.Plan.{eqnAt}
 use Rattle.meaning.specs.Events.{Streams, horizon}
 use Rattle.meaning.specs.Table.{Solves}
-use Rattle.machine.specs.State.{Declared, declaredPlan, declaredIn, State, loaded}
+use Rattle.machine.specs.State.{Declared, declaredPlan, declares, declaredIn, State, cellAt, loaded}
 use Rattle.machine.proofs.SamePlan.{loaded-plan, call-plan}
-use Rattle.machine.specs.Calls.{Call, reading, progress, moving, running, collecting, call}
+use Rattle.machine.specs.Calls.{Call, reading, progress, moving, running, collecting, call, noCounts, missing}
 use Rattle.runs.specs.Seen.{Seen, Typed, AllTyped}
 use Rattle.runs.specs.Demand3.{readingsSeen, AtRest, Demand3}
+use Rattle.runs.specs.Inside.{missedAs}
 use Rattle.runs.specs.History.{seenOf, after, log}
 use Rattle.runs.specs.Claim.{Keeps, final, nextNumber, Claim, RestReached}
 use Rattle.runs.proofs.Whole.{whole-runs, rest-reached}
-use Rattle.le.specs.Bytes.{Bytes}
+use Rattle.le.specs.Bytes.{Bytes, le, part}
+use Rattle.le.specs.Layout.{offset}
+use Rattle.le.proofs.Fields.{part-part}
+use Rattle.layout.specs.Record.{boundF}
+use Rattle.layout.proofs.Laws.{num-get}
+use Rattle.encoding.specs.Back.{stateOf}
+use Rattle.encoding.proofs.Cells.{state-length}
+use Rattle.valid.specs.Valid.{count}
+use Rattle.readers.proofs.States.{row-bound}
+use Rattle.counts.specs.Missing.{missingReply}
+use Rattle.counts.proofs.Cases.{reply-state}
 use Rattle.operators.specs.Limits.{mostStreams, capacity}
 use Rattle.operators.proofs.Sizes.{capacity-few}
 use Rattle.encoding.specs.View.{bytesOf}
@@ -40,11 +53,21 @@ use Rattle.calls.proofs.Bytes.{state-bytes}
 use Rattle.registers.specs.Write.{callIn, write, starts}
 use Rattle.registers.proofs.Sequence.{one-write}
 use Rattle.engine.specs.Load.{loadReply}
-use Rattle.histories.specs.Demands.{Act, load, make, askText, writeTo, putBack, Course, Point, seenIn, courseOfCall, shownIn, acted, pointFrom, pointAfter, TypedAct, AllTypedActs, RestAhead, Demands, DemandsAt}
+use Rattle.histories.specs.Demands.{Act, load, make, askText, askMissing, writeTo, putBack, Course, Point, seenIn, courseOfCall, shownIn, acted, pointFrom, pointAfter, TypedAct, AllTypedActs, RestAhead, boundIn, Demands, DemandsAt}
 use Rattle.histories.specs.Inside.{callsOf, Inside, InsideAt}
 use Rattle.calls.proofs.Answers.{reply-machine}
 use Rattle.engine.proofs.Loads.{load-done, load-refused, load-length}
 use Rattle.histories.proofs.Shown.{shown-is, typed-call}
+
+-- ---- where a bound lies
+
+bound-lies : (n : ℕ) (b : List ℕ) (s : ℕ) → s < n → boundIn b s ≡ cellAt (stateOf n b) s .bound
+unfolding offset
+bound-lies n b s h =
+    sym
+    (row-bound s n b (part b (s * 256) 256) s h refl
+    ∙ num-get (part b (s * 256) 256) boundF (lit< tt) (lit≤ tt)
+    ∙ ap le (part-part 8 16 256 (drop (s * 256) b) (lit≤ tt) ∙ ap (take 8) (drop-drop 16 (s * 256) b)))
 
 -- ---- a plan that keeps the written rules is one that the theorem on runs speaks of
 
@@ -178,6 +201,7 @@ kept-act (make c) past p t h k = by (p .course) k
     by none k = tt
     by (some x) k = (k .0 ++ c ∷ [], further (x .plan) (k .0) (x .seen) (p .bytes) c t (k .1), k .2)
 kept-act (askText b) past p t h k = k
+kept-act (askMissing i) past p t h k = k
 kept-act (writeTo b at x) past p t h k = by (starts b at x) refl (p .course) k
   where
     by : (q : Bool) → starts b at x ≡ q → (o : Option Course) → KeptIn o (p .bytes)
@@ -210,12 +234,26 @@ next-answer ds cs seen b k c = reply-machine (length b) c (final ds cs) b (k .so
 next-number : (ds : List Declared) (cs : List Call) (seen : List Seen) (b : List ℕ) → Kept ds cs seen b → (c : Call) → nextNumber ds cs c ≡ reply c b .number
 next-number ds cs seen b k c = sym (ap (λ (y : Reply). y .number) (next-answer ds cs seen b k c))
 
+-- the counts are read from the machine's state
+next-counts : (ds : List Declared) (cs : List Call) (seen : List Seen) (b : List ℕ) → Kept ds cs seen b → (s : ℕ) → missingReply s b ≡ missing s (final ds cs)
+next-counts ds cs seen b k s =
+    reply-state s b (bytes-are (length b) (final ds cs) b (length (final ds cs)) (k .sound) refl (k .bytes) .isValid)
+    ∙ ap (missing s) (bytes-in (length b) (final ds cs) b (k .sound) (k .bytes))
+
+-- and the bound of a stream lies in its record
+next-bound : (ds : List Declared) (cs : List Call) (seen : List Seen) (b : List ℕ) → Kept ds cs seen b → (s : ℕ) → s < length (final ds cs) → boundIn b s ≡ cellAt (final ds cs) s .bound
+next-bound ds cs seen b k s h =
+    let e = bytes-in (length b) (final ds cs) b (k .sound) (k .bytes) in
+    let m : s < count b = rw (sym (state-length (count b) b) ∙ ap length e) h in
+    bound-lies (count b) b s m ∙ ap (λ (M : State). cellAt M s .bound) e
+
 kept-inside : (ds : List Declared) (cs : List Call) (seen : List Seen) (b : List ℕ) → Kept ds cs seen b → Inside ds cs seen b
 kept-inside ds cs seen b k = record {
   rules = k .rules;
   bytes = k .bytes;
   logged = k .logged;
   answers = next-answer ds cs seen b k;
+  counts = next-counts ds cs seen b k;
   claim = whole-runs ds (rules-keep ds (k .rules)) cs (k .typed);
 }
 
@@ -242,6 +280,14 @@ kept-text ds cs seen b k lent =
     let v = bytes-are (length b) (final ds cs) b (length (final ds cs)) (k .sound) refl (k .bytes) .isValid in
     text-state b lent v ∙ ap (λ (l : List Declared). given (render l) lent) (ap declaredIn (bytes-in (length b) (final ds cs) b (k .sound) (k .bytes)) ∙ after-plan cs (loaded ds) ∙ loaded-plan ds)
 
+-- past the last stream
+final-length : (ds : List Declared) (cs : List Call) → length (final ds cs) ≡ length ds
+final-length ds cs = sym (length-map (final ds cs) declares) ∙ ap length (after-plan cs (loaded ds) ∙ loaded-plan ds)
+
+absent-stream : (M : State) (s : ℕ) → length M ≤ s → missing s M ≡ noCounts 11
+unfolding missing
+absent-stream M s h = rw (le-ltb s (length M) h)
+
 kept-demands : (x : Course) (b : List ℕ) (cs : List Call) → Kept (x .plan) cs (x .seen) b → render (x .plan) ≡ x .text → Demands x b
 kept-demands x b cs k text =
     let keep = rules-keep (x .plan) (k .rules) in
@@ -256,6 +302,11 @@ kept-demands x b cs k text =
           subst (λ (l : List Seen). Demand3 (x .plan) l (λ d. reply d b .number) (c .solution)) (sym (k .logged))
           (demand-numbers (x .plan) (log cs (loaded (x .plan))) (nextNumber (x .plan) cs) (λ d. reply d b .number) (c .solution) (next-number (x .plan) cs (x .seen) b k) (c .demand3));
       canRest = rest (rest-reached (x .plan) keep (omega arith) cs (k .typed));
+      missed = λ s h.
+          let l = final-length (x .plan) cs in
+          next-counts (x .plan) cs (x .seen) b k s ∙ c .demand2 .missed s h
+          ∙ ap₂ (λ (l : List Seen) (y : ℕ). missedAs (eqnAt (declaredPlan (x .plan)) s) (readingsSeen l) (c .solution) s y) (sym (k .logged)) (sym (next-bound (x .plan) cs (x .seen) b k s (omega arith)));
+      noStream = λ s h. next-counts (x .plan) cs (x .seen) b k s ∙ absent-stream (final (x .plan) cs) s (let l = final-length (x .plan) cs in omega arith);
       textBack = λ lent. kept-text (x .plan) cs (x .seen) b k lent ∙ ap (λ (w : List ℕ). given w lent) text;
       never15 = λ d q. call-15 d (final (x .plan) cs) (next-number (x .plan) cs (x .seen) b k d ∙ q);
     }

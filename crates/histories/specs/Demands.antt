@@ -1,8 +1,9 @@
 -- Believe: the page to read, demands 1 to 3 of any history of a lent buffer, told by what the exported calls return
--- (`loadReply`, `reply`, `planText`, `write` and `line`, to which each is promised equal). It is read with the meaning of a plan
--- (crates/meaning: Plan, Events, Table), with what a caller sees and demand 3 itself (crates/runs: Seen, Demand3), with the
--- registers where they are written to (crates/block, crates/registers), and without machine or layout.
-use Prim.Native.Nat.{ℕ, _<_}
+-- (`loadReply`, `reply`, `planText`, `missingReply`, `write` and `line`, to which each is promised equal). It is read with the meaning
+-- of a plan (crates/meaning: Plan, Events, Table, Missing), with what a caller sees and demand 3 itself (crates/runs: Seen, Demand3),
+-- with the registers where they are written to (crates/block, crates/registers), and without machine or layout, but for where a
+-- stream's bound lies (`boundIn`).
+use Prim.Native.Nat.{ℕ, _+_, _*_, _≤_, _<_}
 use mathlib.Core.Path.{_≡_}
 use mathlib.Core.Logic.{_↔_}
 use mathlib.Core.Bool.{cond, _&&_}
@@ -11,13 +12,15 @@ use mathlib.Core.List.{List, [], _∷_, _++_}
 use lib.Dec.{eqb}
 use lib.ListN.{length, getD}
 use lib.IntN.{pos}
-use Rattle.le.specs.Bytes.{Bytes}
+use Rattle.le.specs.Bytes.{Bytes, le, part}
+use Rattle.meaning.specs.Plan.{eqnAt}
 use Rattle.meaning.specs.Events.{Streams, horizon}
 use Rattle.meaning.specs.Table.{Solves}
 use Rattle.machine.specs.State.{Declared, declaredPlan}
-use Rattle.machine.specs.Calls.{Call}
+use Rattle.machine.specs.Calls.{Call, noCounts}
 use Rattle.runs.specs.Seen.{Seen, Typed, AllTyped}
 use Rattle.runs.specs.Demand3.{readingsSeen, AtRest, Demand3}
+use Rattle.runs.specs.Inside.{missedAs}
 use Rattle.runs.specs.Claim.{AllQuiet}
 use Rattle.operators.specs.Limits.{capacity}
 use Rattle.render.specs.Render.{render}
@@ -25,6 +28,7 @@ use Rattle.plan.specs.Rules.{declared}
 use Rattle.plan.specs.Taken.{KeepsRules}
 use Rattle.calls.specs.Reply.{Reply, reply, leftBy}
 use Rattle.writing.specs.Text.{given, planText}
+use Rattle.counts.specs.Missing.{missingReply}
 use Rattle.block.specs.Block.{valueIn, replyStampIn, line}
 use Rattle.registers.specs.Write.{Written, callIn, write, starts}
 use Rattle.engine.specs.Load.{loadReply}
@@ -43,6 +47,8 @@ pub record Refusals : Type 0 where
   pub ofCall : (c : Call) (s : List ℕ) → Bytes s → (reply c s .number ≡ 0 → ⊥) → LeavesAll (reply c s) s
   -- "Write the plan of a state as text into a lent buffer and give its length": of a refusal nothing is written and the length is 0
   pub ofText : (s b : List ℕ) → (planText s b .number ≡ 0 → ⊥) → (planText s b .length ≡ 0) × (planText s b .buffer ≡ b)
+  -- "A call reads the two counts of a stream.": of a refusal both are 0. The state is lent for reading alone
+  pub ofMissing : (i : ℕ) (s : List ℕ) → (missingReply i s .number ≡ 0 → ⊥) → (missingReply i s .outside ≡ 0) × (missingReply i s .divisors ≡ 0)
   -- a register write may change its block; how is in crates/registers/specs/Laws.antt
   pub ofWrite : (s b : List ℕ) (at x : ℕ) → Bytes s → (write s b at x .number ≡ 0 → ⊥) → write s b at x .state ≡ s
   pub ofLine : (b : List ℕ) → (line b .number ≡ 0 → ⊥) → line b .up ≡ 0
@@ -59,12 +65,13 @@ pub record Taking : Type 0 where
 
 -- ## A history
 
--- a load of a plan text, one of the other calls, the plan's text written into a buffer, the write of a byte at a place of a block,
--- which may hold anything, as the buffer may, or a copy put back: the bytes that the state had after so many acts
+-- a load of a plan text, one of the other calls, the plan's text written into a buffer, a stream's counts read, the write of a byte at
+-- a place of a block, which may hold anything, as the buffer may, or a copy put back: the bytes that the state had after so many acts
 pub data Act : Type 0 where
   load : List ℕ → Act
   make : Call → Act
   askText : (b : List ℕ) → Act
+  askMissing : (i : ℕ) → Act
   writeTo : (b : List ℕ) (at x : ℕ) → Act
   putBack : ℕ → Act
 
@@ -109,6 +116,7 @@ unfoldable pub acted : Act → List Point → Point → Point
 acted (load text) past p = let r = loadReply text (p .bytes) in record { bytes = r .buffer; course = courseOfLoad text r (p .course) }
 acted (make c) past p = let r = reply c (p .bytes) in record { bytes = r .buffer; course = courseOfCall c r (p .course) }
 acted (askText b) past p = p  -- the state is lent for reading alone
+acted (askMissing i) past p = p
 acted (writeTo b at x) past p = let w = write (p .bytes) b at x in record { bytes = w .state; course = courseOfWrite b at x (reply (callIn b x) (p .bytes)) w (p .course) }
 acted (putBack k) past p = getD past k p
 
@@ -125,6 +133,7 @@ abbrev pub TypedAct : Act → Type 0
 TypedAct (load text) = Unit {0}
 TypedAct (make c) = Typed c
 TypedAct (askText b) = Unit {0}
+TypedAct (askMissing i) = Unit {0}
 TypedAct (writeTo b at x) = Bytes b
 TypedAct (putBack k) = Unit {0}
 
@@ -141,6 +150,10 @@ pub record RestAhead (ds : List Declared) (b : List ℕ) : Type 0 where
   pub typed : AllTyped more
   pub rest : AtRest ds (λ c. reply c (leftBy b more) .number)
 
+-- the bound of stream s, as it lies in the bytes: 16 to 23 of its record
+abbrev pub boundIn : List ℕ → ℕ → ℕ
+boundIn b s = le (part b (s * 256 + 16) 8)
+
 pub record Demands (x : Course) (b : List ℕ) : Type 1 where
   -- the plan keeps the written rules
   pub rules : KeepsRules (capacity (length b)) (x .plan)
@@ -151,6 +164,10 @@ pub record Demands (x : Course) (b : List ℕ) : Type 1 where
   -- demand 3 of that solution
   pub demand3 : Demand3 (x .plan) (x .seen) (λ c. reply c b .number) solution
   pub canRest : RestAhead (x .plan) b
+  -- the two counts of each stream "equal the number of such stamps below the stream's bound, up to that limit, whatever the order
+  -- of moves", of that solution; "Reading a stream that isn't there gives 11."
+  pub missed : (s : ℕ) → s < length (x .plan) → missingReply s b ≡ missedAs (eqnAt (declaredPlan (x .plan)) s) (readingsSeen (x .seen)) solution s (boundIn b s)
+  pub noStream : (s : ℕ) → length (x .plan) ≤ s → missingReply s b ≡ noCounts 11
   -- "any text that load takes comes back byte for byte. Bytes after the text stay."
   pub textBack : (lent : List ℕ) → planText b lent ≡ given (x .text) lent
   -- "No state left by load and the calls is refused 15."

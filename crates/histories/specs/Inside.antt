@@ -5,7 +5,7 @@ use mathlib.Core.Option.{Option, none, some}
 use mathlib.Core.List.{List, map}
 use lib.ListN.{length}
 use Rattle.machine.specs.State.{Declared, loaded}
-use Rattle.machine.specs.Calls.{Call, call}
+use Rattle.machine.specs.Calls.{Call, call, missing}
 use Rattle.runs.specs.Seen.{Seen}
 use Rattle.runs.specs.History.{log}
 use Rattle.runs.specs.Claim.{final, Claim}
@@ -13,6 +13,7 @@ use Rattle.operators.specs.Limits.{capacity}
 use Rattle.encoding.specs.View.{bytesOf}
 use Rattle.plan.specs.Taken.{KeepsRules}
 use Rattle.calls.specs.Reply.{replyOf, reply}
+use Rattle.counts.specs.Missing.{missingReply}
 use Rattle.histories.specs.Demands.{Course}
 
 -- the calls of a list
@@ -27,6 +28,8 @@ pub record Inside (ds : List Declared) (cs : List Call) (seen : List Seen) (b : 
   pub logged : seen ≡ log cs (loaded ds)
   -- the next call is answered from that state
   pub answers : (c : Call) → reply c b ≡ replyOf (length b) (call c (final ds cs))
+  -- and so are the counts of each stream
+  pub counts : (s : ℕ) → missingReply s b ≡ missing s (final ds cs)
   -- demands 2 and 3 of these calls
   pub claim : Claim ds cs
 

@@ -3,8 +3,9 @@ use Prim.Native.Nat.{ℕ}
 use mathlib.Core.Path.{_≡_}
 use mathlib.Core.List.{List, []}
 use lib.ListN.{length, getD, replicate}
-use Rattle.machine.specs.Calls.{Call, reading, progress, moving, running, collecting}
+use Rattle.machine.specs.Calls.{Call, reading, progress, moving, running, collecting, noCounts}
 use Rattle.calls.specs.Reply.{plain, notState, reply}
+use Rattle.counts.specs.Missing.{missingReply}
 use Rattle.engine.specs.Load.{loadReply}
 
 -- so many bytes, each 0
@@ -27,5 +28,7 @@ pub record NoPlan (size : ℕ) : Type 0 where
   pub textAlone : (text s : List ℕ) → length s ≡ size → loadReply text s ≡ plain 0 (zeros size) → text ≡ []
   -- every call leaves the zeros, and all its results are 0
   pub answers : (c : Call) → reply c (zeros size) ≡ plain (answer c) (zeros size)
+  -- no stream is there to have counts
+  pub counts : (i : ℕ) → missingReply i (zeros size) ≡ noCounts 11
   -- any other bytes that begin with 0 are no state: 15
   pub zerosAlone : (c : Call) (s : List ℕ) → length s ≡ size → getD s 0 0 ≡ 0 → (s ≡ zeros size → ⊥) → reply c s ≡ notState s

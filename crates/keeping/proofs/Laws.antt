@@ -14,7 +14,7 @@ use Rattle.machine.specs.Reach.{valueAt}
 use Rattle.machine.specs.Step.{later, absorb}
 use Rattle.layout.specs.Record.{Raw, headWidths, withNum, flagF, priorFlagF, keptF, valueF, priorF}
 use Rattle.layout.proofs.Laws.{RawOk, num-ok}
-use Rattle.encoding.specs.View.{flagOf, bitsOf, keptNums, rawOf, ofCell}
+use Rattle.encoding.specs.View.{flagOf, bitsOf, keptNums, countsWord, rawOf, ofCell}
 use Rattle.streams.specs.Look.{argCell}
 use Rattle.streams.proofs.Laws.{keeps}
 use Rattle.keeping.specs.Keep.{movedCell, valueKept, delayKept, signalKept, keptRow}
@@ -94,18 +94,18 @@ module _ (k : Kept) (r : Raw) where
 
 -- ---- a cell's record with other kept data is the record of the cell with them
 
-row-of : (k j : Kept) (w : Passed) (e : Eqn) (out : Bool) (y : ℕ) (es : List Event) (n : ℕ) → keptRow e k (rawOf e out y es n (keptNums e j w)) ≡ rawOf e out y es n (keptNums e k w)
+row-of : (k j : Kept) (w : Passed) (e : Eqn) (out : Bool) (y : ℕ) (es : List Event) (n z : ℕ) → keptRow e k (rawOf e out y es n (keptNums e j w) z) ≡ rawOf e out y es n (keptNums e k w) z
 unfolding keptRow
-row-of k j w input out y es n = refl
-row-of k j w nil out y es n = refl
-row-of k j w unit out y es n = refl
-row-of k j w (one f a) out y es n = refl
-row-of k j w (two g a b) out y es n = refl
-row-of k j w (last a b) out y es n = refl
-row-of k j w (delay a b) out y es n = refl
-row-of k j w (signal c a b) out y es n = refl
-row-of k j w (window f m a) out y es n = refl
+row-of k j w input out y es n z = refl
+row-of k j w nil out y es n z = refl
+row-of k j w unit out y es n z = refl
+row-of k j w (one f a) out y es n z = refl
+row-of k j w (two g a b) out y es n z = refl
+row-of k j w (last a b) out y es n z = refl
+row-of k j w (delay a b) out y es n z = refl
+row-of k j w (signal c a b) out y es n z = refl
+row-of k j w (window f m a) out y es n z = refl
 
 pub kept-cell : (k : Kept) (c : Cell) → keptRow (c .eqn) k (ofCell c) ≡ ofCell (withKept k c)
 unfolding ofCell
-kept-cell k c = row-of k (c .kept) (c .passed) (c .eqn) (c .out) (c .bound) (c .held) (c .next)
+kept-cell k c = row-of k (c .kept) (c .passed) (c .eqn) (c .out) (c .bound) (c .held) (c .next) (countsWord (c .passed))

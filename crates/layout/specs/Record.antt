@@ -90,9 +90,9 @@ valueF = 12
 abbrev pub priorF : ℕ
 priorF = 13
 
--- unused
-abbrev pub lastF : ℕ
-lastF = 14
+-- the counts of missing events: outside the range in the lower four bytes, of zero divisors in the upper four
+abbrev pub countsF : ℕ
+countsF = 14
 
 -- a number of the head, and the record with another one there
 abbrev pub num : ℕ → Raw → ℕ

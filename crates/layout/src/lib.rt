@@ -50,8 +50,8 @@ pub const KEPT: usize = 3;
 pub const VALUE: usize = 4;
 // A delay's prior.
 pub const PRIOR: usize = 5;
-// Unused.
-pub const REST: usize = 6;
+// The counts of missing events: outside the range in the lower four bytes, of zero divisors in the upper four.
+pub const COUNTS: usize = 6;
 
 // Record i of a state.
 pub fn row_at(state: &[u8], i: usize) -> &[u8]

@@ -1,8 +1,9 @@
-// The limits of bounds and queues, each named once, with the type it belongs to. (A plan's are in `operators`.)
+// The limits of bounds, queues and counts, each named once, with the type it belongs to. (A plan's are in `operators`.)
 ghost use mathlib.Core.Path.{_≡_};
 ghost use Prim.Native.Nat.{_+_, _≤_, min, max};
 ghost use lib.Dec.{leb};
 ghost use Rattle.meaning.specs.Events.{horizon};
+ghost use Rattle.meaning.specs.Missing.{countLimit};
 ghost use Rattle.machine.specs.State.{room};
 
 // How far a stream is known: all its events at stamps below the bound are.
@@ -90,5 +91,33 @@ impl Queue {
             return self.count as usize;
         }
         Queue::ROOM as usize
+    }
+}
+
+// At how many stamps an event was missing: it stops at the limit.
+pub struct Count {
+    pub number: u64,
+}
+
+impl Count {
+    // The greatest count: four bytes hold it.
+    pub const LIMIT: u64 = 4294967295;
+
+    // A count as it is stored.
+    pub fn new(number: u64) -> Count
+        ensures { λ r. ⌜ r .number ≡ number ⌝ }
+    {
+        Count { number }
+    }
+
+    // The count with so many more.
+    pub fn plus(self, more: u64) -> u64
+        requires { ⌜ self .number ≤ countLimit ⌝ }
+        ensures { λ r. ⌜ (r ≡ min countLimit (self .number + more)) × (r ≤ countLimit) ⌝ }
+    {
+        if Count::LIMIT - self.number < more {
+            return Count::LIMIT;
+        }
+        self.number + more
     }
 }

@@ -8,8 +8,9 @@ use lib.Dec.{T}
 use lib.ListN.{length}
 use Rattle.meaning.specs.Plan.{Eqn, input, nil, unit, one, two, last, delay, signal, window, isInput, Plan}
 use Rattle.meaning.specs.Cycle.{Acyclic}
-use Rattle.machine.specs.State.{Declared, noKept, noPassed, fresh, loaded, cellAt, planOf, declaredPlan}
-use Rattle.encoding.specs.Sound.{IsNext, IsKept, IsPassed, SoundCell, Own, Sound}
+use Rattle.meaning.specs.Missing.{Reason, outside, divisor, canLack}
+use Rattle.machine.specs.State.{Declared, noKept, noPassed, countOf, fresh, loaded, cellAt, planOf, declaredPlan}
+use Rattle.encoding.specs.Sound.{IsNext, IsKept, IsPassed, IsCount, SoundCell, Own, Sound}
 use Rattle.plan.specs.Taken.{StreamKeeps, Each, KeepsRules}
 use Rattle.load.proofs.Taken.{many}
 
@@ -39,6 +40,14 @@ passed-fresh (delay a b) = refl
 passed-fresh (signal c a b) = refl
 passed-fresh (window f k a) = record { few = omega arith; values = tt; fresh = λ e. refl }
 
+count-fresh : (b : Bool) → IsCount b 0 0
+count-fresh true = (omega arith, λ e. refl)
+count-fresh false = refl
+
+counts-fresh : (e : Eqn) (q : Reason) → IsCount (canLack e) 0 (countOf q noPassed)
+counts-fresh e outside = count-fresh (canLack e)
+counts-fresh e divisor = count-fresh (canLack e)
+
 no-output : (x o : Bool) → (x && o) ≡ false → T x → o ≡ false
 no-output true o e t = e
 no-output false o e t = absurd t
@@ -55,6 +64,7 @@ cell-fresh n d k = record {
   next = next-fresh (d .out);
   kept = kept-fresh (d .eqn);
   passed = passed-fresh (d .eqn);
+  counts = counts-fresh (d .eqn);
 }
 
 cell-at : (n : ℕ) (ds : List Declared) → Each n ds → (i : ℕ) → i < length ds → SoundCell n (cellAt (map fresh ds) i)

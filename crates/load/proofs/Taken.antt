@@ -80,7 +80,7 @@ kept-fresh (window f k a) = refl
 
 fresh-plain : (d : Declared) → ofCell (fresh d) ≡ plain (numberOf (d .eqn)) (argA (d .eqn)) (argB (d .eqn)) (flag (d .out)) (ofZ w64 (valueOf (d .eqn)))
 unfolding ofCell padTo
-fresh-plain d = ap (λ (k : KeptNums). rawOf (d .eqn) (d .out) 0 [] 0 k) (kept-fresh (d .eqn))
+fresh-plain d = ap (λ (k : KeptNums). rawOf (d .eqn) (d .out) 0 [] 0 k 0) (kept-fresh (d .eqn))
 
 out-flag : (o : ℕ) → o ≤ 1 → o % 256 ≡ flag (eqb o 1)
 out-flag zero h = refl

@@ -7,6 +7,7 @@ use lib.ListN.{getD}
 use lib.IntN.{ℤ}
 use Rattle.meaning.specs.Plan.{Eqn, nil, Plan}
 use Rattle.meaning.specs.Events.{Event}
+use Rattle.meaning.specs.Missing.{Reason, outside, divisor}
 
 -- "16 held events": a stream that holds 16 events takes no more
 abbrev pub room : ℕ
@@ -25,10 +26,13 @@ pub record Kept : Type 0 where
   -- of a delay: a's event just below the bound, if known
   pub prior : Option ℤ
 
--- What a window keeps of the stamps that its own moves have passed
+-- What a stream keeps of the stamps that its own moves have passed
 pub record Passed : Type 0 where
-  -- the values of a's latest events below the bound, k at most, oldest first
+  -- of a window: the values of a's latest events below the bound, k at most, oldest first
   pub window : List ℤ
+  -- at how many stamps an event is missing because its result is outside the range, and because the divisor is zero
+  pub outside : ℕ
+  pub divisors : ℕ
 
 -- A stream of the state
 pub record Cell : Type 0 where
@@ -51,7 +55,19 @@ abbrev pub noKept : Kept
 noKept = record { prev = none; prevB = none; since = 0; value = none; prior = none }
 
 abbrev pub noPassed : Passed
-noPassed = record { window = [] }
+noPassed = record { window = []; outside = 0; divisors = 0 }
+
+-- the count of a reason
+abbrev pub countOf : Reason → Passed → ℕ
+countOf outside w = w .outside
+countOf divisor w = w .divisors
+
+-- another window, and other counts
+abbrev pub withWindow : List ℤ → Passed → Passed
+withWindow xs w = record { window = xs; outside = w .outside; divisors = w .divisors }
+
+abbrev pub withCounts : (Reason → ℕ) → Passed → Passed
+withCounts n w = record { window = w .window; outside = n outside; divisors = n divisor }
 
 -- what is kept with another field
 abbrev pub withPrev : Option ℤ → Kept → Kept
@@ -101,7 +117,7 @@ cellAt M s = getD M s absent
 abbrev pub planOf : State → Plan
 planOf M = map (λ c. c .eqn) M
 
--- the cell with another bound, other held events, another mark of collection, other kept data, another window
+-- the cell with another bound, other held events, another mark of collection, other kept data, other passed stamps
 abbrev pub withBound : ℕ → Cell → Cell
 withBound y c = record { eqn = c .eqn; out = c .out; bound = y; held = c .held; next = c .next; kept = c .kept; passed = c .passed }
 

@@ -10,26 +10,48 @@ use Rattle.meaning.specs.Plan.{Eqn, input, nil, unit, one, two, last, delay, si
 use Rattle.meaning.specs.Arguments.{reads, argA, argB}
 use Rattle.meaning.specs.Events.{Event, ev, horizon}
 use Rattle.meaning.specs.Table.{width}
-use Rattle.machine.specs.State.{Kept, Passed, Cell, State, cellAt, room, withBound, withHeld, withKept, withPassed, withPrev, withPrevB, withSince, withValue, withPrior}
+use Rattle.meaning.specs.Missing.{Said, one-says, two-says, signal-says, window-says, saidFor, tally, countLimit}
+use Rattle.machine.specs.State.{Kept, Passed, Cell, State, cellAt, room, withBound, withHeld, withKept, withPassed, withPrev, withPrevB, withSince, withValue, withPrior, countOf, withWindow, withCounts}
 use Rattle.machine.specs.Reach.{view, pastLatest, valueAt, heldLatest, slid, Next, event, silent, decide}
 
 -- ---- Write: the bound goes to y, with the new events below it; own kept data follows
 
--- what a window keeps once its bound goes on to y: a's events from its bound on and below y come to what it kept. This
--- looks at the cell as it was, with the bound before the step.
-abbrev pub pass : Eqn → ℕ → (o a : Cell) → Passed
-pass input y o a = o .passed
-pass nil y o a = o .passed
-pass unit y o a = o .passed
-pass (one f _) y o a = o .passed
-pass (two g _ _) y o a = o .passed
-pass (last _ _) y o a = o .passed
-pass (delay _ _) y o a = o .passed
-pass (signal c _ _) y o a = o .passed
-pass (window f k _) y o a = record { window = slid (width k) (o .bound) y (o .passed .window) (view a) }
+-- what an equation has to say at t, from its bound on: on the held events and what is kept. One that has a value for whatever it
+-- works on is not asked.
+abbrev pub hears : Eqn → (o a b : Cell) → ℕ → Said
+hears input o a b t = none
+hears nil o a b t = none
+hears unit o a b t = none
+hears (one f _) o a b t = one-says f t (view a t)
+hears (two g _ _) o a b t = two-says g (view a t) (view b t)
+hears (last _ _) o a b t = none
+hears (delay _ _) o a b t = none
+hears (signal c _ _) o a b t = signal-says c (view a t) (view b t) (heldLatest a (suc t) (o .kept .prev)) (heldLatest b (suc t) (o .kept .prevB))
+hears (window f k _) o a b t = window-says f (view a t) (slid (width k) (o .bound) (suc t) (o .passed .window) (view a))
+
+-- n, and one for each stamp from y on and below x that passes the test: "each count stopping at 4,294,967,295"
+abbrev pub counted : ℕ → (ℕ → Bool) → (y x : ℕ) → ℕ
+counted n f y x = min countLimit (n + tally (λ t. leb y t && f t) x)
+
+-- the counts once the bound goes on to y: the stamps from the bound on and below y come to what was counted
+abbrev pub counts : Eqn → ℕ → (o a b : Cell) → Passed
+counts e y o a b = withCounts (λ q. counted (countOf q (o .passed)) (λ t. saidFor q (hears e o a b t)) (o .bound) y) (o .passed)
+
+-- what is kept of the passed stamps once the bound goes on to y: the counts, and of a window a's events from its bound on and
+-- below y, which come to what it kept. This looks at the cell as it was, with the bound before the step.
+abbrev pub pass : Eqn → ℕ → (o a b : Cell) → Passed
+pass input y o a b = o .passed
+pass nil y o a b = o .passed
+pass unit y o a b = o .passed
+pass (one f c) y o a b = counts (one f c) y o a b
+pass (two g c d) y o a b = counts (two g c d) y o a b
+pass (last _ _) y o a b = o .passed
+pass (delay _ _) y o a b = o .passed
+pass (signal g c d) y o a b = counts (signal g c d) y o a b
+pass (window f k c) y o a b = withWindow (slid (width k) (o .bound) y (o .passed .window) (view a)) (counts (window f k c) y o a b)
 
 abbrev pub passes : ℕ → ℕ → State → Passed
-passes s y M = let o = cellAt M s in pass (o .eqn) y o (cellAt M (argA (o .eqn)))
+passes s y M = let o = cellAt M s in pass (o .eqn) y o (cellAt M (argA (o .eqn))) (cellAt M (argB (o .eqn)))
 
 abbrev pub advance : ℕ → List Event → Passed → Cell → Cell
 advance y new w c = withPassed w (withHeld (c .held ++ new) (withBound y c))

@@ -6,6 +6,7 @@ pub mod Induction
 pub mod Clear
 pub mod Free
 pub mod Causal
+pub mod Missing
 pub mod Unique
 pub mod Exists
 pub mod Within

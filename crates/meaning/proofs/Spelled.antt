@@ -6,7 +6,7 @@
 use mathlib.Core.Path.{_≡_, refl, sym, _∙_, ap, ap₂}
 use mathlib.Core.Option.{Option, none, some}
 use mathlib.Core.List.{List, [], _∷_}
-use Prim.Native.Nat.{ℕ, zero, suc, _+_, _-_, _≤_, _<_}
+use Prim.Native.Nat.{ℕ, zero, suc, _+_, _-_, _≤_, _<_, min}
 use native.Mathlib.Nat.{lt-suc-self}
 use native.Mathlib.Omega.{arith}
 use native.Mathlib.Decide.{decLt}
@@ -18,11 +18,13 @@ use Rattle.meaning.specs.Plan.{Calc, calc, Eqn, input, nil, unit, one, t
 use Rattle.meaning.specs.Arguments.{reads, undelayed, Each, AllBelow}
 use Rattle.meaning.specs.Events.{Stream, Streams, orElse}
 use Rattle.meaning.specs.Table.{two-at, latest, last-at, signal-at, delay-at, at, Solves}
+use Rattle.meaning.specs.Missing.{two-says, signal-says, says, Reason, saidFor, countLimit, countBelow}
 use Rattle.meaning.specs.Cycle.{Leads, Acyclic}
 use Rattle.meaning.specs.Spelled.{four, operation, spelled, merged, extra, appended, firstOnly, MeansSpelled}
 use Rattle.meaning.proofs.Tests.{Is, yes!, no!, look, true-is, false-is}
 use Rattle.meaning.proofs.Each.{each-map, each-of, each-at, each-all}
 use Rattle.meaning.proofs.Causal.{SameBelow, latest-cong, events-cong, fires-cong, at-cong}
+use Rattle.meaning.proofs.Missing.{tally-cong}
 use Rattle.meaning.proofs.Within.{undelayed-read}
 use Rattle.meaning.proofs.Clear.{clear, clear-args, args-clear, clear-suc, clear-beyond, clear-acyclic}
 use Rattle.meaning.proofs.Ways.{acyclic-clear}
@@ -33,6 +35,17 @@ unfolding latest signal-at last-at two-at
 signal-row c f g t = go (f t) (g t) (latest f t) (latest g t)
   where
     go : (u w x y : Option ℤ) → signal-at c u w (orElse u x) (orElse w y) ≡ two-at (calc c) (orElse u (last-at w x)) (orElse w (last-at u y))
+    go none none x y = refl
+    go none (some w) x y = refl
+    go (some u) none x y = refl
+    go (some u) (some w) x y = refl
+
+-- where an event is missing the reason is the same
+pub signal-said : (c : Calc) (f g : Stream) (t : ℕ) → signal-says c (f t) (g t) (latest f (suc t)) (latest g (suc t)) ≡ two-says (calc c) (merged f g t) (merged g f t)
+unfolding latest signal-says two-says last-at two-at
+signal-said c f g t = go (f t) (g t) (latest f t) (latest g t)
+  where
+    go : (u w x y : Option ℤ) → signal-says c u w (orElse u x) (orElse w y) ≡ two-says (calc c) (orElse u (last-at w x)) (orElse w (last-at u y))
     go none none x y = refl
     go none (some w) x y = refl
     go (some u) none x y = refl
@@ -62,6 +75,12 @@ module _ (n a b : ℕ) (S : Streams) where
   app-new k =
       let e : n + k - n ≡ k = omega arith in
       rw (false-is (ltb (n + k) n) (not-T (ltb (n + k) n) (λ h. let l = ltb→lt (n + k) n h in absurd (omega arith))), e)
+
+-- so the counts of the two are the same
+pub signal-counts : (q : Reason) (c : Calc) (n a b : ℕ) (rd S : Streams) (s y : ℕ) → countBelow q (signal c a b) rd S s y ≡ countBelow q (operation n c) rd (appended n a b S) s y
+unfolding countBelow says
+signal-counts q c n a b rd S s y =
+    ap (min countLimit) (tally-cong _ _ y (λ t l. rw (app-new n a b S 1, app-new n a b S 3) (ap (saidFor q) (signal-said c (S a) (S b) t))))
 
 pub only-old : (n : ℕ) (S : Streams) (i : ℕ) → i < n → firstOnly n S i ≡ S i
 only-old n S i l = rw (true-is (ltb i n) (lt→ltb i n l))

@@ -1,4 +1,4 @@
--- Cases: plans with readings, and the events that a stream of each must have.
+-- Cases: plans with readings, the events that a stream of each must have, and how many are missing.
 use Prim.Native.Nat.{ℕ}
 use mathlib.Core.Bool.{Bool, true, false}
 use mathlib.Core.List.{List, [], _∷_}
@@ -6,6 +6,7 @@ use lib.ListN.{getD}
 use lib.IntN.{ℤ, pos, negsuc}
 use Rattle.meaning.specs.Plan.{Unary, time, neg, set, plus, Calc, add, sub, mul, div, rem, lt, le, eq, Binary, calc, keep, merge, input, nil, unit, one, two, last, delay, signal, window, Fold, wsum, wmin, wmax, Plan}
 use Rattle.meaning.specs.Events.{Event, ev, Streams, found}
+use Rattle.meaning.specs.Missing.{Reason, outside, divisor}
 
 pub record Case : Type 0 where
   pub plan : Plan
@@ -150,6 +151,46 @@ unfoldable pub beginnings : List Case
 beginnings =
     -- a delay that sets itself again at its own firing
     case ticking [] 3 40 (ev 7 (pos 0) ∷ ev 14 (pos 0) ∷ ev 21 (pos 0) ∷ ev 28 (pos 0) ∷ ev 35 (pos 0) ∷ [])
+    ∷ []
+
+-- Cases in which an event may be missing below `until`, and at how many stamps for each of the two reasons
+pub record Gap : Type 0 where
+  pub case : Case
+  pub outside : ℕ
+  pub divisors : ℕ
+
+abbrev pub gap : Case → (outside divisors : ℕ) → Gap
+gap c o d = record { case = c; outside = o; divisors = d }
+
+abbrev pub lacking : Reason → Gap → ℕ
+lacking outside g = g .outside
+lacking divisor g = g .divisors
+
+unfoldable pub gaps : List Gap
+gaps =
+    -- "Where both could be said, the zero divisor is": the least value by 0. By −1 its quotient is outside the range, its
+    -- remainder 0.
+    gap (binary (calc div) (ev 0 least ∷ ev 1 least ∷ ev 2 (pos 6) ∷ []) (ev 0 (pos 0) ∷ ev 1 (negsuc 0) ∷ ev 2 (pos 2) ∷ []) (ev 2 (pos 3) ∷ [])) 1 1
+    ∷ gap (binary (calc rem) (ev 0 least ∷ ev 1 least ∷ []) (ev 0 (pos 0) ∷ ev 1 (negsuc 0) ∷ []) (ev 1 (pos 0) ∷ [])) 0 1
+    ∷ gap (signaled div (ev 1 least ∷ []) (ev 1 (pos 0) ∷ ev 3 (pos 0) ∷ ev 4 (negsuc 0) ∷ []) []) 1 2
+    ∷ gap (signaled rem (ev 1 least ∷ []) (ev 1 (pos 0) ∷ ev 4 (negsuc 0) ∷ []) (ev 4 (pos 0) ∷ [])) 0 1
+    -- the rest of the arithmetic
+    ∷ gap (unary (plus (negsuc 0)) (ev 2 least ∷ ev 3 (pos 7) ∷ []) (ev 3 (pos 6) ∷ [])) 1 0
+    ∷ gap (unary neg (ev 2 least ∷ ev 3 greatest ∷ []) (ev 3 (negsuc 9223372036854775806) ∷ [])) 1 0
+    ∷ gap (binary (calc sub) (ev 0 least ∷ ev 1 greatest ∷ []) (ev 0 (pos 1) ∷ ev 1 (pos 1) ∷ []) (ev 1 (pos 9223372036854775806) ∷ [])) 1 0
+    ∷ gap (windowed wsum 2 (ev 1 greatest ∷ ev 2 (pos 1) ∷ ev 3 (negsuc 4) ∷ []) (ev 1 greatest ∷ ev 3 (negsuc 3) ∷ [])) 1 0
+    -- a signal form counts where either argument has an event, not between; spelled out it counts the same
+    ∷ gap (signaled mul (ev 1 greatest ∷ ev 4 (pos 1) ∷ []) (ev 2 (pos 2) ∷ ev 3 (pos 3) ∷ []) (ev 4 (pos 3) ∷ [])) 2 0
+    ∷ gap (case besideSpelled ((ev 3 greatest ∷ []) ∷ (ev 5 (pos 1) ∷ ev 9 (pos 2) ∷ []) ∷ []) 2 12 []) 2 0
+    ∷ gap (case besideSpelled ((ev 3 greatest ∷ []) ∷ (ev 5 (pos 1) ∷ ev 9 (pos 2) ∷ []) ∷ []) 7 12 []) 2 0
+    -- where there is nothing to work on, nothing is counted: one argument alone; an argument whose own event is missing
+    ∷ gap (binary (calc div) (ev 1 (pos 5) ∷ []) (ev 2 (pos 0) ∷ []) []) 0 0
+    ∷ gap (case (input ∷ one (plus (pos 1)) 0 ∷ one (plus (pos 1)) 1 ∷ []) ((ev 1 greatest ∷ ev 2 (pos 9223372036854775806) ∷ []) ∷ []) 2 4 []) 1 0
+    -- a comparison always has a value; the others that may have no event are not arithmetic
+    ∷ gap (binary (calc lt) (ev 1 least ∷ []) (ev 1 greatest ∷ []) (ev 1 (pos 1) ∷ [])) 0 0
+    ∷ gap (signaled eq (ev 1 least ∷ []) (ev 2 greatest ∷ []) (ev 2 (pos 0) ∷ [])) 0 0
+    ∷ gap (windowed wmin 2 (ev 1 least ∷ ev 2 least ∷ []) (ev 1 least ∷ ev 2 least ∷ [])) 0 0
+    ∷ gap (binary keep (ev 1 (pos 6) ∷ []) (ev 1 (pos 0) ∷ []) []) 0 0
     ∷ []
 
 -- Plans, and whether the cycle test takes them

@@ -2,6 +2,7 @@ pub mod Plan
 pub mod Arguments
 pub mod Events
 pub mod Table
+pub mod Missing
 pub mod Cycle
 pub mod CycleTest
 pub mod Meaning

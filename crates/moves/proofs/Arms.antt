@@ -38,7 +38,7 @@ no-window (Delay a b) h = refl
 no-window (Signal g a b) h = refl
 no-window (Window f k a) h = absurd (miss others 8 tt h)
 
-plain-is : (o : Op) → Other o → plain o ≡ equation o
+pub plain-is : (o : Op) → Other o → plain o ≡ equation o
 plain-is In h = refl
 plain-is Nil h = refl
 plain-is Unit h = refl

@@ -14,7 +14,7 @@ use Rattle.meaning.specs.Plan.{Eqn, input, nil, unit, one, two, last, delay, si
 use Rattle.meaning.specs.Arguments.{reads}
 use Rattle.meaning.specs.Events.{Event, horizon}
 use Rattle.meaning.specs.Table.{latestOf, values}
-use Rattle.machine.specs.State.{room, Kept}
+use Rattle.machine.specs.State.{room, Kept, Cell}
 use Rattle.machine.specs.Reach.{Next, event, silent}
 use Rattle.machine.specs.Step.{dropBelow, absorb}
 use Rattle.machine.specs.Windows.{takeBelow}
@@ -38,7 +38,8 @@ use Rattle.readers.specs.Step.{toldRow, leastRow, waitingRow, releasedRow}
 use Rattle.queue.proofs.Drops.{push-ok}
 use Rattle.readers.proofs.Leaves.{told-ok}
 use Rattle.sliding.specs.Slide.{widthIn, placeOf, wordsIn, slidWords, slidRow}
-use Rattle.moves.specs.Move.{argIn, ownIn, otherIn, slidRaw, keptRaw, absorbedRaw, releasedArgs, aheadRaw, boundRaw, releasedAll, silentRaw, eventRaw, stepRaw}
+use Rattle.moves.specs.Move.{argIn, ownIn, otherIn, slidRaw, countedRaw, passedRaw, keptRaw, absorbedRaw, releasedArgs, aheadRaw, boundRaw, releasedAll, silentRaw, eventRaw, stepRaw}
+use Rattle.moves.proofs.Counts.{counted-own, counted-ok}
 use Rattle.moves.proofs.Fits.{KeptFits, look-holds, look-kept, absorb-fits, kept-ok}
 
 -- ---- an equation that keeps nothing
@@ -217,18 +218,37 @@ slid-same n i e y x st l q = go (isWindowEqn e) refl
         kept-none r e q k
         ∙ sym (ap (λ (u : Raw). lookOf u .kept) (getD-set-same (st .rows) i (withNum flagF v r) noRaw l) ∙ kept-none (withNum flagF v r) e (q ∙ sym (fill-eqn v r)) k)
 
+-- and what is counted first leaves what is looked at
 module _ (n i : ℕ) (hi : i < n) where
-  pub slid-kept : (s₁ s : List ℕ) → Bytes s → (x : ℕ) → s₁ ≡ encode n (slidRaw n i (ownIn i (decode n s) .eqn) (ownIn i (decode n s) .bound) x (decode n s)) → ownIn i (decode n s) .kept ≡ ownIn i (decode n s₁) .kept
-  slid-kept s₁ s b x e =
-      let st = decode n s in
-      let o = ownIn i st in
-      let back : decode n s₁ ≡ slidRaw n i (o .eqn) (o .bound) x st = ap (decode n) e ∙ decode-encode n (slidRaw n i (o .eqn) (o .bound) x st) (slid-ok n i hi (o .eqn) (o .bound) x st (raws-ok n s b)) in
-      slid-same n i (o .eqn) (o .bound) x st (rw (rows-many n s) hi) refl ∙ ap (λ (z : Raws). ownIn i z .kept) (sym back)
+  passed-ok : (e : Eqn) (k : Kept) (y x z : ℕ) (st : Raws) → RawsOk n st → RawsOk n (passedRaw n i e k y x z st)
+  unfolding passedRaw
+  passed-ok e k y x z st ok = slid-ok n i hi e y x (countedRaw n i e k y z st) (counted-ok n i e k y z st hi ok)
 
-  pub made-is : (s : List ℕ) → Bytes s → (s₁ s₂ : List ℕ) (x : ℕ) → s₁ ≡ encode n (slidRaw n i (ownIn i (decode n s) .eqn) (ownIn i (decode n s) .bound) x (decode n s))
-      → (let o = ownIn i (decode n s) in s₂ ≡ encode n (stepRaw n i (o .eqn) (o .kept) (aheadRaw n i (decode n s)) (num countF (rowAt (decode n s) i)) (decode n s₁)))
-      → (let o = ownIn i (decode n s) in s₂ ≡ encode n (stepRaw n i (o .eqn) (o .kept) (aheadRaw n i (decode n s)) (num countF (rowAt (decode n s) i)) (slidRaw n i (o .eqn) (o .bound) x (decode n s))))
-  made-is s b s₁ s₂ x e₁ e₂ =
-      let st = decode n s in
-      let o = ownIn i st in
-      whole-then n s s₁ s₂ (λ z. slidRaw n i (o .eqn) (o .bound) x z) (stepRaw n i (o .eqn) (o .kept) (aheadRaw n i st) (num countF (rowAt st i))) e₁ (slid-ok n i hi (o .eqn) (o .bound) x st (raws-ok n s b)) e₂
+  passed-same : (e : Eqn) (k : Kept) (y x z : ℕ) (st : Raws) → RawsOk n st → e ≡ ownIn i st .eqn → ownIn i st .kept ≡ ownIn i (passedRaw n i e k y x z st) .kept
+  unfolding passedRaw
+  passed-same e k y x z st ok q =
+      let o = counted-own n i e k y z st (rw (ok .many) hi) in
+      sym (ap (λ (c : Cell). c .kept) o)
+      ∙ slid-same n i e y x (countedRaw n i e k y z st) (rw (counted-ok n i e k y z st hi ok .many) hi) (q ∙ sym (ap (λ (c : Cell). c .eqn) o))
+
+  -- the two steps before the bound is stored
+  pub passed-is : (e : Eqn) (k : Kept) (y x z : ℕ) (s s₁ s₂ : List ℕ) → Bytes s → s₁ ≡ encode n (countedRaw n i e k y z (decode n s)) → s₂ ≡ encode n (slidRaw n i e y x (decode n s₁)) → s₂ ≡ encode n (passedRaw n i e k y x z (decode n s))
+  unfolding passedRaw
+  passed-is e k y x z s s₁ s₂ b e₁ e₂ = whole-then n s s₁ s₂ (countedRaw n i e k y z) (slidRaw n i e y x) e₁ (counted-ok n i e k y z (decode n s) hi (raws-ok n s b)) e₂
+
+  module _ (s : List ℕ) (b : Bytes s) where
+    abbrev o : Cell
+    o = ownIn i (decode n s)
+
+    pub passed-kept : (s₁ : List ℕ) (x z : ℕ) → s₁ ≡ encode n (passedRaw n i (ownIn i (decode n s) .eqn) (ownIn i (decode n s) .kept) (ownIn i (decode n s) .bound) x z (decode n s)) → ownIn i (decode n s) .kept ≡ ownIn i (decode n s₁) .kept
+    passed-kept s₁ x z e =
+        let st = decode n s in
+        let back : decode n s₁ ≡ passedRaw n i (o .eqn) (o .kept) (o .bound) x z st = ap (decode n) e ∙ decode-encode n (passedRaw n i (o .eqn) (o .kept) (o .bound) x z st) (passed-ok (o .eqn) (o .kept) (o .bound) x z st (raws-ok n s b)) in
+        passed-same (o .eqn) (o .kept) (o .bound) x z st (raws-ok n s b) refl ∙ ap (λ (w : Raws). ownIn i w .kept) (sym back)
+
+    pub made-is : (s₁ s₂ : List ℕ) (x z : ℕ) → s₁ ≡ encode n (passedRaw n i (ownIn i (decode n s) .eqn) (ownIn i (decode n s) .kept) (ownIn i (decode n s) .bound) x z (decode n s))
+        → s₂ ≡ encode n (stepRaw n i (ownIn i (decode n s) .eqn) (ownIn i (decode n s) .kept) (aheadRaw n i (decode n s)) (num countF (rowAt (decode n s) i)) (decode n s₁))
+        → s₂ ≡ encode n (stepRaw n i (ownIn i (decode n s) .eqn) (ownIn i (decode n s) .kept) (aheadRaw n i (decode n s)) (num countF (rowAt (decode n s) i)) (passedRaw n i (ownIn i (decode n s) .eqn) (ownIn i (decode n s) .kept) (ownIn i (decode n s) .bound) x z (decode n s)))
+    made-is s₁ s₂ x z e₁ e₂ =
+        let st = decode n s in
+        whole-then n s s₁ s₂ (passedRaw n i (o .eqn) (o .kept) (o .bound) x z) (stepRaw n i (o .eqn) (o .kept) (aheadRaw n i st) (num countF (rowAt st i))) e₁ (passed-ok (o .eqn) (o .kept) (o .bound) x z st (raws-ok n s b)) e₂

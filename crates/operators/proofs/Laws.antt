@@ -10,7 +10,8 @@ use lib.ListN.{getD, List·getD-eq-default}
 use lib.IntN.{ℤ, pos}
 use Rattle.meaning.specs.Plan.{Unary, time, neg, set, plus, Calc, add, sub, mul, div, rem, lt, le, eq, Binary, calc, keep, merge, Eqn, input, nil, unit, one, two, last, delay, signal, window, Fold, wsum, wmin, wmax, isInput}
 use Rattle.meaning.specs.Arguments.{arguments, argA, argB}
-use Rattle.operators.specs.Operators.{Operator, noOperator, operators, operatorCount, calcs, calcPlace, folds, foldPlace, unaryNumber, binaryNumber, groupOf, eqnOf, numberOf, valueOf, isPresent, isIn, isLast, isDelay, isSignal, isWindow, takesFirst, takesSecond, isOperator, usesA, usesB, usesK, argumentsOf, eqnGroup}
+use Rattle.meaning.specs.Missing.{canLack}
+use Rattle.operators.specs.Operators.{Operator, noOperator, operators, operatorCount, calcs, calcPlace, folds, foldPlace, unaryNumber, binaryNumber, groupOf, eqnOf, numberOf, valueOf, lacksAt, isPresent, isIn, isLast, isDelay, isSignal, isWindow, takesFirst, takesSecond, isOperator, usesA, usesB, usesK, argumentsOf, eqnGroup}
 use Rattle.operators.specs.declared.Group.{Group}
 use Rattle.operators.specs.declared.Group.the-variants.{Absent, One, Two, Signal, Window}
 use Rattle.operators.proofs.Tests.{left, right}
@@ -285,6 +286,28 @@ value-else n h = go (usesK n) (isWindow (groupOf n)) (value-range n ∙ h) (wind
 pub value-by-group : (n : ℕ) → usesK n ≡ (hasOne (groupOf n) && usesK n)
 unfolding usesK groupOf
 value-by-group = by-row (λ o. o .value) (λ o. hasOne (o .group) && o .value) refl refl
+
+-- ---- who counts
+
+-- plus to rem, their signal forms, and wsum
+abbrev pub counting : ℕ → Bool
+counting n = (leb 6 n && leb n 12) || ((leb 20 n && leb n 24) || eqb n 28)
+
+pub lacks-range : (n : ℕ) → lacksAt n ≡ counting n
+unfolding lacksAt eqnOf
+lacks-range n = go (leb n operatorCount) refl
+  where
+    go : (b : Bool) → leb n operatorCount ≡ b → canLack (getD operators n noOperator .eqn 0 0 (pos 0)) ≡ counting n
+    go true q = let h = leb-true n operatorCount q in agree (λ m. canLack (getD operators m noOperator .eqn 0 0 (pos 0))) counting 0 31 refl n (omega arith) (omega arith)
+    go false q = let h = leb-false n operatorCount q in rw (none-above n h, lt-leb n 12 (omega arith), lt-leb n 24 (omega arith), ne-eqb n 28 (λ z. omega arith)) (sym (rw (and-false (leb 6 n), and-false (leb 20 n))))
+
+-- whatever its fields
+pub lacks-fields : (a b : ℕ) (k : ℤ) (n : ℕ) → canLack (eqnOf n a b k) ≡ lacksAt n
+unfolding lacksAt eqnOf
+lacks-fields a b k = by-row (λ o. canLack (o .eqn a b k)) (λ o. canLack (o .eqn 0 0 (pos 0))) refl refl
+
+pub lacks-of : (e : Eqn) → lacksAt (numberOf e) ≡ canLack e
+lacks-of e = sym (lacks-fields (argA e) (argB e) (valueOf e) (numberOf e)) ∙ ap canLack (eqn-back e)
 
 module _ (a b : ℕ) (k : ℤ) where
   pub number-back : (n : ℕ) → 1 ≤ n → n ≤ operatorCount → numberOf (eqnOf n a b k) ≡ n

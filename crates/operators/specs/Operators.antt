@@ -7,6 +7,7 @@ use lib.ListN.{getD}
 use lib.IntN.{ℤ, pos}
 use Rattle.meaning.specs.Plan.{Unary, time, neg, set, plus, Calc, add, sub, mul, div, rem, lt, le, eq, Binary, calc, keep, merge, Eqn, input, nil, unit, one, two, last, delay, signal, window, Fold, wsum, wmin, wmax}
 use Rattle.meaning.specs.Arguments.{Argument, prompt, late}
+use Rattle.meaning.specs.Missing.{canLack}
 use Rattle.operators.specs.declared.Group.{Group}
 use Rattle.operators.specs.declared.Group.the-variants.{Absent, Input, Plain, One, Two, Last, Delay, Signal, Window}
 
@@ -117,6 +118,11 @@ usesK n = getD operators n noOperator .value
 -- the equation with this stored number and these fields
 unfoldable pub eqnOf : ℕ → ℕ → ℕ → ℤ → Eqn
 eqnOf n a b k = getD operators n noOperator .eqn a b k
+
+-- whether an event of the operator with this stored number can be missing, so that it counts: whatever its fields are
+unfoldable pub lacksAt : ℕ → Bool
+unfolding eqnOf
+lacksAt n = canLack (eqnOf n 0 0 (pos 0))
 
 -- ---- what a group says of its operators
 

@@ -3,7 +3,7 @@ ghost use mathlib.Core.Path.{_≡_};
 ghost use mathlib.Core.Bool.{_&&_};
 ghost use lib.Dec.{eqb, ltb};
 ghost use Rattle.operators.specs.Limits.{stateLength, streamLimit, mostStreams, widthLimit, windowLimit, textLimit, capacity, countFits};
-ghost use Rattle.operators.specs.Operators.{groupOf, usesK, isPresent, isIn, isWindow, takesFirst, takesSecond, delaysFirst};
+ghost use Rattle.operators.specs.Operators.{groupOf, usesK, lacksAt, isPresent, isIn, isWindow, takesFirst, takesSecond, delaysFirst};
 ghost use Rattle.operators.specs.Rules.{valueOk, fieldsOk};
 ghost use Rattle.operators.specs.Windows.{widthOk};
 
@@ -68,6 +68,18 @@ pub fn takes_value(number: u64) -> bool
     match number {
         5..=6 => true,
         _ => is_window(number),
+    }
+}
+
+// plus to rem, their signal forms, and wsum: an event can be missing, and is counted.
+pub fn can_lack(number: u64) -> bool
+    ensures { λ r. ⌜ r ≡ lacksAt number ⌝ }
+{
+    match number {
+        6..=12 => true,
+        20..=24 => true,
+        28 => true,
+        _ => false,
     }
 }
 

@@ -16,16 +16,18 @@ use Rattle.meaning.specs.Arguments.{reads, argA, argB}
 use Rattle.meaning.specs.Events.{Event, ev, events, horizon}
 use Rattle.meaning.specs.Cycle.{Acyclic}
 use Rattle.meaning.specs.Table.{latestOf, values, width}
-use Rattle.machine.specs.State.{Kept, Passed, Cell, State, absent, cellAt, room, planOf, withBound, withHeld, withNext, withKept, withSince, withValue}
+use Rattle.meaning.specs.Missing.{Reason, canLack}
+use Rattle.machine.specs.State.{Kept, Passed, Cell, State, absent, cellAt, room, planOf, countOf, withBound, withHeld, withNext, withKept, withSince, withValue}
 use Rattle.machine.specs.Reach.{view, valueAt, from}
 use Rattle.machine.specs.Step.{pass, passes, advance, later, absorb, absorbed, write, valueTold, priorTold, sinceTold, keptTold, told, tell, leastWaiting, dropBelow, release, releases, raise}
 use Rattle.machine.proofs.Cells.{set-cases, told-at}
 use Rattle.machine.proofs.Window.{past-le}
 use Rattle.machine.proofs.Rising.{drop-shorter}
 use Rattle.machine.proofs.Release.{among, release-at, release-size, releases-at, releases-size}
-use Rattle.encoding.specs.Sound.{IsValue, Rising, IsNext, DelayKept, IsKept, IsPassed, SoundCell, Own, Sound}
+use Rattle.encoding.specs.Sound.{IsValue, Rising, IsNext, DelayKept, IsKept, IsPassed, IsCount, SoundCell, Own, Sound}
 use Rattle.preserve.proofs.Rising.{rising-top, rising-snoc, rising-drop}
 use Rattle.preserve.proofs.Own.{dropped-own, and-true, own-told, absorb-own}
+use Rattle.preserve.proofs.Counts.{pass-counts}
 use Rattle.preserve.proofs.Values.{or-value, cond-value, slid-values, held-latest, Holds, holds}
 
 -- ---- a state with the same equations, every cell sound
@@ -61,7 +63,7 @@ set-sound M s c ok l q h w =
 -- ---- let go
 
 held-sound : (n : ℕ) (c : Cell) (es : List Event) → SoundCell n c → length es ≤ room → Rising 0 (c .bound) es → SoundCell n (withHeld es c)
-held-sound n c es ok l r = record { arguments = ok .arguments; value = ok .value; width = ok .width; out = ok .out; bound = ok .bound; few = l; held = r; next = ok .next; kept = ok .kept; passed = ok .passed }
+held-sound n c es ok l r = record { arguments = ok .arguments; value = ok .value; width = ok .width; out = ok .out; bound = ok .bound; few = l; held = r; next = ok .next; kept = ok .kept; passed = ok .passed; counts = ok .counts }
 
 dropped-sound : (n w : ℕ) (c : Cell) (b : Bool) → SoundCell n c → SoundCell n (withHeld (cond b (dropBelow w (c .held)) (c .held)) c)
 dropped-sound n w c true ok = let d = drop-shorter w (c .held) in let f = ok .few in held-sound n c (dropBelow w (c .held)) ok (omega arith) (rising-drop w 0 (c .bound) (c .held) (ok .held))
@@ -129,7 +131,7 @@ module _ (y t : ℕ) (v : ℤ) (l : t < y) (hv : IsValue v) where
   kept-told (window f n a) s k ok = ok
 
 with-kept : (n : ℕ) (c : Cell) (k : Kept) → SoundCell n c → IsKept (c .eqn) (c .bound) k → SoundCell n (withKept k c)
-with-kept n c k ok h = record { arguments = ok .arguments; value = ok .value; width = ok .width; out = ok .out; bound = ok .bound; few = ok .few; held = ok .held; next = ok .next; kept = h; passed = ok .passed }
+with-kept n c k ok h = record { arguments = ok .arguments; value = ok .value; width = ok .width; out = ok .out; bound = ok .bound; few = ok .few; held = ok .held; next = ok .next; kept = h; passed = ok .passed; counts = ok .counts }
 
 told-sound : (n s t : ℕ) (v : ℤ) (c : Cell) → IsValue v → SoundCell n c → SoundCell n (told s t v c)
 unfolding told
@@ -178,8 +180,8 @@ pub comes-values : {y : ℕ} {c : Cell} {new : List Event} → Comes y c new →
 comes-values silence = tt
 comes-values (one-event t v l e h k) = (h, tt)
 
-pub advance-sound : (n y : ℕ) (c : Cell) (new : List Event) (w : Passed) → SoundCell n c → c .bound < y → y ≤ horizon → Comes y c new → IsPassed (c .eqn) y w → SoundCell n (advance y new w c)
-advance-sound n y c new w ok l h cm ps =
+pub advance-sound : (n y : ℕ) (c : Cell) (new : List Event) (w : Passed) → SoundCell n c → c .bound < y → y ≤ horizon → Comes y c new → IsPassed (c .eqn) y w → ((q : Reason) → IsCount (canLack (c .eqn)) y (countOf q w)) → SoundCell n (advance y new w c)
+advance-sound n y c new w ok l h cm ps cs =
     record {
       arguments = ok .arguments;
       value = ok .value;
@@ -191,6 +193,7 @@ advance-sound n y c new w ok l h cm ps =
       next = next-up (c .out) (c .next) (c .bound) y (omega arith) (ok .next);
       kept = kept-up (c .eqn) (c .bound) y (c .kept) (omega arith) (λ z. omega (arith, l)) (ok .kept);
       passed = ps;
+      counts = cs;
     }
   where
     room-left : {new : List Event} → Comes y c new → length (c .held ++ new) ≤ room
@@ -206,16 +209,16 @@ unfolding latestOf
 latest-few k xs = rw (length-drop (length xs - k) xs) (omega arith)
 
 -- what a window keeps follows the bound
-pass-sound : (e : Eqn) (y : ℕ) (o a : Cell) → o .bound < y → IsPassed e (o .bound) (o .passed) → Holds a → IsPassed e y (pass e y o a)
-pass-sound input y o a l ok ha = ok
-pass-sound nil y o a l ok ha = ok
-pass-sound unit y o a l ok ha = ok
-pass-sound (one f _) y o a l ok ha = ok
-pass-sound (two g _ _) y o a l ok ha = ok
-pass-sound (last _ _) y o a l ok ha = ok
-pass-sound (delay _ _) y o a l ok ha = ok
-pass-sound (signal c _ _) y o a l ok ha = ok
-pass-sound (window f k _) y o a l ok ha =
+pass-sound : (e : Eqn) (y : ℕ) (o a b : Cell) → o .bound < y → IsPassed e (o .bound) (o .passed) → Holds a → IsPassed e y (pass e y o a b)
+pass-sound input y o a b l ok ha = ok
+pass-sound nil y o a b l ok ha = ok
+pass-sound unit y o a b l ok ha = ok
+pass-sound (one f _) y o a b l ok ha = ok
+pass-sound (two g _ _) y o a b l ok ha = ok
+pass-sound (last _ _) y o a b l ok ha = ok
+pass-sound (delay _ _) y o a b l ok ha = ok
+pass-sound (signal c _ _) y o a b l ok ha = ok
+pass-sound (window f k _) y o a b l ok ha =
     record {
       few = latest-few (width k) (o .passed .window ++ values (events (from (o .bound) (view a)) y));
       values = slid-values (width k) (o .bound) y (o .passed .window) (view a) (ok .values) ha;
@@ -267,14 +270,17 @@ cell-holds M ok i = go (decLt i (length M))
     go (no h) = rw (Rattle.machine.proofs.Cells.beyond M i (omega arith)) absent-holds
 
 pub passes-sound : {cap : ℕ} (s y : ℕ) (M : State) → Sound cap M → s < length M → cellAt M s .bound < y → IsPassed (cellAt M s .eqn) y (passes s y M)
-passes-sound s y M ok l h = let o = cellAt M s in pass-sound (o .eqn) y o (cellAt M (argA (o .eqn))) h (ok .each s l .passed) (cell-holds M ok (argA (o .eqn)))
+passes-sound s y M ok l h = let o = cellAt M s in pass-sound (o .eqn) y o (cellAt M (argA (o .eqn))) (cellAt M (argB (o .eqn))) h (ok .each s l .passed) (cell-holds M ok (argA (o .eqn)))
+
+pub passes-counts : {cap : ℕ} (s y : ℕ) (M : State) → Sound cap M → s < length M → cellAt M s .bound < y → (q : Reason) → IsCount (canLack (cellAt M s .eqn)) y (countOf q (passes s y M))
+passes-counts s y M ok l h q = let o = cellAt M s in pass-counts y o (cellAt M (argA (o .eqn))) (cellAt M (argB (o .eqn))) h q (o .eqn) (ok .each s l .counts q)
 
 pub write-sound : {cap : ℕ} (s y : ℕ) (new : List Event) (M : State) → Sound cap M → s < length M → cellAt M s .bound < y → y ≤ horizon → Comes y (cellAt M s) new → Sound cap (write s y new M)
 unfolding write absorbed
 write-sound s y new M ok l h top cm =
     let c = advance y new (passes s y M) (cellAt M s) in
     let N = set M s c in
-    let fine = advance-sound (length M) y (cellAt M s) new (passes s y M) (ok .each s l) h top cm (passes-sound s y M ok l h) in
+    let fine = advance-sound (length M) y (cellAt M s) new (passes s y M) (ok .each s l) h top cm (passes-sound s y M ok l h) (passes-counts s y M ok l h) in
     let q : cellAt N s ≡ c = lib.Seq.getD-set-same M s c absent l in
     let e = c .eqn in
     let k = absorb e c (cellAt N (argA e)) (cellAt N (argB e)) in
@@ -297,7 +303,7 @@ bound-sound s y M ok l e h top =
     let c = cellAt M s in
     let k = ok .each s l in
     set-sound M s (withBound y c) ok l refl
-    (record { arguments = k .arguments; value = k .value; width = k .width; out = k .out; bound = top; few = k .few; held = rising-top 0 (c .bound) y (c .held) h (k .held); next = next-up (c .out) (c .next) (c .bound) y h (k .next); kept = rw e (rw e at (k .kept)); passed = rw e (rw e at (k .passed)) })
+    (record { arguments = k .arguments; value = k .value; width = k .width; out = k .out; bound = top; few = k .few; held = rising-top 0 (c .bound) y (c .held) h (k .held); next = next-up (c .out) (c .next) (c .bound) y h (k .next); kept = rw e (rw e at (k .kept)); passed = rw e (rw e at (k .passed)); counts = λ q. rw e (rw e at (k .counts q)) })
     (λ d. absurd (rw e at d))
 
 -- a mark of collection
@@ -306,5 +312,5 @@ next-sound s n M ok l e h =
     let c = cellAt M s in
     let k = ok .each s l in
     set-sound M s (withNext n c) ok l refl
-    (record { arguments = k .arguments; value = k .value; width = k .width; out = k .out; bound = k .bound; few = k .few; held = k .held; next = rw e h; kept = k .kept; passed = k .passed })
+    (record { arguments = k .arguments; value = k .value; width = k .width; out = k .out; bound = k .bound; few = k .few; held = k .held; next = rw e h; kept = k .kept; passed = k .passed; counts = k .counts })
     (ok .own s l)

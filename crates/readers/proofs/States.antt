@@ -37,7 +37,7 @@ module _ (r : Raw) (rs : List Raw) (b : List ℕ) where
     where
       go : (w : Bool) → isWindow (groupOf (num opF r)) ≡ w → P (cells (r ∷ rs) b)
       go true e = rw (cells-window r rs b e) (f _ (drop windowLength b) refl refl)
-      go false e = rw (cells-other r rs b e) (f (toCell r) b refl refl)
+      go false e = rw (cells-other r rs b e) (f _ b refl refl)
 
 least-cells : (s : ℕ) (rs : List Raw) (b : List ℕ) → leastRow s rs ≡ leastReader s (cells rs b)
 unfolding leastRow leastReader lowered toCell

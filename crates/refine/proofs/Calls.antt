@@ -127,14 +127,14 @@ module _ (size : ℕ) (M : State) (i : ℕ) where
 absorb-input : (q : Eqn) (o a b : Cell) → q ≡ input → absorb q o a b ≡ o .kept
 absorb-input q o a b e = rw e
 
-pass-input : (q : Eqn) (y : ℕ) (o a : Cell) → q ≡ input → pass q y o a ≡ o .passed
-pass-input q y o a e = rw e
+pass-input : (q : Eqn) (y : ℕ) (o a b : Cell) → q ≡ input → pass q y o a b ≡ o .passed
+pass-input q y o a b e = rw e
 
 pub write-input : (M : State) (i y : ℕ) (new : List Event) → i < length M → cellAt M i .eqn ≡ input → write i y new M ≡ set M i (advance y new (cellAt M i .passed) (cellAt M i))
 unfolding write absorbed
 write-input M i y new h e =
     let d = cellAt M i in
-    let w : passes i y M ≡ d .passed = pass-input (d .eqn) y d (cellAt M (argA (d .eqn))) e in
+    let w : passes i y M ≡ d .passed = pass-input (d .eqn) y d (cellAt M (argA (d .eqn))) (cellAt M (argB (d .eqn))) e in
     let c = advance y new (d .passed) d in
     let N = set M i c in
     let q : cellAt N i ≡ c = getD-set-same M i c absent h in

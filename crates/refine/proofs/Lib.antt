@@ -5,4 +5,5 @@ pub mod Whole
 pub mod Calls
 pub mod Collects
 pub mod Slides
+pub mod Counts
 pub mod Moves

@@ -1,8 +1,8 @@
 -- A move on raw records is the machine's, on every sound state.
-use Prim.Native.Nat.{ℕ, suc, _+_, _<_, _≤_, max}
+use Prim.Native.Nat.{ℕ, suc, _+_, _<_, _≤_, min, max}
 use mathlib.Core.Path.{_≡_, refl, sym, ap, ap₂, _∙_}
-use mathlib.Core.List.{List, [], _∷_}
-use mathlib.Core.Bool.{Bool, true, false, not, cond, _&&_}
+use mathlib.Core.List.{List, [], _∷_, _++_}
+use mathlib.Core.Bool.{Bool, true, false, not, cond, _&&_, true≢false}
 use native.Mathlib.Omega.{arith}
 use native.Mathlib.Numerals.{add-one}
 use lib.Dec.{T, leb, eqb}
@@ -15,32 +15,40 @@ use mir.Val.{ofZ}
 use Rattle.meaning.specs.Plan.{Eqn, input, nil, unit, one, two, last, delay, signal, window, isInput}
 use Rattle.meaning.specs.Arguments.{reads, argA, argB, AllBelow}
 use Rattle.meaning.specs.Events.{Event, ev, horizon}
-use Rattle.machine.specs.State.{Kept, Passed, Cell, State, absent, cellAt, room, noPassed, withKept, withPassed}
+use Rattle.meaning.specs.Table.{latestOf, values, width}
+use Rattle.meaning.specs.Missing.{Reason, outside, divisor, canLack, countLimit}
+use Rattle.machine.specs.State.{Kept, Passed, Cell, State, absent, cellAt, planOf, room, noPassed, countOf, withKept, withWindow, withPassed}
 use Rattle.machine.specs.Reach.{Next, event, silent, decide}
-use Rattle.machine.specs.Step.{passes, advance, absorb, absorbed, write, tell, release, releases, raise, newBound, added, ahead, canMove, comesIn, move}
+use Rattle.machine.specs.Step.{dropBelow, passes, advance, absorb, absorbed, write, tell, release, releases, raise, newBound, added, ahead, canMove, comesIn, move}
+use Rattle.machine.specs.Windows.{takeBelow}
+use Rattle.machine.specs.Counting.{tallied, endOf}
+use Rattle.machine.proofs.Counting.{counted-is}
 use Rattle.machine.proofs.Cells.{set-cases}
 use Rattle.machine.proofs.Frame.{absorbed-frame, tell-frame}
 use Rattle.operators.specs.Operators.{valueOf}
-use Rattle.operators.specs.Windows.{isWindowEqn}
+use Rattle.operators.specs.Limits.{windowLimit}
+use Rattle.operators.specs.Windows.{isWindowEqn, windows}
 use Rattle.layout.specs.Record.{Raw, Raws, num, withNum, rowAt, change, changeAll, countF, boundF}
 use Rattle.encoding.specs.Back.{heldOf, toCell}
 use Rattle.encoding.specs.View.{ofCell, rawsOf}
-use Rattle.encoding.specs.Sound.{Rising, IsKept, SoundCell, Sound}
+use Rattle.encoding.specs.Sound.{Rising, IsKept, IsCount, SoundCell, Sound}
 use Rattle.encoding.proofs.Widths.{cell-back}
-use Rattle.preserve.proofs.Steps.{Comes, silence, comes-values, advance-sound, passes-sound, write-sound, tell-sound, release-sound}
+use Rattle.preserve.proofs.Steps.{Comes, silence, comes-values, advance-sound, passes-sound, passes-counts, write-sound, tell-sound, release-sound}
 use Rattle.preserve.proofs.Calls.{ahead-fine}
 use Rattle.machine.proofs.Moves.{can-up}
-use Rattle.streams.specs.Look.{lookOf}
+use Rattle.streams.specs.Look.{lookOf, ownCell}
 use Rattle.streams.proofs.Laws.{look-cell}
 use Rattle.keeping.specs.Keep.{movedCell, keptRow}
 use Rattle.keeping.proofs.Laws.{absorb-near, kept-cell}
 use Rattle.queue.specs.Queue.{pushed}
 use Rattle.readers.specs.Step.{toldRow, releasedRow}
-use Rattle.sliding.specs.Slide.{widthIn, fitRow, slidRow}
-use Rattle.moves.specs.Move.{argIn, ownIn, otherIn, foldOf, foundRaw, aheadRaw, boundRaw, canRaw, slidRaw, keptRaw, absorbedRaw, releasedArgs, releasedAll, silentRaw, eventRaw, stepRaw, movedRaw}
+use Rattle.sliding.specs.Slide.{widthIn, fitRow, missingRow, slidRow}
+use Rattle.counting.specs.Tally.{countedRow}
+use Rattle.moves.specs.Move.{argIn, ownIn, otherIn, foldOf, foundRaw, aheadRaw, boundRaw, canRaw, slidRaw, summedFor, missedRaw, countedRaw, passedRaw, keptRaw, absorbedRaw, releasedArgs, releasedAll, silentRaw, eventRaw, stepRaw, movedRaw}
 use Rattle.refine.proofs.Queues.{bound-of, silent-is, push-of}
 use Rattle.refine.proofs.Whole.{row-of, change-of, tell-of, release-row-of}
-use Rattle.refine.proofs.Slides.{Fine, fine, decide-plain, decide-window, pass-plain, pass-window, fit-of, slid-of}
+use Rattle.refine.proofs.Slides.{Fine, fine, rises, decide-plain, decide-window, pass-plain, pass-window, fit-of, missing-of, slid-of}
+use Rattle.refine.proofs.Counts.{withBoth, counted-cell, pass-count, tallied-plain, tallied-window, plan-set}
 
 -- ---- a sound cell is looked at as it is
 
@@ -194,20 +202,102 @@ module _ {cap : ℕ} (size : ℕ) (M : State) (ok : Sound cap M) (i : ℕ) (l : 
       let o = own size M (cells M ok) i l in
       ap₂ (λ (p : Bool) (q : Bool). not p && not q) (ap (λ (c : Cell). isInput (c .eqn)) o) (ap₂ eqb bound-is (ap (λ (c : Cell). c .bound) o))
 
-  -- a window slides, as its bound goes to y: what lies behind the records is what it then keeps
-  slid-raw : (y : ℕ) → slidRaw (length M) i (me .eqn) (me .bound) y (rawsOf size M) ≡ rawsOf size (set M i (withPassed (passes i y M) me))
-  unfolding slidRaw
-  slid-raw y = go (isWindowEqn (me .eqn)) refl
+  other-held : Rising 0 (cellAt M (argB (cellAt M i .eqn)) .bound) (cellAt M (argB (cellAt M i .eqn)) .held)
+  other-held = ok .each (argB (me .eqn)) (below-b size M (cells M ok) i l) .held
+
+  -- ---- what is kept of the passed stamps, as the bound goes on
+
+  abbrev next : ℕ
+  next = newBound (ahead i M) (me .held)
+
+  -- at how many stamps an event is missing
+  missed-of : (q : Reason) (z : ℕ) → missedRaw q (length M) i (me .eqn) (me .kept) (me .bound) z (rawsOf size M) ≡ tallied q (me .eqn) me first-arg (cellAt M (argB (me .eqn))) z
+  missed-of q z = go (isWindowEqn (me .eqn)) refl
     where
+      go : (b : Bool) → isWindowEqn (me .eqn) ≡ b → missedRaw q (length M) i (me .eqn) (me .kept) (me .bound) z (rawsOf size M) ≡ tallied q (me .eqn) me first-arg (cellAt M (argB (me .eqn))) z
+      go true w =
+          rw w (ap (λ (c : Cell). summedFor q (foldOf (me .eqn)) (missingRow (widthIn (valueOf (me .eqn))) i (me .bound) z (c .held) (rawsOf size M))) (first-cell size M (cells M ok) i l)
+          ∙ ap (summedFor q (foldOf (me .eqn))) (missing-of size M i l w (ok .windows) (good w) (me .bound) z (first-arg .held))
+          ∙ tallied-window q (me .eqn) me first-arg (cellAt M (argB (me .eqn))) z w)
+      go false w =
+          rw w ((λ j. tallied q (me .eqn) (ownCell nil (me .bound) (me .kept)) (first-cell size M (cells M ok) i l j) (second-cell size M (cells M ok) i l j) z)
+          ∙ tallied-plain q (me .eqn) me first-arg (cellAt M (argB (me .eqn))) z w)
+
+  -- with the counts of the machine, its window as it was
+  abbrev countedTo : Cell
+  countedTo = withBoth (passes i next M .outside) (passes i next M .divisors) me
+
+  count-is : canLack (me .eqn) ≡ true → (q : Reason) → min countLimit (countOf q (me .passed) + missedRaw q (length M) i (me .eqn) (me .kept) (me .bound) (endOf (ahead i M)) (rawsOf size M)) ≡ countOf q (passes i next M)
+  unfolding ahead
+  count-is h q =
+      let e = me .eqn in
+      let b = cellAt M (argB e) in
+      ap (λ (m : ℕ). min countLimit (countOf q (me .passed) + m)) (missed-of q (endOf (ahead i M)))
+      ∙ sym (counted-is q e me first-arg b (record { top = first-arg .bound; rising = rises 0 (first-arg .bound) (first-arg .held) arg-held }) (record { top = b .bound; rising = rises 0 (b .bound) (b .held) other-held }) (me .held) (countOf q (me .passed)))
+      ∙ sym (pass-count e next me first-arg b h q)
+
+  counted-raw : me .bound < next → countedRaw (length M) i (me .eqn) (me .kept) (me .bound) (endOf (ahead i M)) (rawsOf size M) ≡ rawsOf size (set M i countedTo)
+  unfolding countedRaw
+  counted-raw up = go (canLack (me .eqn)) refl
+    where
+      z : ℕ
+      z = endOf (ahead i M)
+
+      m : Reason → ℕ
+      m q = missedRaw q (length M) i (me .eqn) (me .kept) (me .bound) (endOf (ahead i M)) (rawsOf size M)
+
+      stays : canLack (me .eqn) ≡ false → (q : Reason) → countOf q (passes i next M) ≡ countOf q (me .passed)
+      stays h q = both (canLack (me .eqn)) h (passes-counts i next M ok l up q) (ok .each i l .counts q)
+        where
+          both : (b : Bool) → b ≡ false → IsCount b next (countOf q (passes i next M)) → IsCount b (me .bound) (countOf q (me .passed)) → countOf q (passes i next M) ≡ countOf q (me .passed)
+          both true e u v = absurd (true≢false e)
+          both false e u v = u ∙ sym v
+
+      go : (b : Bool) → canLack (me .eqn) ≡ b → cond b (change i (countedRow (m outside) (m divisor)) (rawsOf size M)) (rawsOf size M) ≡ rawsOf size (set M i countedTo)
+      go true h =
+          change-of size M i (countedRow (m outside) (m divisor)) (withBoth (min countLimit (me .passed .outside + m outside)) (min countLimit (me .passed .divisors + m divisor)) me) l (counted-cell me (m outside) (m divisor) (ok .each i l .counts)) refl refl
+          ∙ ap₂ (λ (u v : ℕ). rawsOf size (set M i (withBoth u v me))) (count-is h outside) (count-is h divisor)
+      go false h = sym (ap₂ (λ (u v : ℕ). rawsOf size (set M i (withBoth u v me))) (stays h outside) (stays h divisor) ∙ ap (rawsOf size) (set-getD M i absent))
+
+  -- a state whose stream i has other counts holds the same events
+  held-same : (j : ℕ) → j < length M → heldOf (ofCell (cellAt (set M i countedTo) j)) ≡ cellAt M j .held
+  unfolding lookOf toCell
+  held-same = set-cases (λ j c. j < length M → heldOf (ofCell c) ≡ cellAt M j .held) M i countedTo l (λ j n h. plain j h) (λ h. unfold heldOf ofCell in plain i h)
+    where
+      plain : (j : ℕ) → j < length M → heldOf (ofCell (cellAt M j)) ≡ cellAt M j .held
+      plain j h = sym (ap (λ (r : Raw). lookOf r .held) (row size M (cells M ok) j h)) ∙ ap (λ (c : Cell). c .held) (own-is size M (cells M ok) j h)
+
+  passed-raw : me .bound < next → passedRaw (length M) i (me .eqn) (me .kept) (me .bound) next (endOf (ahead i M)) (rawsOf size M) ≡ rawsOf size (set M i (withPassed (passes i next M) me))
+  unfolding passedRaw slidRaw
+  passed-raw up = ap (slidRaw (length M) i (me .eqn) (me .bound) next) (counted-raw up) ∙ go (isWindowEqn (me .eqn)) refl
+    where
+      N : State
+      N = set M i countedTo
+
+      at : cellAt (set M i countedTo) i ≡ countedTo
+      at = getD-set-same M i countedTo absent l
+
+      held : otherIn (length M) (argA (me .eqn)) (rawsOf size (set M i countedTo)) .held ≡ first-arg .held
+      held =
+          unfold rawsOf lookOf toCell in
+          ap (λ (j : ℕ). heldOf (rowAt (rawsOf size (set M i countedTo)) j)) (arg-is (length M) (argA (me .eqn)) (below-a size M (cells M ok) i l))
+          ∙ ap heldOf (row-of (set M i countedTo) (argA (me .eqn)) (rw (length-set M i countedTo) (below-a size M (cells M ok) i l)))
+          ∙ held-same (argA (me .eqn)) (below-a size M (cells M ok) i l)
+
       go : (b : Bool) → isWindowEqn (me .eqn) ≡ b
-          → cond (isWindowEqn (me .eqn)) (slidRow (widthIn (valueOf (me .eqn))) i (me .bound) y (otherIn (length M) (argA (me .eqn)) (rawsOf size M) .held) (rawsOf size M)) (rawsOf size M)
-          ≡ rawsOf size (set M i (withPassed (passes i y M) me))
-      go true q =
-          rw q (ap (λ (c : Cell). slidRow (widthIn (valueOf (me .eqn))) i (me .bound) y (c .held) (rawsOf size M)) (first-cell size M (cells M ok) i l)
-          ∙ slid-of size M i l q (ok .windows) (good q) (me .bound) y (first-arg .held)
-          ∙ ap (λ (w : Passed). rawsOf size (set M i (withPassed w me))) (sym (pass-window (first-arg .bound) me first-arg first-arg arg-held (me .eqn) y q)))
-      go false q =
-          rw q (ap (rawsOf size) (sym (ap (λ (w : Passed). set M i (withPassed w me)) (pass-plain (me .eqn) y me first-arg q) ∙ set-getD M i absent)))
+          → cond b (slidRow (widthIn (valueOf (me .eqn))) i (me .bound) next (otherIn (length M) (argA (me .eqn)) (rawsOf size (set M i countedTo)) .held) (rawsOf size (set M i countedTo))) (rawsOf size (set M i countedTo))
+          ≡ rawsOf size (set M i (withPassed (passes i next M) me))
+      go true w =
+          let q : isWindowEqn (cellAt (set M i countedTo) i .eqn) ≡ true = ap (λ (c : Cell). isWindowEqn (c .eqn)) at ∙ w in
+          let f : Fine (cellAt (set M i countedTo) i .eqn) (cellAt (set M i countedTo) i .passed .window) = rw at (good w) in
+          let p : windows (planOf (set M i countedTo)) ≤ windowLimit = rw (plan-set M i countedTo l refl) (ok .windows) in
+          ap (λ (es : List Event). slidRow (widthIn (valueOf (me .eqn))) i (me .bound) next es (rawsOf size (set M i countedTo))) held
+          ∙ ap (λ (c : Cell). slidRow (widthIn (valueOf (c .eqn))) i (me .bound) next (first-arg .held) (rawsOf size (set M i countedTo))) (sym at)
+          ∙ slid-of size (set M i countedTo) i (rw (length-set M i countedTo) l) q p f (me .bound) next (first-arg .held)
+          ∙ ap (λ (c : Cell). rawsOf size (set (set M i countedTo) i (withPassed (withWindow (latestOf (width (valueOf (c .eqn))) (c .passed .window ++ values (takeBelow next (dropBelow (me .bound) (first-arg .held))))) (c .passed)) c))) at
+          ∙ ap (rawsOf size) (set-set M i countedTo _)
+          ∙ ap (λ (v : List ℤ). rawsOf size (set M i (withPassed (withWindow v (passes i next M)) me))) (sym (pass-window (first-arg .bound) me first-arg (cellAt M (argB (me .eqn))) arg-held (me .eqn) next w))
+      go false w = ap (λ (v : List ℤ). rawsOf size (set M i (withPassed (withWindow v (passes i next M)) me))) (sym (pass-plain (me .eqn) next me first-arg (cellAt M (argB (me .eqn))) w))
 
 pub can-of : {cap : ℕ} (size : ℕ) (M : State) → Sound cap M → (i : ℕ) → i < length M → canRaw (length M) i (rawsOf size M) ≡ canMove i M
 can-of size M ok i l = can-by-cells size M ok i l
@@ -259,7 +349,7 @@ module _ {cap : ℕ} (size : ℕ) (M : State) (ok : Sound cap M) (i : ℕ) (l : 
     }
       where
         at : (j : ℕ) → j < length M → SoundCell (length M) (cellAt (set M i (advance y new (passes i y M) (cellAt M i))) j)
-        at = set-cases (λ j c. j < length M → SoundCell (length M) c) M i (advance y new (passes i y M) (cellAt M i)) l (λ j n. ok .each j) (λ h. advance-sound (length M) y (cellAt M i) new (passes i y M) (ok .each i l) up top cm (passes-sound i y M ok l up))
+        at = set-cases (λ j c. j < length M → SoundCell (length M) c) M i (advance y new (passes i y M) (cellAt M i)) l (λ j n. ok .each j) (λ h. advance-sound (length M) y (cellAt M i) new (passes i y M) (ok .each i l) up top cm (passes-sound i y M ok l up) (passes-counts i y M ok l up))
 
     length-N : length (set M i (advance y new (passes i y M) (cellAt M i))) ≡ length M
     length-N = length-set M i (advance y new (passes i y M) (cellAt M i))
@@ -309,12 +399,12 @@ module _ {cap : ℕ} (size : ℕ) (M : State) (ok : Sound cap M) (i : ℕ) (l : 
   slid y = set M i (withPassed (passes i y M) (cellAt M i))
 
   -- its record changed as the machine changes its cell
-  change-slid : (y : ℕ) (g : Raw → Raw) (d : Cell) → g (ofCell (withPassed (passes i y M) (cellAt M i))) ≡ ofCell d → d .eqn ≡ cellAt M i .eqn → d .passed ≡ passes i y M
+  change-slid : (y : ℕ) (g : Raw → Raw) (d : Cell) → g (ofCell (withPassed (passes i y M) (cellAt M i))) ≡ ofCell d → d .eqn ≡ cellAt M i .eqn → d .passed .window ≡ passes i y M .window
       → change i g (rawsOf size (slid y)) ≡ rawsOf size (set M i d)
   change-slid y g d e q w =
       let c = withPassed (passes i y M) (cellAt M i) in
       let at : cellAt (slid y) i ≡ c = getD-set-same M i c absent l in
-      change-of size (slid y) i g d (rw (length-set M i c) l) (ap (λ (x : Cell). g (ofCell x)) at ∙ e) (q ∙ ap (λ (x : Cell). x .eqn) (sym at)) (w ∙ ap (λ (x : Cell). x .passed) (sym at))
+      change-of size (slid y) i g d (rw (length-set M i c) l) (ap (λ (x : Cell). g (ofCell x)) at ∙ e) (q ∙ ap (λ (x : Cell). x .eqn) (sym at)) (w ∙ ap (λ (x : Cell). x .passed .window) (sym at))
       ∙ ap (rawsOf size) (set-set M i c d)
 
   pub silent-of : (y : ℕ) → cellAt M i .bound < y → y ≤ horizon → silentRaw (length M) i (cellAt M i .eqn) (cellAt M i .kept) y (rawsOf size (slid y)) ≡ rawsOf size (raise i y [] M)
@@ -349,8 +439,8 @@ module _ {cap : ℕ} (size : ℕ) (M : State) (ok : Sound cap M) (i : ℕ) (l : 
   moved-of can =
       let o = own size M (cells M ok) i l in
       let y = newBound (ahead i M) (cellAt M i .held) in
-      (λ z. stepRaw (length M) i (o z .eqn) (o z .kept) (ahead-of size M ok i l z) (count size M ok i l z) (slidRaw (length M) i (o z .eqn) (o z .bound) (bound-is size M ok i l z) (rawsOf size M)))
-      ∙ ap (stepRaw (length M) i (cellAt M i .eqn) (cellAt M i .kept) (ahead i M) (length (cellAt M i .held))) (slid-raw size M ok i l y)
+      (λ z. stepRaw (length M) i (o z .eqn) (o z .kept) (ahead-of size M ok i l z) (count size M ok i l z) (passedRaw (length M) i (o z .eqn) (o z .kept) (o z .bound) (bound-is size M ok i l z) (endOf (ahead-of size M ok i l z)) (rawsOf size M)))
+      ∙ ap (stepRaw (length M) i (cellAt M i .eqn) (cellAt M i .kept) (ahead i M) (length (cellAt M i .held))) (passed-raw size M ok i l (can-up i M can))
       ∙ go (ahead i M) (can-up i M can) (ahead-fine M ok i l)
     where
       go : (x : Next) → cellAt M i .bound < newBound x (cellAt M i .held) → (newBound x (cellAt M i .held) ≤ horizon) × Comes (newBound x (cellAt M i .held)) (cellAt M i) (added x (cellAt M i .held))

@@ -15,7 +15,7 @@ use Rattle.machine.specs.Step.{anyOf, readsIt, valueTold, priorTold, sinceTold,
 use Rattle.operators.specs.Operators.{groupOf, numberOf}
 use Rattle.operators.proofs.Laws.{one-group, two-group, signal-group, window-group, arguments-of}
 use Rattle.layout.specs.Record.{Raw}
-use Rattle.encoding.specs.View.{keptNums, flag, rawOf, ofCell}
+use Rattle.encoding.specs.View.{keptNums, flag, countsWord, rawOf, ofCell}
 use Rattle.readers.specs.Step.{readsRow, toldLast, toldAt, toldValue, toldPrior, toldSince, toldDelay, toldRow, lowered, waitingRow}
 
 pub cond-same : {A : Type 0} (b : Bool) (x : A) → cond b x x ≡ x
@@ -44,9 +44,9 @@ waiting-of least c = go (c .out)
 
 -- l: the bound is above the stamp; p, q: s is a, b; u: the bound is one past the stamp; w: the latest set point lies
 -- there; z: the stamp lies above it
-module _ (s t : ℕ) (v : ℤ) (a b : ℕ) (o : Bool) (y : ℕ) (h : List Event) (m : ℕ) (k : Kept) (w : Passed) where
+module _ (s t : ℕ) (v : ℤ) (a b : ℕ) (o : Bool) (y : ℕ) (h : List Event) (m z : ℕ) (k : Kept) (w : Passed) where
   abbrev last-with : Kept → Raw
-  last-with x = rawOf (last a b) o y h m (keptNums (last a b) x w)
+  last-with x = rawOf (last a b) o y h m (keptNums (last a b) x w) z
 
   last-told : (l p : Bool) → ltb t y ≡ l → eqb a s ≡ p
       → toldRow s t (ofZ w64 v) (last-with k) ≡ last-with (cond (ltb t y) (keptTold (last a b) s y t v k) k)
@@ -55,9 +55,9 @@ module _ (s t : ℕ) (v : ℤ) (a b : ℕ) (o : Bool) (y : ℕ) (h : List Event)
   last-told true true e f = rw (e, f)
   last-told true false e f = rw (e, f)
 
-module _ (s t a b : ℕ) (o : Bool) (y : ℕ) (h : List Event) (m : ℕ) (n : Passed) where
+module _ (s t a b : ℕ) (o : Bool) (y : ℕ) (h : List Event) (m z : ℕ) (n : Passed) where
   abbrev delay-with : Kept → Raw
-  delay-with x = rawOf (delay a b) o y h m (keptNums (delay a b) x n)
+  delay-with x = rawOf (delay a b) o y h m (keptNums (delay a b) x n) z
 
   value-told : (v : ℤ) (k : Kept) (p w : Bool) → eqb a s ≡ p → eqb (k .since) (t + 1) ≡ w → toldValue s t (ofZ w64 v) (delay-with k) ≡ delay-with (valueTold (eqb a s) t v k)
   unfolding toldAt numberOf
@@ -92,22 +92,22 @@ module _ (s t a b : ℕ) (o : Bool) (y : ℕ) (h : List Event) (m : ℕ) (n : Pa
   delay-told v k true e = rw e (delay-three v k)
   delay-told v k false e = rw e
 
-told-raw : (s t : ℕ) (v : ℤ) (e : Eqn) (o : Bool) (y : ℕ) (h : List Event) (m : ℕ) (k : Kept) (w : Passed)
-    → toldRow s t (ofZ w64 v) (rawOf e o y h m (keptNums e k w)) ≡ rawOf e o y h m (keptNums e (cond (ltb t y) (keptTold e s y t v k) k) w)
+told-raw : (s t : ℕ) (v : ℤ) (e : Eqn) (o : Bool) (y : ℕ) (h : List Event) (m z : ℕ) (k : Kept) (w : Passed)
+    → toldRow s t (ofZ w64 v) (rawOf e o y h m (keptNums e k w) z) ≡ rawOf e o y h m (keptNums e (cond (ltb t y) (keptTold e s y t v k) k) w) z
 unfolding toldRow groupOf numberOf
-told-raw s t v input o y h m k w = cond-same (ltb t y) (rawOf input o y h m (keptNums input k w))
-told-raw s t v nil o y h m k w = cond-same (ltb t y) (rawOf nil o y h m (keptNums nil k w))
-told-raw s t v unit o y h m k w = cond-same (ltb t y) (rawOf unit o y h m (keptNums unit k w))
-told-raw s t v (one f a) o y h m k w = rw (one-group f) (cond-same (ltb t y) (rawOf (one f a) o y h m (keptNums (one f a) k w)))
-told-raw s t v (two g a b) o y h m k w = rw (two-group g) (cond-same (ltb t y) (rawOf (two g a b) o y h m (keptNums (two g a b) k w)))
-told-raw s t v (last a b) o y h m k w = last-told s t v a b o y h m k w (ltb t y) (eqb a s) refl refl
-told-raw s t v (delay a b) o y h m k w =
-    delay-told s t a b o y h m w v k (ltb t y) refl
-told-raw s t v (signal c a b) o y h m k w =
-    let raw : Kept → Raw = λ x. rawOf (signal c a b) o y h m (keptNums (signal c a b) x w) in
+told-raw s t v input o y h m z k w = cond-same (ltb t y) (rawOf input o y h m (keptNums input k w) z)
+told-raw s t v nil o y h m z k w = cond-same (ltb t y) (rawOf nil o y h m (keptNums nil k w) z)
+told-raw s t v unit o y h m z k w = cond-same (ltb t y) (rawOf unit o y h m (keptNums unit k w) z)
+told-raw s t v (one f a) o y h m z k w = rw (one-group f) (cond-same (ltb t y) (rawOf (one f a) o y h m (keptNums (one f a) k w) z))
+told-raw s t v (two g a b) o y h m z k w = rw (two-group g) (cond-same (ltb t y) (rawOf (two g a b) o y h m (keptNums (two g a b) k w) z))
+told-raw s t v (last a b) o y h m z k w = last-told s t v a b o y h m z k w (ltb t y) (eqb a s) refl refl
+told-raw s t v (delay a b) o y h m z k w =
+    delay-told s t a b o y h m z w v k (ltb t y) refl
+told-raw s t v (signal c a b) o y h m z k w =
+    let raw : Kept → Raw = λ x. rawOf (signal c a b) o y h m (keptNums (signal c a b) x w) z in
     rw (signal-group c) (cond-same (ltb t y) (raw k) ∙ ap raw (sym (cond-same (ltb t y) k)))
-told-raw s t v (window f n a) o y h m k w = rw (window-group f) (cond-same (ltb t y) (rawOf (window f n a) o y h m (keptNums (window f n a) k w)))
+told-raw s t v (window f n a) o y h m z k w = rw (window-group f) (cond-same (ltb t y) (rawOf (window f n a) o y h m (keptNums (window f n a) k w) z))
 
 pub told-of : (s t : ℕ) (v : ℤ) (c : Cell) → toldRow s t (ofZ w64 v) (ofCell c) ≡ ofCell (told s t v c)
 unfolding ofCell told
-told-of s t v c = told-raw s t v (c .eqn) (c .out) (c .bound) (c .held) (c .next) (c .kept) (c .passed)
+told-of s t v c = told-raw s t v (c .eqn) (c .out) (c .bound) (c .held) (c .next) (countsWord (c .passed)) (c .kept) (c .passed)

@@ -12,10 +12,11 @@ use mir.Val.{toZ, ofZ}
 use Rattle.meaning.specs.Plan.{Eqn, input, nil, unit, one, two, last, delay, signal, window}
 use Rattle.meaning.specs.Events.{Event}
 use Rattle.meaning.specs.Table.{latestOf, values, width}
-use Rattle.machine.specs.State.{Kept, Passed, Cell, State, cellAt, planOf, noPassed, withPassed}
+use Rattle.machine.specs.State.{Kept, Passed, Cell, State, cellAt, planOf, noPassed, withWindow as withValues, withPassed}
 use Rattle.machine.specs.Reach.{Next, decide}
 use Rattle.machine.specs.Step.{dropBelow, pass}
 use Rattle.machine.specs.Windows.{takeBelow, firstFit}
+use Rattle.machine.specs.Counting.{sumTally}
 use Rattle.machine.proofs.Rising as machine
 use Rattle.machine.proofs.Windows.{window-slides, window-finds}
 use Rattle.operators.specs.Operators.{valueOf}
@@ -23,10 +24,10 @@ use Rattle.operators.specs.Limits.{widthLimit, windowLimit}
 use Rattle.operators.specs.Windows.{IsWidth, isWindowEqn, windows}
 use Rattle.layout.specs.Record.{Raw, Raws, num, withNum, rowAt, change, flagF}
 use Rattle.layout.specs.Windows.{areaLength, encWindow, decWindow, encWindows, windowAt, withWindow}
-use Rattle.encoding.specs.View.{windowsOf, wordsOf, keptNums, rawOf, ofCell, behind, rawsOf}
+use Rattle.encoding.specs.View.{windowsOf, wordsOf, keptNums, countsWord, rawOf, ofCell, behind, rawsOf}
 use Rattle.encoding.specs.Sound.{Rising, AllValues, IsPassed}
 use Rattle.roundtrip.proofs.Windows.{words-small, values-back}
-use Rattle.sliding.specs.Slide.{widthIn, windowsBefore, placeOf, fillOf, wordsIn, fitRow, slidWords, slidRow}
+use Rattle.sliding.specs.Slide.{widthIn, windowsBefore, placeOf, fillOf, wordsIn, fitRow, missingRow, slidWords, slidRow}
 use Rattle.moves.specs.Move.{foldOf}
 use Rattle.refine.proofs.Whole.{row-of, set-of}
 use Rattle.refine.proofs.Windows.{window-words, window-over, window-at, window-put, rank, rank-of, rank-below, rank-few, rank-window, windows-set, fill-of}
@@ -65,23 +66,23 @@ decide-plain (delay _ _) o a b q = refl
 decide-plain (signal c _ _) o a b q = refl
 decide-plain (window f k _) o a b q = absurd (true≢false q)
 
-pub pass-plain : (e : Eqn) (y : ℕ) (o a : Cell) → isWindowEqn e ≡ false → pass e y o a ≡ o .passed
-pass-plain input y o a q = refl
-pass-plain nil y o a q = refl
-pass-plain unit y o a q = refl
-pass-plain (one f _) y o a q = refl
-pass-plain (two g _ _) y o a q = refl
-pass-plain (last _ _) y o a q = refl
-pass-plain (delay _ _) y o a q = refl
-pass-plain (signal c _ _) y o a q = refl
-pass-plain (window f k _) y o a q = absurd (true≢false q)
+pub pass-plain : (e : Eqn) (y : ℕ) (o a b : Cell) → isWindowEqn e ≡ false → pass e y o a b .window ≡ o .passed .window
+pass-plain input y o a b q = refl
+pass-plain nil y o a b q = refl
+pass-plain unit y o a b q = refl
+pass-plain (one f _) y o a b q = refl
+pass-plain (two g _ _) y o a b q = refl
+pass-plain (last _ _) y o a b q = refl
+pass-plain (delay _ _) y o a b q = refl
+pass-plain (signal c _ _) y o a b q = refl
+pass-plain (window f k _) y o a b q = absurd (true≢false q)
 
 -- held events of a state rise as the machine's laws have it
 low-top : (lo top : ℕ) (es : List Event) → Rising lo top es → lo ≤ top
 low-top lo top [] r = r
 low-top lo top (e ∷ es) r = let k = low-top (suc (e .stamp)) top es (r .2) in let l = r .0 in omega arith
 
-rises : (lo top : ℕ) (es : List Event) → Rising lo top es → machine.Rising lo top es
+pub rises : (lo top : ℕ) (es : List Event) → Rising lo top es → machine.Rising lo top es
 rises lo top [] r = tt
 rises lo top (e ∷ es) r = (r .0, low-top (suc (e .stamp)) top es (r .2), rises (suc (e .stamp)) top es (r .2))
 
@@ -103,7 +104,7 @@ module _ (top : ℕ) (o a b : Cell) (r : Rising 0 top (a .held)) where
   abbrev after : Eqn → ℕ → List ℤ
   after e y = latestOf (width (valueOf e)) (o .passed .window ++ values (takeBelow y (dropBelow (o .bound) (a .held))))
 
-  pub pass-window : (e : Eqn) (y : ℕ) → isWindowEqn e ≡ true → pass e y o a ≡ record { window = after e y }
+  pub pass-window : (e : Eqn) (y : ℕ) → isWindowEqn e ≡ true → pass e y o a b .window ≡ after e y
   unfolding valueOf
   pass-window input y q = absurd (true≢false (sym q))
   pass-window nil y q = absurd (true≢false (sym q))
@@ -113,7 +114,7 @@ module _ (top : ℕ) (o a b : Cell) (r : Rising 0 top (a .held)) where
   pass-window (last x z) y q = absurd (true≢false (sym q))
   pass-window (delay x z) y q = absurd (true≢false (sym q))
   pass-window (signal c x z) y q = absurd (true≢false (sym q))
-  pass-window (window f k x) y q = ap (λ (l : List ℤ). record { window = l }) (window-slides (width k) (o .bound) y (o .passed .window) 0 top (a .held) (rises 0 top (a .held) r))
+  pass-window (window f k x) y q = window-slides (width k) (o .bound) y (o .passed .window) 0 top (a .held) (rises 0 top (a .held) r)
 
 -- ---- lists
 
@@ -132,14 +133,14 @@ unfolding latestOf
 latest-long k l m h = rw (length-drop (length (l ++ m) - k) (l ++ m), length-append l m) (omega arith)
 
 -- a window's record with another fill
-fill-put : (c : Cell) (w : List ℤ) → isWindowEqn (c .eqn) ≡ true → withNum flagF (length w) (ofCell c) ≡ ofCell (withPassed (record { window = w }) c)
+fill-put : (c : Cell) (w : List ℤ) → isWindowEqn (c .eqn) ≡ true → withNum flagF (length w) (ofCell c) ≡ ofCell (withPassed (withValues w (c .passed)) c)
 unfolding ofCell
 fill-put c w q = go (c .eqn) q
   where
     raw : Eqn → Passed → Raw
-    raw e v = rawOf e (c .out) (c .bound) (c .held) (c .next) (keptNums e (c .kept) v)
+    raw e v = rawOf e (c .out) (c .bound) (c .held) (c .next) (keptNums e (c .kept) v) (countsWord (c .passed))
 
-    go : (e : Eqn) → isWindowEqn e ≡ true → withNum flagF (length w) (raw e (c .passed)) ≡ raw e (record { window = w })
+    go : (e : Eqn) → isWindowEqn e ≡ true → withNum flagF (length w) (raw e (c .passed)) ≡ raw e (withValues w (c .passed))
     go input h = absurd (true≢false (sym h))
     go nil h = absurd (true≢false (sym h))
     go unit h = absurd (true≢false (sym h))
@@ -198,13 +199,20 @@ module _ (size : ℕ) (M : State) (i : ℕ) (l : i < length M) (q : isWindowEqn 
       ap (λ (j : ℕ). firstFit f j hi (map (toZ w64) (wordsIn j i st)) (dropBelow y es)) (ok .wide)
       ∙ ap (λ (x : List ℤ). firstFit f k hi x (dropBelow y es)) (ap (map (toZ w64)) words-of ∙ values-back w (ok .values))
 
+  -- at how many stamps its sum has no value
+  pub missing-of : (y x : ℕ) (es : List Event) → missingRow (widthIn (valueOf (cellAt M i .eqn))) i y x es st ≡ sumTally k x w (dropBelow y es)
+  unfolding missingRow
+  missing-of y x es =
+      ap (λ (j : ℕ). sumTally j x (map (toZ w64) (wordsIn j i st)) (dropBelow y es)) (ok .wide)
+      ∙ ap (λ (v : List ℤ). sumTally k x v (dropBelow y es)) (ap (map (toZ w64)) words-of ∙ values-back w (ok .values))
+
   -- what it keeps then
   module _ (y x : ℕ) (es : List Event) where
     abbrev next : List ℤ
     next = latestOf k (w ++ values (takeBelow x (dropBelow y es)))
 
     abbrev moved : Cell
-    moved = withPassed (record { window = next }) (cellAt M i)
+    moved = withPassed (withValues next (cellAt M i .passed)) (cellAt M i)
 
     slid-words : slidWords k i y x es st ≡ wordsOf next
     slid-words = ap (λ (z : List ℤ). wordsOf (latestOf k (z ++ values (takeBelow x (dropBelow y es))))) (ap (map (toZ w64)) words-of ∙ values-back w (ok .values))

@@ -41,7 +41,7 @@ same-spare size M N e w =
     ap₂ (λ (m : ℕ) (l : List (List ℤ)). record { rows = map ofCell N; spare = replicate {A = ℕ} (size - areaLength - m * 256) 0 ++ encWindows (map wordsOf l) }) (sym e) (sym w)
 
 -- one record changed as the machine changes its cell, but for what a window keeps
-pub change-of : (size : ℕ) (M : State) (i : ℕ) (g : Raw → Raw) (c : Cell) → i < length M → g (ofCell (cellAt M i)) ≡ ofCell c → c .eqn ≡ cellAt M i .eqn → c .passed ≡ cellAt M i .passed
+pub change-of : (size : ℕ) (M : State) (i : ℕ) (g : Raw → Raw) (c : Cell) → i < length M → g (ofCell (cellAt M i)) ≡ ofCell c → c .eqn ≡ cellAt M i .eqn → c .passed .window ≡ cellAt M i .passed .window
     → change i g (rawsOf size M) ≡ rawsOf size (set M i c)
 unfolding rawsOf
 change-of size M i g c h e q w =

@@ -194,7 +194,7 @@ windows-set (c ∷ M) (suc i) d h q e = go (isWindowEqn (c .eqn)) (windows-set M
 
 -- ---- a step that leaves equations and windows leaves what lies behind the records
 
-pub windows-same : (M : State) (i : ℕ) (d : Cell) → i < length M → d .eqn ≡ cellAt M i .eqn → d .passed ≡ cellAt M i .passed → windowsOf (set M i d) ≡ windowsOf M
+pub windows-same : (M : State) (i : ℕ) (d : Cell) → i < length M → d .eqn ≡ cellAt M i .eqn → d .passed .window ≡ cellAt M i .passed .window → windowsOf (set M i d) ≡ windowsOf M
 windows-same [] i d h e p = absurd (omega arith)
 windows-same (c ∷ M) zero d h e p = rw (e, p)
 windows-same (c ∷ M) (suc i) d h e p = rw (windows-same M i d (omega arith) e p)

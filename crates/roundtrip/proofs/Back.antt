@@ -8,7 +8,7 @@ use native.Mathlib.Omega.{arith}
 use lib.Dec.{eqb, ltb, leb, lit<, lit≤}
 use lib.IntN.{pos}
 use lib.ListN.{getD, drop}
-use borrow.Author.Tests.{eqb-true, ltb-true, leb-true, ne-eqb, eq-eqb}
+use borrow.Author.Tests.{eqb-true, ltb-true, leb-true, ne-eqb}
 use mir.Syntax.{w64}
 use mir.Val.{ofZ, toZ}
 use mir.Facts.{ofZ-toZ}
@@ -18,14 +18,15 @@ use Rattle.operators.specs.Operators.{groupOf, isIn, isLast, isDelay, isSignal}
 use Rattle.operators.specs.Rules.{valueOk, outOk}
 use Rattle.operators.specs.declared.Group.{Group}
 use Rattle.le.specs.Bytes.{allZero}
-use Rattle.layout.specs.Record.{Raw, num, decRaw, opF, outF, countF, flagF, priorFlagF, smallF, kF, boundF, nextF, keptF, valueF, priorF, lastF}
+use Rattle.layout.specs.Record.{Raw, num, decRaw, opF, outF, countF, flagF, priorFlagF, smallF, kF, boundF, nextF, keptF, valueF, priorF}
 use Rattle.layout.proofs.Laws.{RawOk, num-small}
 use Rattle.encoding.specs.View.{flag, flagOf, bitsOf, KeptNums, noNums, lastNums, delayNums, signalNums}
 use Rattle.encoding.specs.Back.{optional, keptOf}
 use Rattle.encoding.specs.Sound.{IsValue, IsOptional, LastKept, DelayKept, SignalKept}
-use Rattle.valid.specs.Valid.{planOk, nextOk, sizesOk, risen, flagOk, noneIf, noneOk, latestOk, lastOk, signalOk, ownOk, delayOk, windowOk, keptOk, rowOk}
+use Rattle.valid.specs.Valid.{planOk, nextOk, countsOk, sizesOk, risen, flagOk, noneIf, noneOk, latestOk, lastOk, signalOk, ownOk, delayOk, windowOk, keptOk, rowOk}
 use Rattle.valid.proofs.Tests.{left, right}
 use Rattle.valid.proofs.Link.{PlanFacts, plan-facts}
+use Rattle.roundtrip.proofs.Counts.{none-is}
 use Rattle.roundtrip.proofs.Tail.{bits-value}
 
 -- ---- what the tests say
@@ -36,7 +37,7 @@ pub record RowFacts (n : ℕ) (p : List ℕ) : Type 0 where
   pub bound : num boundF (decRaw p) ≤ horizon
   pub next : nextOk (num outF (decRaw p)) (num nextF (decRaw p)) (num boundF (decRaw p)) ≡ true
   pub small : num smallF (decRaw p) ≡ 0
-  pub rest : num lastF (decRaw p) ≡ 0
+  pub counts : countsOk (decRaw p) ≡ true
   pub stamps : risen (num boundF (decRaw p)) 0 (num countF (decRaw p)) (decRaw p .slots) ≡ true
   pub kept : keptOk (decRaw p) ≡ true
   pub zeros : allZero (drop (64 + num countF (decRaw p) * 12) p) ≡ true
@@ -56,7 +57,7 @@ row-facts n p e =
     let b : Bool = leb (num boundF r) horizon in
     let x : Bool = nextOk (num outF r) (num nextF r) (num boundF r) in
     let y : Bool = eqb (num smallF r) 0 in
-    let w : Bool = eqb (num lastF r) 0 in
+    let w : Bool = countsOk r in
     let f₁ = right c (b && (x && (y && w))) f in
     let f₂ = right b (x && (y && w)) f₁ in
     let f₃ = right x (y && w) f₂ in
@@ -66,7 +67,7 @@ row-facts n p e =
       bound = leb-true (num boundF r) horizon (left b (x && (y && w)) f₁);
       next = left x (y && w) f₂;
       small = eqb-true (num smallF r) 0 (left y w f₃);
-      rest = eqb-true (num lastF r) 0 (right y w f₃);
+      counts = right y w f₃;
       stamps = left s (k && z) e₂;
       kept = left k z e₃;
       zeros = right k z e₃;
@@ -117,7 +118,7 @@ flag-facts (suc (suc n)) x h e =
 
 absent : (y has x : ℕ) → noneIf y has ≡ true → y ≡ 0 → optional has x ≡ none
 absent y has x e z =
-    let q : has ≡ 0 = eqb-true has 0 (rw (eq-eqb y 0 z) at e) in
+    let q : has ≡ 0 = none-is y has e z in
     rw q
 
 -- what is stored of a window in its record
@@ -247,7 +248,7 @@ module _ (r : Raw) (ok : RawOk r) where
       let e₄ = right d (f && g) e₃ in
       record {
         few = leb-true (num flagF r) (num kF r) (left a (b && (c && (d && (f && g)))) e);
-        fresh = λ z. eqb-true (num flagF r) 0 (rw (eq-eqb (num boundF r) 0 z) at (left b (c && (d && (f && g))) e₁));
+        fresh = none-is (num boundF r) (num flagF r) (left b (c && (d && (f && g))) e₁);
         nums = λ i. record { flag = num flagF r; priorFlag = sym (eqb-true (num priorFlagF r) 0 (left c (d && (f && g)) e₂)) i; kept = sym (eqb-true (num keptF r) 0 (left d (f && g) e₃)) i; value = sym (eqb-true (num valueF r) 0 (left f g e₄)) i; prior = sym (eqb-true (num priorF r) 0 (right f g e₄)) i };
       }
 

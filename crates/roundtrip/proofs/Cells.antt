@@ -1,6 +1,6 @@
 -- Records that pass and windows that pass are those of the cells that they give, and the cells are sound; and back.
 use Prim.Native.Nat.{ℕ, zero, suc, _+_, _*_, _-_, _<_, _≤_}
-use mathlib.Core.Path.{_≡_, refl, sym, ap, ap₂, _∙_, subst}
+use mathlib.Core.Path.{_≡_, refl, sym, ap, ap₂, _∙_}
 use mathlib.Core.List.{List, [], _∷_, _++_, map}
 use mathlib.Core.Bool.{Bool, true, false, cond, _&&_, true≢false}
 use native.Mathlib.Omega.{arith}
@@ -11,7 +11,7 @@ use mir.Syntax.{w64}
 use mir.Val.{toZ, ofZ}
 use Rattle.meaning.specs.Plan.{Eqn, input, nil, unit, one, two, last, delay, signal, window, Plan}
 use Rattle.meaning.specs.Table.{width}
-use Rattle.machine.specs.State.{Passed, Cell, State, planOf, noPassed, withPassed}
+use Rattle.machine.specs.State.{Passed, Cell, State, planOf, withPassed}
 use Rattle.operators.specs.Operators.{groupOf, isWindow, valueOf, eqnGroup, numberOf}
 use Rattle.operators.specs.Limits.{widthLimit}
 use Rattle.operators.specs.Windows.{IsWidth, isWindowEqn, windows}
@@ -24,7 +24,7 @@ use Rattle.layout.specs.Record.{Raw, num, opF, flagF, boundF}
 use Rattle.layout.specs.Windows.{windowLength, encWindow}
 use Rattle.layout.proofs.Windows.{window-len}
 use Rattle.encoding.specs.View.{windowsOf, wordsOf, ofCell}
-use Rattle.encoding.specs.Back.{toCell, passedOf, cells}
+use Rattle.encoding.specs.Back.{toCell, windowIn, cells}
 use Rattle.encoding.specs.Sound.{AllValues, WindowKept, IsPassed, SoundCell, Own}
 use Rattle.encoding.proofs.Widths.{cell-back}
 use Rattle.encoding.proofs.Cells.{cells-window, cells-other, cells-none}
@@ -32,6 +32,8 @@ use Rattle.valid.proofs.Tests.{left, right}
 use Rattle.valid.proofs.Link.{eqnIn}
 use Rattle.roundtrip.proofs.Passes.{zeros-zero}
 use Rattle.roundtrip.proofs.Tail.{zero-list}
+use Rattle.roundtrip.proofs.Counts.{passed-back}
+use Rattle.roundtrip.proofs.Rows.{cellIn}
 use Rattle.roundtrip.proofs.Windows.{none-windows, window-passes, window-back, passed-length, passed-values, passed-bytes, windowsRaw, areaRaw}
 
 -- ---- what may be kept, by whether the equation is a window
@@ -48,19 +50,19 @@ passed-window (delay x v) y w q l a z = absurd (true≢false (sym q))
 passed-window (signal c x v) y w q l a z = absurd (true≢false (sym q))
 passed-window (window f k x) y w q l a z = record { few = l; values = a; fresh = z }
 
-pub passed-other : (e : Eqn) (y : ℕ) → isWindowEqn e ≡ false → IsPassed e y noPassed
-passed-other input y q = refl
-passed-other nil y q = refl
-passed-other unit y q = refl
-passed-other (one f x) y q = refl
-passed-other (two g x v) y q = refl
-passed-other (last x v) y q = refl
-passed-other (delay x v) y q = refl
-passed-other (signal c x v) y q = refl
-passed-other (window f k x) y q = absurd (true≢false q)
+pub passed-other : (e : Eqn) (y : ℕ) (w : Passed) → isWindowEqn e ≡ false → w .window ≡ [] → IsPassed e y w
+passed-other input y w q p = p
+passed-other nil y w q p = p
+passed-other unit y w q p = p
+passed-other (one f x) y w q p = p
+passed-other (two g x v) y w q p = p
+passed-other (last x v) y w q p = p
+passed-other (delay x v) y w q p = p
+passed-other (signal c x v) y w q p = p
+passed-other (window f k x) y w q p = absurd (true≢false q)
 
 -- and back
-passed-none : (e : Eqn) (y : ℕ) (w : Passed) → isWindowEqn e ≡ false → IsPassed e y w → w ≡ noPassed
+passed-none : (e : Eqn) (y : ℕ) (w : Passed) → isWindowEqn e ≡ false → IsPassed e y w → w .window ≡ []
 passed-none input y w q p = p
 passed-none nil y w q p = p
 passed-none unit y w q p = p
@@ -87,8 +89,8 @@ window-kept (window f k x) y w q i p = let l = i .1 in let m = p .few in (omega 
 -- a record that passes
 pub record Good (n : ℕ) (r : Raw) : Type 0 where
   pub eqn : toCell r .eqn ≡ eqnIn r
-  pub back : (w : Passed) → (isWindow (groupOf (num opF r)) ≡ true → length (w .window) ≡ num flagF r) → ofCell (withPassed w (toCell r)) ≡ r
-  pub sound : (w : Passed) → IsPassed (eqnIn r) (num boundF r) w → SoundCell n (withPassed w (toCell r))
+  pub back : (xs : List ℤ) → (isWindow (groupOf (num opF r)) ≡ true → length xs ≡ num flagF r) → ofCell (cellIn xs r) ≡ r
+  pub sound : (xs : List ℤ) → IsPassed (eqnIn r) (num boundF r) (cellIn xs r .passed) → SoundCell n (cellIn xs r)
   pub own : Own (toCell r)
   -- of a window: what it keeps is within its width, and nothing with bound 0
   pub fill : isWindow (groupOf (num opF r)) ≡ true → num flagF r ≤ widthLimit
@@ -107,10 +109,6 @@ no-values : (l : List ℤ) → length l ≡ 0 → l ≡ []
 no-values [] e = refl
 no-values (x ∷ l) e = absurd (omega arith)
 
-plain-cell : (r : Raw) → withPassed noPassed (toCell r) ≡ toCell r
-unfolding toCell
-plain-cell r = refl
-
 windows-none : windows [] ≡ 0
 unfolding windows
 windows-none = refl
@@ -128,34 +126,34 @@ unfolding encRows
 enc-cons m w ws = refl
 
 module _ (n : ℕ) where
-  other-backs : (m : ℕ) (r : Raw) (l : List Raw) (b : List ℕ) (M : State) → Good n r → isWindow (groupOf (num opF r)) ≡ false → Backs n m l b M → Backs n m (r ∷ l) b (toCell r ∷ M)
+  other-backs : (m : ℕ) (r : Raw) (l : List Raw) (b : List ℕ) (M : State) → Good n r → isWindow (groupOf (num opF r)) ≡ false → Backs n m l b M → Backs n m (r ∷ l) b (cellIn [] r ∷ M)
   other-backs m r l b M g e k =
       let q : isWindowEqn (toCell r .eqn) ≡ false = ap isWindowEqn (g .eqn) ∙ window-by-number _ _ _ (num opF r) ∙ e in
       record {
-        rows = ap₂ _∷_ (ap ofCell (sym (plain-cell r)) ∙ g .back noPassed (λ t. absurd (true≢false (sym t ∙ e)))) (k .rows);
+        rows = ap₂ _∷_ (g .back [] (λ t. absurd (true≢false (sym t ∙ e)))) (k .rows);
         area = rw q (k .area);
-        sound = (subst (SoundCell n) (plain-cell r) (g .sound noPassed (passed-other (eqnIn r) (num boundF r) (sym (ap isWindowEqn (g .eqn)) ∙ q))), k .sound);
+        sound = (g .sound [] (passed-other (eqnIn r) (num boundF r) (cellIn [] r .passed) (sym (ap isWindowEqn (g .eqn)) ∙ q) refl), k .sound);
         own = (g .own, k .own);
         many = windows-no (toCell r .eqn) (planOf M) q ∙ rw e (k .many);
       }
 
   window-backs : (m : ℕ) (r : Raw) (l : List Raw) (b : List ℕ) (M : State) → Good n r → isWindow (groupOf (num opF r)) ≡ true → length b ≡ suc m * windowLength → Bytes b
       → allZero (drop (num flagF r * 8) (take windowLength b)) ≡ true → Backs n m l (drop windowLength b) M
-      → Backs n (suc m) (r ∷ l) b (withPassed (passedOf (num flagF r) (take windowLength b)) (toCell r) ∷ M)
+      → Backs n (suc m) (r ∷ l) b (cellIn (windowIn (num flagF r) (take windowLength b)) r ∷ M)
   window-backs m r l b M g e len by z k =
       let s = take windowLength b in
-      let w = passedOf (num flagF r) s in
+      let xs = windowIn (num flagF r) s in
       let sl : length s ≡ windowLength = length-take-le windowLength b (omega arith) in
       let sb : Bytes s = take-bytes windowLength b by in
       let f = g .fill e in
       let wl = passed-length (num flagF r) s sl sb f in
       let q : isWindowEqn (toCell r .eqn) ≡ true = ap isWindowEqn (g .eqn) ∙ window-by-number _ _ _ (num opF r) ∙ e in
-      let few : length (w .window) ≤ width (valueOf (eqnIn r)) = rw wl (g .within e) in
+      let few : length xs ≤ width (valueOf (eqnIn r)) = rw wl (g .within e) in
       record {
-        rows = ap₂ _∷_ (g .back w (λ t. wl)) (k .rows);
-        area = rw q (enc-cons m (wordsOf (w .window)) (map wordsOf (windowsOf M)) ∙ ap₂ _++_ (passed-bytes (num flagF r) s sl sb f z) (k .area) ∙ take-append-drop windowLength b);
+        rows = ap₂ _∷_ (g .back xs (λ t. wl)) (k .rows);
+        area = rw q (enc-cons m (wordsOf xs) (map wordsOf (windowsOf M)) ∙ ap₂ _++_ (passed-bytes (num flagF r) s sl sb f z) (k .area) ∙ take-append-drop windowLength b);
         sound = (
-          g .sound w (passed-window (eqnIn r) (num boundF r) w (sym (ap isWindowEqn (g .eqn)) ∙ q) few (passed-values (num flagF r) s sl sb f) (λ y. no-values (w .window) (wl ∙ g .fresh e y))),
+          g .sound xs (passed-window (eqnIn r) (num boundF r) (cellIn xs r .passed) (sym (ap isWindowEqn (g .eqn)) ∙ q) few (passed-values (num flagF r) s sl sb f) (λ y. no-values xs (wl ∙ g .fresh e y))),
           k .sound,
         );
         own = (g .own, k .own);
@@ -210,6 +208,10 @@ module _ (n : ℕ) where
   abbrev areaFor : ℕ → State → List ℕ
   areaFor m M = encRows encWindow [] m (map wordsOf (windowsOf M))
 
+  -- the cell that a sound cell's record and window give
+  whole-back : (c : Cell) → SoundCell n c → (xs : List ℤ) → xs ≡ c .passed .window → cellIn xs (ofCell c) ≡ c
+  whole-back c ok xs e = ap₂ withPassed (passed-back n c ok xs e) (cell-back n c ok)
+
   -- the cells that a sound state's records and windows give
   pub cells-back : (m : ℕ) (M : State) → All (SoundCell n) M → windows (planOf M) ≤ m → cells (map ofCell M) (areaFor m M) ≡ M
   unfolding windows
@@ -219,9 +221,9 @@ module _ (n : ℕ) where
       go : (x : Bool) → isWindowEqn (c .eqn) ≡ x → (m : ℕ) → windows (planOf (c ∷ M)) ≤ m → ((m′ : ℕ) → windows (planOf M) ≤ m′ → cells (map ofCell M) (areaFor m′ M) ≡ M)
           → cells (map ofCell (c ∷ M)) (areaFor m (c ∷ M)) ≡ c ∷ M
       go false e m h ih =
-          let p : c .passed ≡ noPassed = passed-none (c .eqn) (c .bound) (c .passed) e (a .0 .passed) in
+          let p : c .passed .window ≡ [] = passed-none (c .eqn) (c .bound) (c .passed) e (a .0 .passed) in
           rw e (cells-other (ofCell c) (map ofCell M) (areaFor m M) (group-is c ∙ e)
-          ∙ ap₂ _∷_ (cell-back n c (a .0) ∙ ap (λ (w : Passed). withPassed w c) (sym p)) (ih m (rw e at h)))
+          ∙ ap₂ _∷_ (whole-back c (a .0) [] (sym p)) (ih m (rw e at h)))
       go true e zero h ih = let k : suc (windows (planOf M)) ≤ 0 = rw e at h in absurd (omega arith)
       go true e (suc m) h ih =
           let k : suc (windows (planOf M)) ≤ suc m = rw e at h in
@@ -231,8 +233,8 @@ module _ (n : ℕ) where
           rw e (ap (cells (map ofCell (c ∷ M))) (enc-cons m (wordsOf v) (map wordsOf (windowsOf M)))
           ∙ cells-window (ofCell c) (map ofCell M) (encWindow (wordsOf v) ++ b) (group-is c ∙ e)
           ∙ ap₂ _∷_
-          (ap₂ (λ (j : ℕ) (s : List ℕ). withPassed (passedOf j s) (toCell (ofCell c))) (fill-is c e) (take-at (encWindow (wordsOf v)) b windowLength (window-len (wordsOf v)))
-          ∙ ap₂ withPassed (window-back v (t .1) (t .0)) (cell-back n c (a .0)))
+          (whole-back c (a .0) _
+          (ap₂ windowIn (fill-is c e) (take-at (encWindow (wordsOf v)) b windowLength (window-len (wordsOf v))) ∙ window-back v (t .1) (t .0)))
           (ap (cells (map ofCell M)) (drop-at (encWindow (wordsOf v)) b windowLength (window-len (wordsOf v))) ∙ ih m (omega arith)))
 
   -- they pass

@@ -27,10 +27,11 @@ use Rattle.le.proofs.RoundTrip.{rows-drop}
 use Rattle.layout.specs.Record.{noSlot, num, headWidths, encSlot, encRaw, decRaw, countF, boundF}
 use Rattle.layout.proofs.Laws.{head-len, slot-len, raw-enc}
 use Rattle.layout.proofs.Slots.{slot-zeros}
-use Rattle.encoding.specs.View.{flag, flagOf, bitsOf, keptNums, slotOf, padTo, rawOf, ofCell}
+use Rattle.encoding.specs.View.{flag, flagOf, bitsOf, keptNums, slotOf, padTo, countsWord, rawOf, ofCell}
 use Rattle.encoding.specs.Sound.{Rising, IsNext, IsKept, IsPassed, SoundCell, Own}
 use Rattle.encoding.proofs.Widths.{cell-raw, pad-length}
 use Rattle.valid.specs.Valid.{planOk, nextOk, sizesOk, risen, flagOk, noneIf, noneOk, latestOk, lastOk, signalOk, ownOk, delayOk, windowOk, keptOk, rowOk}
+use Rattle.roundtrip.proofs.Counts.{none-passes, counts-pass}
 
 -- ---- the plan part
 
@@ -69,7 +70,7 @@ next-passes false next bound h = eq-eqb next 0 h
 sizes-pass : (n : ℕ) (c : Cell) → SoundCell n c → sizesOk (ofCell c) ≡ true
 unfolding sizesOk ofCell
 sizes-pass n c ok =
-    rw (le-leb (length (c .held)) room (ok .few), le-leb (c .bound) horizon (ok .bound), next-passes (c .out) (c .next) (c .bound) (ok .next))
+    rw (le-leb (length (c .held)) room (ok .few), le-leb (c .bound) horizon (ok .bound), next-passes (c .out) (c .next) (c .bound) (ok .next)) (counts-pass n c ok)
 
 risen-passes : (lo top n : ℕ) (es : List Event) → length es ≤ n → Rising lo top es → risen top lo (length es) (padTo n noSlot (map slotOf es)) ≡ true
 unfolding risen padTo
@@ -83,9 +84,8 @@ flag-passes : (o : Option ℤ) → flagOk (flagOf o) (bitsOf o) ≡ true
 flag-passes none = refl
 flag-passes (some v) = refl
 
-none-passes : (y : ℕ) (o : Option ℤ) → (y ≡ 0 → o ≡ none) → noneIf y (flagOf o) ≡ true
-none-passes zero o h = rw (h refl)
-none-passes (suc y) o h = rw (ne-eqb (suc y) 0 (λ e. omega arith))
+absent-passes : (y : ℕ) (o : Option ℤ) → (y ≡ 0 → o ≡ none) → noneIf y (flagOf o) ≡ true
+absent-passes y o h = none-passes y (flagOf o) (λ z. ap flagOf (h z))
 
 -- the newest event lies below the top
 newest-passes : (lo top n j : ℕ) (es : List Event) → length es ≤ n → Rising lo top es → length es ≡ suc j → getD (padTo n noSlot (map slotOf es)) j noSlot .stamp < top
@@ -96,24 +96,20 @@ newest-passes lo top (suc n) zero (e ∷ []) h r l = r .2
 newest-passes lo top (suc n) zero (e ∷ d ∷ es) h r l = absurd (omega arith)
 newest-passes lo top (suc n) (suc j) (e ∷ es) h r l = newest-passes (suc (e .stamp)) top n j es (omega arith) (r .2) (omega arith)
 
-kept-passes : (e : Eqn) (o : Bool) (y : ℕ) (h : List Event) (m : ℕ) (k : Kept) (w : Passed) → IsWidth e → IsKept e y k → IsPassed e y w → length h ≤ room → (T (isDelay (eqnGroup e)) → Rising 0 (k .since) h) → keptOk (rawOf e o y h m (keptNums e k w)) ≡ true
+kept-passes : (e : Eqn) (o : Bool) (y : ℕ) (h : List Event) (m : ℕ) (k : Kept) (w : Passed) (z : ℕ) → IsWidth e → IsKept e y k → IsPassed e y w → length h ≤ room → (T (isDelay (eqnGroup e)) → Rising 0 (k .since) h) → keptOk (rawOf e o y h m (keptNums e k w) z) ≡ true
 unfolding keptOk noneOk latestOk lastOk signalOk delayOk windowOk ownOk groupOf numberOf valueOf
-kept-passes input o y h m k w i ok p few own = refl
-kept-passes nil o y h m k w i ok p few own = refl
-kept-passes unit o y h m k w i ok p few own = refl
-kept-passes (one f a) o y h m k w i ok p few own = rw (one-group f)
-kept-passes (two g a b) o y h m k w i ok p few own = rw (two-group g)
-kept-passes (last a b) o y h m k w i ok p few own = rw (flag-passes (k .prev), none-passes y (k .prev) (ok .fresh))
-kept-passes (signal c a b) o y h m k w i ok p few own =
-    rw (signal-group c, flag-passes (k .prev), none-passes y (k .prev) (ok .fresh), flag-passes (k .prevB), none-passes y (k .prevB) (ok .freshB))
-kept-passes (window f v a) o y h m k w i ok p few own =
-    rw (window-group f, width-bits v (i .0) (i .1), le-leb (length (w .window)) (width v) (p .few), fresh y (p .fresh))
-  where
-    fresh : (y : ℕ) → (y ≡ 0 → w .window ≡ []) → noneIf y (length (w .window)) ≡ true
-    fresh zero h = rw (h refl)
-    fresh (suc y) h = rw (ne-eqb (suc y) 0 (λ e. omega arith))
-kept-passes (delay a b) o y h m k w i ok p few own =
-    rw (flag-passes (k .value), flag-passes (k .prior), none-passes (k .since) (k .value) (ok .unset), none-passes y (k .prior) (ok .fresh), newest h few (own tt)) (le-leb (k .since) y (ok .since))
+kept-passes input o y h m k w z i ok p few own = refl
+kept-passes nil o y h m k w z i ok p few own = refl
+kept-passes unit o y h m k w z i ok p few own = refl
+kept-passes (one f a) o y h m k w z i ok p few own = rw (one-group f)
+kept-passes (two g a b) o y h m k w z i ok p few own = rw (two-group g)
+kept-passes (last a b) o y h m k w z i ok p few own = rw (flag-passes (k .prev), absent-passes y (k .prev) (ok .fresh))
+kept-passes (signal c a b) o y h m k w z i ok p few own =
+    rw (signal-group c, flag-passes (k .prev), absent-passes y (k .prev) (ok .fresh), flag-passes (k .prevB), absent-passes y (k .prevB) (ok .freshB))
+kept-passes (window f v a) o y h m k w z i ok p few own =
+    rw (window-group f, width-bits v (i .0) (i .1), le-leb (length (w .window)) (width v) (p .few), none-passes y (length (w .window)) (λ t. ap length (p .fresh t)))
+kept-passes (delay a b) o y h m k w z i ok p few own =
+    rw (flag-passes (k .value), flag-passes (k .prior), absent-passes (k .since) (k .value) (ok .unset), absent-passes y (k .prior) (ok .fresh), newest h few (own tt)) (le-leb (k .since) y (ok .since))
   where
     newest : (es : List Event) → length es ≤ room → Rising 0 (k .since) es → cond (eqb (length es) 0) true (ltb (getD (padTo room noSlot (map slotOf es)) (length es - 1) noSlot .stamp) (k .since)) ≡ true
     newest [] l r = refl
@@ -177,4 +173,4 @@ row-passes n c h ok own =
     stamps = unfold ofCell in risen-passes 0 (c .bound) room (c .held) (ok .few) (ok .held)
 
     keeps : keptOk (ofCell c) ≡ true
-    keeps = unfold ofCell in kept-passes (c .eqn) (c .out) (c .bound) (c .held) (c .next) (c .kept) (c .passed) (ok .width) (ok .kept) (ok .passed) (ok .few) own
+    keeps = unfold ofCell in kept-passes (c .eqn) (c .out) (c .bound) (c .held) (c .next) (c .kept) (c .passed) (countsWord (c .passed)) (ok .width) (ok .kept) (ok .passed) (ok .few) own

@@ -5,6 +5,7 @@ use mathlib.Core.List.{List, [], _∷_, map}
 use mathlib.Core.Bool.{Bool, true, false, not, cond, _&&_, true≢false}
 use native.Mathlib.Omega.{arith}
 use lib.Dec.{eqb, leb, lit<, lit≤, T}
+use lib.IntN.{ℤ}
 use lib.ListN.{length, take, length-map}
 use lib.Seq.{length-take-le}
 use borrow.Author.Tests.{eqb-true, ltb-true, leb-true, ne-eqb}
@@ -12,25 +13,26 @@ use mir.Syntax.{w64}
 use mir.Val.{ofZ, toZ}
 use Rattle.meaning.specs.Plan.{Eqn, input, nil, unit, one, two, last, delay, signal, window, isInput}
 use Rattle.meaning.specs.Table.{width}
-use Rattle.machine.specs.State.{Kept, Passed, room, noKept, withPassed}
+use Rattle.machine.specs.State.{Kept, Passed, Cell, room, noKept, withWindow, withPassed}
 use Rattle.operators.specs.Operators.{groupOf, isLast, isDelay, isSignal, isWindow, eqnGroup, usesK, numberOf, valueOf}
 use Rattle.operators.proofs.Widths.{width-is, bits-width}
 use Rattle.operators.specs.declared.Group.{Group}
 use Rattle.operators.specs.declared.Group.the-variants.{Absent, Input, Plain, One, Two, Last, Delay, Signal, Window}
 use Rattle.operators.specs.Limits.{widthLimit}
 use Rattle.operators.specs.Windows.{widthOk}
-use Rattle.operators.proofs.Laws.{group-of, number-back, value-back, input-by-number}
+use Rattle.operators.proofs.Laws.{group-of, number-back, value-back, input-by-number, lacks-fields}
 use Rattle.operators.proofs.Rules.{value-ok, out-ok, fields-first, fields-second, fields-value, fields-reads}
 use Rattle.le.specs.Bytes.{Bytes}
 use Rattle.le.specs.Layout.{decFields}
-use Rattle.layout.specs.Record.{Raw, noSlot, num, slotAt, decRaw, opF, aF, bF, outF, countF, flagF, priorFlagF, kF, boundF, nextF, keptF, valueF, priorF}
+use Rattle.layout.specs.Record.{Raw, noSlot, num, slotAt, decRaw, opF, aF, bF, outF, countF, flagF, priorFlagF, kF, boundF, nextF, keptF, valueF, priorF, countsF}
 use Rattle.layout.proofs.Laws.{RawOk, raw-ok}
 use Rattle.layout.proofs.Slots.{slots-many}
 use Rattle.encoding.specs.View.{flag, KeptNums, noNums, lastNums, delayNums, signalNums, windowNums, keptNums, slotOf, padTo, ofCell}
-use Rattle.encoding.specs.Back.{eventOf, heldOf, keptOf, toCell}
+use Rattle.encoding.specs.Back.{eventOf, heldOf, keptOf, toCell, countsIn}
 use Rattle.encoding.specs.Sound.{IsValue, Rising, IsNext, LastKept, DelayKept, SignalKept, IsKept, IsPassed, SoundCell, Own}
 use Rattle.valid.specs.Valid.{nextOk, lastOk, ownOk, delayOk, signalOk, windowOk, noneOk, keptOk}
 use Rattle.valid.proofs.Link.{eqnIn}
+use Rattle.roundtrip.proofs.Counts.{counts-word, counts-sound}
 use Rattle.roundtrip.proofs.Tail.{slots-back, stamps-back, stamps-under}
 use Rattle.valid.proofs.Tests.{right}
 use Rattle.roundtrip.proofs.Back.{RowFacts, WindowFacts, k-is, k-value, out-is, no-input, word, last-kept, delay-kept, signal-kept, own-kept, other-kept, window-kept, none-kept}
@@ -134,6 +136,10 @@ nums-eta : (p : List ℕ) → (let r = decRaw p in r .nums ≡ num 0 r ∷ num 1
 unfolding decRaw decFields
 nums-eta p = refl
 
+-- the cell of a record, with these values in its window
+abbrev pub cellIn : List ℤ → Raw → Cell
+cellIn xs r = withPassed (withWindow xs (countsIn r)) (toCell r)
+
 module _ (n : ℕ) (p : List ℕ) (len : length p ≡ 256) (b : Bytes p) (f : RowFacts n p) where
   raw : Raw
   raw = decRaw p
@@ -146,9 +152,9 @@ module _ (n : ℕ) (p : List ℕ) (len : length p ≡ 256) (b : Bytes p) (f : Ro
   held-is = ap (λ (j : ℕ). map eventOf (take j (decRaw p .slots))) count-is
 
   -- with what a window keeps beside it
-  pub row-back : (w : Passed) → (isWindow (groupOf (num opF (decRaw p))) ≡ true → length (w .window) ≡ num flagF (decRaw p)) → decRaw p ≡ ofCell (withPassed w (toCell (decRaw p)))
+  pub row-back : (xs : List ℤ) → (isWindow (groupOf (num opF (decRaw p))) ≡ true → length xs ≡ num flagF (decRaw p)) → decRaw p ≡ ofCell (cellIn xs (decRaw p))
   unfolding toCell ofCell
-  row-back w fill =
+  row-back xs fill =
       let r = decRaw p in
       let ok = raw-ok p b in
       let op = num opF r in
@@ -159,11 +165,11 @@ module _ (n : ℕ) (p : List ℕ) (len : length p ≡ 256) (b : Bytes p) (f : Ro
       let s = fields-second n (num opF r) (num aF r) (num bF r) (num kF r) (num outF r) (g .fields) k in
       let v = ap (ofZ w64) (value-back (num aF r) (num bF r) k op) ∙ k-is (usesK op) (num kF r) (word r ok kF (lit≤ tt) (lit< tt)) (value-ok n (num opF r) (num aF r) (num bF r) (num kF r) (num outF r) (g .fields)) in
       let out = out-is (groupOf op) (num outF r) (out-ok n (num opF r) (num aF r) (num bF r) (num kF r) (num outF r) (g .fields)) in
-      let kb = kept-nums r ok (f .kept) (eqnIn r) o w fill in
+      let kb = kept-nums r ok (f .kept) (eqnIn r) o (cellIn xs r .passed) fill in
       let cn = ap length held-is ∙ length-map (take (num countF r) (r .slots)) eventOf ∙ length-take-le (num countF r) (r .slots) (rw (slots-many p) (f .count)) in
       let sl = ap (λ (l : List Rattle.meaning.specs.Events.Event). padTo room noSlot (map slotOf l)) held-is ∙ slots-back p (num countF r) len (f .count) (ok .good) (f .zeros) in
       sym ((λ i. record {
-        nums = o i ∷ a i ∷ s i ∷ out i ∷ cn i ∷ kb i .flag ∷ kb i .priorFlag ∷ sym (f .small) i ∷ v i ∷ num 9 r ∷ num 10 r ∷ kb i .kept ∷ kb i .value ∷ kb i .prior ∷ sym (f .rest) i ∷ [];
+        nums = o i ∷ a i ∷ s i ∷ out i ∷ cn i ∷ kb i .flag ∷ kb i .priorFlag ∷ sym (f .small) i ∷ v i ∷ num 9 r ∷ num 10 r ∷ kb i .kept ∷ kb i .value ∷ kb i .prior ∷ counts-word r i ∷ [];
         slots = sl i;
       }) ∙ (λ i. record { nums = sym (nums-eta p) i; slots = r .slots }))
 
@@ -189,9 +195,9 @@ module _ (n : ℕ) (p : List ℕ) (len : length p ≡ 256) (b : Bytes p) (f : Ro
         let many : num countF r ≤ length (r .slots) = rw (slots-many p) (f .count) in
         rw (l, d, held-is) (stamps-back 0 (num keptF r) (num countF r) (r .slots) many (raw-ok p b .good) (stamps-under 0 (num boundF r) (num keptF r) (num countF r) (r .slots) many (λ z. omega arith) newest-below (f .stamps)))
 
-  pub row-sound : (w : Passed) → IsPassed (eqnIn (decRaw p)) (num boundF (decRaw p)) w → SoundCell n (withPassed w (toCell (decRaw p)))
+  pub row-sound : (xs : List ℤ) → IsPassed (eqnIn (decRaw p)) (num boundF (decRaw p)) (cellIn xs (decRaw p) .passed) → SoundCell n (cellIn xs (decRaw p))
   unfolding toCell
-  row-sound w ps =
+  row-sound xs ps =
       let r = decRaw p in
       let ok = raw-ok p b in
       let g = f .plan in
@@ -208,6 +214,7 @@ module _ (n : ℕ) (p : List ℕ) (len : length p ≡ 256) (b : Bytes p) (f : Ro
         next = next-sound (num outF r) (f .next);
         kept = kept-sound r ok (f .kept) (eqnIn r) o;
         passed = ps;
+        counts = λ q. rw (lacks-fields (num aF r) (num bF r) k (num opF r)) (counts-sound r (word r ok countsF (lit≤ tt) (lit< tt)) (f .counts) xs q);
       }
     where
       is-true : (q : Bool) → T q → q ≡ true

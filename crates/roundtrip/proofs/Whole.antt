@@ -112,7 +112,7 @@ module _ (s : List ℕ) (b : Bytes s) (ok : valid s ≡ true) where
       let g = row-facts (count s) p (rows-at (rowOk (count s)) (count s) i s (f .rows) h) in
       record {
         eqn = eqn-is (decRaw p);
-        back = λ w e. sym (row-back (count s) p l y g w e);
+        back = λ xs e. sym (row-back (count s) p l y g xs e);
         sound = row-sound (count s) p l y g;
         own = row-own (count s) p l y g;
         fill = row-fill (count s) p l y g;

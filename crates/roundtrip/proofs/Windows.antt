@@ -28,7 +28,7 @@ use Rattle.layout.specs.Windows.{windowLength, encWindow, decWindow}
 use Rattle.layout.proofs.Laws.{byte-get}
 use Rattle.layout.proofs.Windows.{window-len, window-dec, window-many, window-small, window-split}
 use Rattle.encoding.specs.View.{windowsOf, wordsOf, ofCell}
-use Rattle.encoding.specs.Back.{toCell, passedOf, cells}
+use Rattle.encoding.specs.Back.{windowIn}
 use Rattle.encoding.specs.Sound.{IsValue, AllValues, SoundCell}
 use Rattle.encoding.proofs.Widths.{bits-below, value-back, cell-back}
 use Rattle.encoding.proofs.Cells.{cells-window, cells-other, cells-none}
@@ -96,12 +96,12 @@ pub values-back : (w : List ℤ) → AllValues w → map (toZ w64) (wordsOf w) �
 values-back [] a = refl
 values-back (v ∷ w) a = ap₂ _∷_ (value-back v (a .0)) (values-back w (a .1))
 
-pub window-back : (w : List ℤ) → AllValues w → length w ≤ widthLimit → passedOf (length w) (encWindow (wordsOf w)) ≡ record { window = w }
+pub window-back : (w : List ℤ) → AllValues w → length w ≤ widthLimit → windowIn (length w) (encWindow (wordsOf w)) ≡ w
 unfolding encWindow decWindow
 window-back w a h =
     let n : length (wordsOf w) ≡ length w = length-map w (ofZ w64) in
     let e = ap (λ (j : ℕ). take j (decRows le 8 widthLimit (encRows (enc 8) 0 widthLimit (wordsOf w)))) (sym n) ∙ words-back widthLimit (wordsOf w) (rw n h) (words-small w a) in
-    ap (λ (l : List ℤ). record { window = l }) (ap (map (toZ w64)) e ∙ values-back w a)
+    ap (map (toZ w64)) e ∙ values-back w a
 
 -- ---- bytes of one window that pass
 
@@ -122,14 +122,14 @@ module _ (n : ℕ) (s : List ℕ) (len : length s ≡ windowLength) (b : Bytes s
   some : length (take n (decWindow s)) ≡ n
   some = length-take-le n (decWindow s) (rw (window-many s) h)
 
-  pub passed-length : length (passedOf n s .window) ≡ n
+  pub passed-length : length (windowIn n s) ≡ n
   passed-length = length-map (take n (decWindow s)) (toZ w64) ∙ some
 
-  pub passed-values : AllValues (passedOf n s .window)
+  pub passed-values : AllValues (windowIn n s)
   passed-values = bits-values (take n (decWindow s)) (all-take n (decWindow s) (window-small s b))
 
   -- the bytes are those of what they keep
-  pub passed-bytes : allZero (drop (n * 8) s) ≡ true → encWindow (wordsOf (passedOf n s .window)) ≡ s
+  pub passed-bytes : allZero (drop (n * 8) s) ≡ true → encWindow (wordsOf (windowIn n s)) ≡ s
   passed-bytes z =
       let ws = decWindow s in
       let front : encRows (enc 8) 0 n (take n ws) ≡ take (n * 8) s = sym (ap (take (n * 8)) (sym (window-dec s len b) ∙ split) ∙ take-at (encRows (enc 8) 0 n (take n ws)) (encRows (enc 8) 0 (widthLimit - n) (drop n ws)) (n * 8) (length-rows (enc 8) 0 8 (length-enc 8) n (take n ws))) in

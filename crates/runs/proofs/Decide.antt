@@ -79,7 +79,7 @@ module _ (S : Streams) (M : State) (inv : Tracks S M) where
     known-past a t l = past-cong (knownIn S M a) (S a) t (λ p m. cut-yes (S a) (C a .bound) p (omega arith))
 
     -- what an argument had latest: held, or kept
-    latest-is : (a t : ℕ) {v : Option ℤ} → floor a ≤ y → v ≡ latest (knownIn S M a) y → y ≤ t → t ≤ C a .bound → heldLatest (C a) t v ≡ latest (S a) t
+    pub latest-is : (a t : ℕ) {v : Option ℤ} → floor a ≤ y → v ≡ latest (knownIn S M a) y → y ≤ t → t ≤ C a .bound → heldLatest (C a) t v ≡ latest (S a) t
     latest-is a t la k l m = rw (k, latest-seam (knownIn S M a) (view (C a)) (floor a) (shows-now a) y t la l) (cut-latest (S a) (C a .bound) t m)
 
     last-gives : (a b t : ℕ) → floor a ≤ y → floor b ≤ y → C s .kept ≡ keptOf (last a b) (knownIn S M) s y → y ≤ t → t < C b .bound
@@ -109,7 +109,7 @@ module _ (S : Streams) (M : State) (inv : Tracks S M) where
     pub slid-is : (k a t : ℕ) {w : List ℤ} → floor a ≤ y → w ≡ latestOf k (values (events (S a) y)) → y ≤ t → t ≤ C a .bound → slid k y t w (view (C a)) ≡ latestOf k (values (events (S a) t))
     slid-is k a t la e l m = rw e (window-seam k (S a) (view (C a)) y t l (λ p i j. arg-at a p la i (omega arith)))
 
-    window-gives : (f : Fold) (k : ℤ) (a t : ℕ) → floor a ≤ y → C s .passed ≡ passedOf (window f k a) S y → y ≤ t → t < C a .bound
+    window-gives : (f : Fold) (k : ℤ) (a t : ℕ) → floor a ≤ y → C s .passed ≡ passedOf (window f k a) S s y → y ≤ t → t < C a .bound
         → gives (window f k a) (C s) (C a) (C a) t ≡ window-at f (S a t) (latestOf (width k) (values (events (S a) (suc t))))
     window-gives f k a t la e l m = rw (slid-is (width k) a (suc t) la (ap (λ w. w .window) e) (omega arith) m, arg-at a t la l m)
 
@@ -151,7 +151,7 @@ module _ (S : Streams) (M : State) (inv : Tracks S M) where
           both false h = refl
 
     -- one case for each operator
-    gives-at : (e : Eqn) (t : ℕ) → Each (λ i. floor i ≤ y) (reads e) → C s .kept ≡ keptOf e (knownIn S M) s y → C s .passed ≡ passedOf e S y
+    gives-at : (e : Eqn) (t : ℕ) → Each (λ i. floor i ≤ y) (reads e) → C s .kept ≡ keptOf e (knownIn S M) s y → C s .passed ≡ passedOf e S s y
         → ((p : ℕ) → p < horizon → S s p ≡ at e rd S s p)
         → y ≤ t → t < horizon → t < limit e (C s) (C (argA e)) (C (argB e)) → T (not (stops e (C s) (C (argA e)) (C (argB e)) t))
         → ((p : ℕ) → y ≤ p → p < t → S s p ≡ none) → (e ≡ input → ⊥) → gives e (C s) (C (argA e)) (C (argB e)) t ≡ at e rd S s t
@@ -182,8 +182,8 @@ module _ (S : Streams) (M : State) (inv : Tracks S M) where
     ahead-limit input x k l = tt
     ahead-limit nil x k l = tt
     ahead-limit unit x k l = tt
-    ahead-limit (one f a) x k l = tt
-    ahead-limit (two g a b) x k l = tt
+    ahead-limit (one f a) x k l = omega arith
+    ahead-limit (two g a b) x k l = let u = k .0 in let v = k .1 in (omega arith, omega arith)
     ahead-limit (last a b) x k l = tt
     ahead-limit (delay a b) x k l = omega arith
     ahead-limit (signal c a b) x k l = let u = k .0 in let v = k .1 in (omega arith, omega arith)

@@ -1,16 +1,22 @@
--- What a last, a delay, a signal form or a window keeps, told by the solution: the machine's search for the latest set point
--- finds the latest, and what a signal form or a window needs of its arguments is known.
+-- What a last, a delay, a signal form or a window keeps, and the counts, told by the solution: the machine's search for the
+-- latest set point finds the latest, and what a signal form or a window needs of its arguments is known.
 use mathlib.Core.Path.{_≡_, refl, ap}
 use mathlib.Core.Logic.{inl, inr}
 use Prim.Native.Nat.{ℕ, zero, suc, pred, _≤_, _<_, max}
 use native.Mathlib.Omega.{arith}
 use native.Mathlib.Decide.{decLe}
+use lib.Dec.{ltb, lt→ltb}
+use lib.ListN.{length}
 use Rattle.meaning.specs.Plan.{Eqn, input, nil, unit, one, two, last, delay, signal, window}
 use Rattle.meaning.specs.Events.{Stream, Streams}
+use Rattle.meaning.specs.Missing.{outside, divisor}
+use Rattle.meaning.proofs.Tests.{true-is}
+use Rattle.meaning.proofs.Missing.{count-readings}
 use Rattle.machine.specs.State.{State, cellAt}
 use Rattle.machine.specs.Reach.{pastLatest}
+use Rattle.machine.specs.Calls.{missing}
 use Rattle.machine.proofs.Window.{past-max, past-hit}
-use Rattle.runs.specs.Inside.{knownIn, SetPoint, PastLatest, never, past, KeptAs, PassedAs}
+use Rattle.runs.specs.Inside.{knownIn, SetPoint, PastLatest, never, past, KeptAs, PassedAs, missedAs}
 use Rattle.runs.proofs.Kept.{keptOf, pointOf, point-le}
 use Rattle.runs.proofs.Passed.{passedOf}
 use Rattle.runs.proofs.Tracks.{cut-latest, Ahead, Tracks}
@@ -52,16 +58,22 @@ kept-of (window f k a) S M s y h = refl
 pub kept-as : (S : Streams) (M : State) → Tracks S M → (s : ℕ) → KeptAs (cellAt M s .eqn) S (knownIn S M) s (cellAt M s .bound) (cellAt M s .kept)
 kept-as S M inv s = rw (inv .kept s) (kept-of (cellAt M s .eqn) S M s (cellAt M s .bound) (inv .ahead s))
 
-passed-of : (e : Eqn) (S : Streams) (y : ℕ) → PassedAs e S y (passedOf e S y)
-passed-of input S y = refl
-passed-of nil S y = refl
-passed-of unit S y = refl
-passed-of (one f a) S y = refl
-passed-of (two g a b) S y = refl
-passed-of (last a b) S y = refl
-passed-of (delay a b) S y = refl
-passed-of (signal c a b) S y = refl
-passed-of (window f k a) S y = refl
+passed-of : (e : Eqn) (S : Streams) (s y : ℕ) → PassedAs e S y (passedOf e S s y)
+passed-of input S s y = refl
+passed-of nil S s y = refl
+passed-of unit S s y = refl
+passed-of (one f a) S s y = refl
+passed-of (two g a b) S s y = refl
+passed-of (last a b) S s y = refl
+passed-of (delay a b) S s y = refl
+passed-of (signal c a b) S s y = refl
+passed-of (window f k a) S s y = refl
 
 pub passed-as : (S : Streams) (M : State) → Tracks S M → (s : ℕ) → PassedAs (cellAt M s .eqn) S (cellAt M s .bound) (cellAt M s .passed)
-passed-as S M inv s = rw (inv .passed s) (passed-of (cellAt M s .eqn) S (cellAt M s .bound))
+passed-as S M inv s = rw (inv .passed s) (passed-of (cellAt M s .eqn) S s (cellAt M s .bound))
+
+-- the counts that are read
+pub missed-as : (S : Streams) (M : State) → Tracks S M → (rd : Streams) (s : ℕ) → s < length M → missing s M ≡ missedAs (cellAt M s .eqn) rd S s (cellAt M s .bound)
+unfolding missing
+missed-as S M inv rd s l =
+    rw (true-is (ltb s (length M)) (lt→ltb s (length M) l), inv .passed s, count-readings (cellAt M s .eqn) outside S rd S s (cellAt M s .bound), count-readings (cellAt M s .eqn) divisor S rd S s (cellAt M s .bound))

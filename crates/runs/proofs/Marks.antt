@@ -73,8 +73,8 @@ module _ (S : Streams) (M : State) (inv : Tracks S M) (s y : ℕ) (isIn : T (isI
     held = λ i. N-held i ∙ inv .held i ∙ sym (rw (N-waiting i, N-events i));
     kept = N-cases (λ i c. c .kept ≡ keptOf (c .eqn) (knownIn S N) i (c .bound))
         (λ i n. inv .kept i ∙ kept-cong (cellAt M i .eqn) (knownIn S M) (knownIn S N) i (cellAt M i .bound) (λ j p l. N-known j p)) own-kept;
-    passed = N-cases (λ i c. c .passed ≡ passedOf (c .eqn) S (c .bound)) (λ i n. inv .passed i)
-        (inv .passed s ∙ input-passed (cellAt M s .eqn) (input-is (cellAt M s .eqn) isIn) S (cellAt M s .bound) y);
+    passed = N-cases (λ i c. c .passed ≡ passedOf (c .eqn) S i (c .bound)) (λ i n. inv .passed i)
+        (inv .passed s ∙ input-passed (cellAt M s .eqn) (input-is (cellAt M s .eqn) isIn) S s (cellAt M s .bound) y);
     ahead = N-cases (λ i c. Ahead (c .eqn) N (c .bound)) (λ i n. ahead-grows (cellAt M i .eqn) M N (cellAt M i .bound) N-up (inv .ahead i)) (rw (input-is (cellAt M s .eqn) isIn) tt);
     top = N-cases (λ i c. c .bound ≤ horizon) (λ i n. inv .top i) top;
     taken = λ i. let a = N-next i in let b = N-up i in let c = inv .taken i in omega arith;

@@ -1,7 +1,7 @@
 -- One step keeps the invariant: a stream's bound goes up, with at most one new event.
--- Write: the stream's own kept data follows from what its arguments and itself hold, and its window from what it kept and
--- its argument holds. Tell: of what is known only the new event's stamp changed, and each reader ahead of it takes just
--- that. Release: a stream's least waiting reader changes only for the stream and its arguments, and dropping twice is
+-- Write: the stream's own kept data follows from what its arguments and itself hold, and its window and its counts from what
+-- it kept and its arguments hold. Tell: of what is known only the new event's stamp changed, and each reader ahead of it takes
+-- just that. Release: a stream's least waiting reader changes only for the stream and its arguments, and dropping twice is
 -- dropping once.
 use mathlib.Core.Path.{_≡_, refl, sym, _∙_, ap}
 use mathlib.Core.Bool.{not, cond}
@@ -81,8 +81,8 @@ module _ (S : Streams) (M : State) (inv : Tracks S M) (s y : ℕ) (new : List Ev
   near : (i : ℕ) → Ahead (C i .eqn) M (C i .bound)
   near = C-cases (λ i c. Ahead (c .eqn) M (c .bound)) (λ i n. inv .ahead i) (rise .near)
 
-  C-passed : (i : ℕ) → C i .passed ≡ passedOf (C i .eqn) S (C i .bound)
-  C-passed = C-cases (λ i c. c .passed ≡ passedOf (c .eqn) S (c .bound)) (λ i n. inv .passed i) (passes-is S M inv s y (omega arith) (rise .near))
+  C-passed : (i : ℕ) → C i .passed ≡ passedOf (C i .eqn) S i (C i .bound)
+  C-passed = C-cases (λ i c. c .passed ≡ passedOf (c .eqn) S i (c .bound)) (λ i n. inv .passed i) (passes-is S M inv s y (omega arith) (rise .near))
 
   pub C-new : (i : ℕ) → (es : List Event) × New (S i) (cellAt M i .bound) (C i .bound) es × (C i .held ≡ cellAt M i .held ++ es)
   C-new =

@@ -5,9 +5,11 @@ use mathlib.Core.List.{List, [], _∷_}
 use Prim.Native.Nat.{ℕ, zero, suc}
 use native.Mathlib.Omega.{arith}
 use lib.ListN.{length, length-map}
+use lib.IntN.{ℤ}
 use Rattle.meaning.specs.Plan.{Eqn, input, nil, unit, one, two, last, delay, signal, window, eqnAt}
 use Rattle.meaning.specs.Events.{Streams}
 use Rattle.meaning.specs.Table.{latest, width}
+use Rattle.meaning.specs.Missing.{tally, countBelow}
 use Rattle.machine.specs.State.{Declared, State, fresh, noKept, noPassed, cellAt, loaded, declaredPlan}
 use Rattle.machine.specs.Reach.{pastLatest}
 use Rattle.machine.specs.Step.{leastWaiting}
@@ -18,7 +20,7 @@ use Rattle.runs.specs.Demand3.{isOut}
 use Rattle.runs.specs.Seen.{Typed, AllTyped}
 use Rattle.runs.specs.Inside.{knownIn}
 use Rattle.runs.proofs.Kept.{keptOf}
-use Rattle.runs.proofs.Passed.{passedOf}
+use Rattle.runs.proofs.Passed.{windowOf, passedOf}
 use Rattle.runs.proofs.Tracks.{Ahead, Tracks}
 use Rattle.runs.proofs.World.{World, start, then, worlds, Good}
 use Rattle.runs.proofs.Offers.{offer-reading-good, offer-progress-good}
@@ -54,23 +56,27 @@ fresh-kept (delay a b) K s = refl
 fresh-kept (signal c a b) K s = refl
 fresh-kept (window f k a) K s = refl
 
-fresh-passed : (e : Eqn) (S : Streams) → noPassed ≡ passedOf e S 0
-fresh-passed input S = refl
-fresh-passed nil S = refl
-fresh-passed unit S = refl
-fresh-passed (one f a) S = refl
-fresh-passed (two g a b) S = refl
-fresh-passed (last a b) S = refl
-fresh-passed (delay a b) S = refl
-fresh-passed (signal c a b) S = refl
-fresh-passed (window f k a) S = rw (last-short (width k) [] (omega arith))
+fresh-window : (e : Eqn) (S : Streams) → _≡_ {A = List ℤ} [] (windowOf e S 0)
+fresh-window input S = refl
+fresh-window nil S = refl
+fresh-window unit S = refl
+fresh-window (one f a) S = refl
+fresh-window (two g a b) S = refl
+fresh-window (last a b) S = refl
+fresh-window (delay a b) S = refl
+fresh-window (signal c a b) S = refl
+fresh-window (window f k a) S = rw (last-short (width k) [] (omega arith))
+
+fresh-passed : (e : Eqn) (S : Streams) (s : ℕ) → noPassed ≡ passedOf e S s 0
+unfolding countBelow tally
+fresh-passed e S s = rw (sym (fresh-window e S))
 
 fresh-ahead : (e : Eqn) (M : State) → Ahead e M 0
 fresh-ahead input M = tt
 fresh-ahead nil M = tt
 fresh-ahead unit M = tt
-fresh-ahead (one f a) M = tt
-fresh-ahead (two g a b) M = tt
+fresh-ahead (one f a) M = omega arith
+fresh-ahead (two g a b) M = (omega arith, omega arith)
 fresh-ahead (last a b) M = tt
 fresh-ahead (delay a b) M = omega arith
 fresh-ahead (signal c a b) M = (omega arith, omega arith)
@@ -80,7 +86,7 @@ pub loaded-tracks : (ds : List Declared) (S : Streams) → Tracks S (loaded ds)
 loaded-tracks ds S = record {
   held = λ s. let c = loaded-cell ds s .1 in rw c (sym (drop-nil (leastWaiting s (loaded ds))));
   kept = λ s. let c = loaded-cell ds s in rw (c .1) (fresh-kept (c .0 .eqn) (knownIn S (loaded ds)) s);
-  passed = λ s. let c = loaded-cell ds s in rw (c .1) (fresh-passed (c .0 .eqn) S);
+  passed = λ s. let c = loaded-cell ds s in rw (c .1) (fresh-passed (c .0 .eqn) S s);
   ahead = λ s. let c = loaded-cell ds s in rw (c .1) (fresh-ahead (c .0 .eqn) (loaded ds));
   top = λ s. let c = loaded-cell ds s .1 in rw c (omega arith);
   taken = λ s. let c = loaded-cell ds s .1 in rw c (omega arith);

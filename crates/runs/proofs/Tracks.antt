@@ -1,7 +1,7 @@
 -- The invariant: in a run the state is determined by the solution, the bounds and the marks of collection.
 -- Each stream holds its events from the least waiting reader on and below its bound; what is kept is what is known below
--- the bound; a delay is at most one ahead of its second argument, a signal form or a window ahead of none. So what a window
--- keeps is of the solution itself, and indifferent to every other stream's step.
+-- the bound; a delay is at most one ahead of its second argument, all others but last ahead of none. So a window and the counts
+-- are of the solution itself, and indifferent to every other stream's step.
 use mathlib.Core.Path.{_≡_, refl, sym, _∙_, ap}
 use mathlib.Core.Option.{none, some}
 use mathlib.Core.List.{List, [], _∷_, _++_, append-nil}
@@ -40,13 +40,13 @@ cut-latest f k t l = latest-cong (cut f k) f t (λ p m. cut-yes f k p (omega ari
 
 -- ---- the invariant
 
--- the bound of a delay, of a signal form or of a window against those of its arguments
+-- the bound of an equation against those of its arguments
 abbrev pub Ahead : Eqn → State → ℕ → Type 0
 Ahead input M y = Unit
 Ahead nil M y = Unit
 Ahead unit M y = Unit
-Ahead (one f a) M y = Unit
-Ahead (two g a b) M y = Unit
+Ahead (one f a) M y = y ≤ cellAt M a .bound
+Ahead (two g a b) M y = (y ≤ cellAt M a .bound) × (y ≤ cellAt M b .bound)
 Ahead (last a b) M y = Unit
 Ahead (delay a b) M y = y ≤ suc (cellAt M b .bound)
 Ahead (signal c a b) M y = (y ≤ cellAt M a .bound) × (y ≤ cellAt M b .bound)
@@ -55,7 +55,7 @@ Ahead (window f k a) M y = y ≤ cellAt M a .bound
 pub record Tracks (S : Streams) (M : State) : Type 0 where
   pub held : (s : ℕ) → cellAt M s .held ≡ dropBelow (leastWaiting s M) (events (S s) (cellAt M s .bound))
   pub kept : (s : ℕ) → cellAt M s .kept ≡ keptOf (cellAt M s .eqn) (knownIn S M) s (cellAt M s .bound)
-  pub passed : (s : ℕ) → cellAt M s .passed ≡ passedOf (cellAt M s .eqn) S (cellAt M s .bound)
+  pub passed : (s : ℕ) → cellAt M s .passed ≡ passedOf (cellAt M s .eqn) S s (cellAt M s .bound)
   pub ahead : (s : ℕ) → Ahead (cellAt M s .eqn) M (cellAt M s .bound)
   pub top : (s : ℕ) → cellAt M s .bound ≤ horizon
   pub taken : (s : ℕ) → cellAt M s .next ≤ cellAt M s .bound
@@ -74,8 +74,8 @@ pub ahead-grows : (e : Eqn) (M N : State) (y : ℕ) → ((i : ℕ) → cellAt M 
 ahead-grows input M N y g h = tt
 ahead-grows nil M N y g h = tt
 ahead-grows unit M N y g h = tt
-ahead-grows (one f a) M N y g h = tt
-ahead-grows (two k a b) M N y g h = tt
+ahead-grows (one f a) M N y g h = let x = g a in omega arith
+ahead-grows (two k a b) M N y g h = let x = g a in let z = g b in let u = h .0 in let v = h .1 in (omega arith, omega arith)
 ahead-grows (last a b) M N y g h = tt
 ahead-grows (delay a b) M N y g h = let x = g b in omega arith
 ahead-grows (signal c a b) M N y g h = let x = g a in let z = g b in let u = h .0 in let v = h .1 in (omega arith, omega arith)

@@ -1,4 +1,4 @@
--- Believe: demand 2 inside the state: what a stream holds and keeps, and where a move takes its bound, each told by the
+-- Believe: demand 2 inside the state: what a stream holds, keeps and counts, and where a move takes its bound, each told by the
 -- solution S, the bounds and the marks of collection alone.
 use Prim.Native.Nat.{ℕ, zero, suc, _+_, _≤_, _<_, max}
 use mathlib.Core.Path.{_≡_}
@@ -13,8 +13,9 @@ use Rattle.meaning.specs.Plan.{Eqn, input, nil, unit, one, two, last, delay, si
 use Rattle.meaning.specs.Arguments.{reads}
 use Rattle.meaning.specs.Events.{Event, Stream, Streams, here, events, has, horizon}
 use Rattle.meaning.specs.Table.{latest, latestOf, values, width}
-use Rattle.machine.specs.State.{Kept, Passed, State, cellAt, noKept, noPassed, room}
-use Rattle.machine.specs.Calls.{moveOne}
+use Rattle.meaning.specs.Missing.{outside, divisor, countBelow}
+use Rattle.machine.specs.State.{Kept, Passed, State, cellAt, noKept, room}
+use Rattle.machine.specs.Calls.{moveOne, Missing}
 
 -- ## Held
 
@@ -97,17 +98,24 @@ KeptAs (window f n a) S K s y k = k ≡ noKept
 abbrev pub WindowKeeps : (k : ℕ) (a : Stream) (y : ℕ) → Passed → Type 0
 WindowKeeps k a y w = w .window ≡ latestOf k (values (events a y))
 
--- of the solution S, a stream with this equation and the bound y keeps w
+-- of the solution S, a stream with this equation and the bound y keeps this window: none but a window keeps values
 abbrev pub PassedAs : Eqn → (S : Streams) (y : ℕ) → Passed → Type 0
-PassedAs input S y w = w ≡ noPassed
-PassedAs nil S y w = w ≡ noPassed
-PassedAs unit S y w = w ≡ noPassed
-PassedAs (one f a) S y w = w ≡ noPassed
-PassedAs (two g a b) S y w = w ≡ noPassed
-PassedAs (last a b) S y w = w ≡ noPassed
-PassedAs (delay a b) S y w = w ≡ noPassed
-PassedAs (signal c a b) S y w = w ≡ noPassed
+PassedAs input S y w = w .window ≡ []
+PassedAs nil S y w = w .window ≡ []
+PassedAs unit S y w = w .window ≡ []
+PassedAs (one f a) S y w = w .window ≡ []
+PassedAs (two g a b) S y w = w .window ≡ []
+PassedAs (last a b) S y w = w .window ≡ []
+PassedAs (delay a b) S y w = w .window ≡ []
+PassedAs (signal c a b) S y w = w .window ≡ []
 PassedAs (window f k a) S y w = WindowKeeps (width k) (S a) y w
+
+-- ## Missing: the two counts "equal the number of such stamps below the stream's bound, up to that limit, whatever the order of
+-- moves"
+
+-- of the readings rd and the solution S, what is read of a stream s with this equation and the bound y
+abbrev pub missedAs : Eqn → (rd S : Streams) (s y : ℕ) → Missing
+missedAs e rd S s y = record { number = 0; outside = countBelow outside e rd S s y; divisors = countBelow divisor e rd S s y }
 
 -- ## Moved
 

@@ -14,6 +14,7 @@ use Rattle.meaning.specs.Table.{latestOf, values}
 use Rattle.machine.specs.Reach.{Next}
 use Rattle.machine.specs.Step.{dropBelow}
 use Rattle.machine.specs.Windows.{takeBelow, firstFit}
+use Rattle.machine.specs.Counting.{sumTally}
 use Rattle.operators.specs.Limits.{windowLimit}
 use Rattle.le.specs.Bytes.{Bytes}
 use Rattle.layout.specs.Record.{Raws, encRaw, decRaw, encode, decode, withNum, change, flagF}
@@ -22,7 +23,7 @@ use Rattle.layout.proofs.Laws.{RawsOk, raws-ok, lent, whole-then}
 use Rattle.layout.proofs.Windows.{window-part, window-lent}
 use Rattle.encoding.specs.View.{wordsOf}
 use Rattle.windows.specs.Window.{kept}
-use Rattle.sliding.specs.Slide.{placeOf, fillOf, wordsIn, fitRow, slidWords, slidRow}
+use Rattle.sliding.specs.Slide.{placeOf, fillOf, wordsIn, fitRow, missingRow, slidWords, slidRow}
 
 window-ok : (n j : ℕ) (ws : List ℕ) (st : Raws) → RawsOk n st → RawsOk n (withWindow j ws st)
 unfolding withWindow
@@ -42,6 +43,10 @@ module _ (n : ℕ) (s : List ℕ) (fits : n * 256 + areaLength ≤ length s) (i 
   pub fit-is : (f : Fold) (y hi : ℕ) (es : List Event) (x : Next) → x ≡ firstFit f k hi (kept fill (midOf at m s)) (dropBelow y es) → x ≡ fitRow f k i y hi es st
   unfolding fitRow
   fit-is f y hi es x e = e ∙ ap (λ (l : List ℤ). firstFit f k hi l (dropBelow y es)) kept-is
+
+  pub missing-is : (y x : ℕ) (es : List Event) (c : ℕ) → c ≡ sumTally k x (kept fill (midOf at m s)) (dropBelow y es) → c ≡ missingRow k i y x es st
+  unfolding missingRow
+  missing-is y x es c e = e ∙ ap (λ (l : List ℤ). sumTally k x l (dropBelow y es)) kept-is
 
   module _ (y x : ℕ) (es : List Event) (vs : List ℤ) (ev : vs ≡ values (takeBelow x (dropBelow y es))) where
     abbrev slid : List ℤ

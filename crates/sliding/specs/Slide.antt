@@ -13,6 +13,7 @@ use Rattle.meaning.specs.Table.{latestOf, values, width}
 use Rattle.machine.specs.Reach.{Next}
 use Rattle.machine.specs.Step.{dropBelow}
 use Rattle.machine.specs.Windows.{takeBelow, firstFit}
+use Rattle.machine.specs.Counting.{sumTally}
 use Rattle.operators.specs.Operators.{groupOf, isWindow}
 use Rattle.operators.specs.Limits.{widthLimit, windowLimit}
 use Rattle.layout.specs.Record.{Raw, Raws, num, withNum, rowAt, change, opF, flagF}
@@ -43,6 +44,10 @@ wordsIn k i st = take (fillOf k i st) (windowAt (placeOf i st) st)
 -- what a move of stream i, a window of k values with bound y, finds below hi, where its argument holds these events
 unfoldable pub fitRow : Fold → (k i y hi : ℕ) → List Event → Raws → Next
 fitRow f k i y hi es st = firstFit f k hi (map (toZ w64) (wordsIn k i st)) (dropBelow y es)
+
+-- at how many stamps from y on and below x its sum has no value
+unfoldable pub missingRow : (k i y x : ℕ) → List Event → Raws → ℕ
+missingRow k i y x es st = sumTally k x (map (toZ w64) (wordsIn k i st)) (dropBelow y es)
 
 -- its words once its bound goes from y to x
 abbrev pub slidWords : (k i y x : ℕ) → List Event → Raws → List ℕ

@@ -6,10 +6,11 @@ ghost use lib.ListN.{length};
 ghost use Rattle.operators.specs.Limits.{widthLimit, windowLimit};
 ghost use Rattle.layout.specs.Record.{encode, decode, rowAt};
 ghost use Rattle.layout.specs.Windows.{areaLength};
+ghost use Rattle.machine.specs.State.{room};
 ghost use Rattle.encoding.specs.Back.{heldOf};
 ghost use Rattle.apply.specs.Named.{folding};
 ghost use Rattle.windows.specs.Window.{fitted};
-ghost use Rattle.sliding.specs.Slide.{widthIn, windowsBefore, placeOf, fillOf, fitRow, slidRow};
+ghost use Rattle.sliding.specs.Slide.{widthIn, windowsBefore, placeOf, fillOf, fitRow, missingRow, slidRow};
 use apply::Fold;
 use operators::Plan;
 use windows::Fit;
@@ -73,6 +74,18 @@ pub fn fit(state: &[u8], n: usize, i: usize, f: Fold, k: usize, a: usize, y: u64
     let fill = fill_of(state, n, i, k);
     let held = layout::row_at(state, a);
     windows::find(f, k, &state[at..end], fill, held, y, hi)
+}
+
+// At how many stamps from y on and below x the sum of stream i, a window of k values, has no value, where its argument is record a.
+pub fn missing(state: &[u8], n: usize, i: usize, k: usize, a: usize, y: u64, x: u64) -> usize
+    requires { ⌜ (n * 256 + areaLength ≤ length (now state)) × (i < n) × (a < n) × (1 ≤ k) × (k ≤ widthLimit) ⌝ }
+    ensures { λ r. ⌜ (r ≡ missingRow k i y x (heldOf (rowAt (decode n (now (state .entry))) a)) (decode n (now (state .entry)))) × (r ≤ room) ⌝ }
+{
+    let at = layout::window_start(state.len(), place_of(state, n, i));
+    let end = at + layout::WINDOW;
+    let fill = fill_of(state, n, i, k);
+    let held = layout::row_at(state, a);
+    windows::missing(k, &state[at..end], fill, held, y, x)
 }
 
 // The window of stream i slides: what its argument, record a, holds from y on and below x comes into it.

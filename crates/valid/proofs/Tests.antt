@@ -10,10 +10,11 @@ use lib.ListN.{length, getD, take, drop}
 use lib.Seq.{drop-cons, drop-drop, getD-drop}
 use borrow.Author.Tests.{eq-eqb, ne-eqb, le-leb, lt-leb, not-true, not-false, leb-true}
 use Rattle.le.specs.Bytes.{part}
-use Rattle.layout.specs.Record.{Slot, Raw, noSlot, num, slotAt, countF, boundF, outF, nextF, smallF, lastF}
+use Rattle.operators.specs.Operators.{lacksAt}
+use Rattle.layout.specs.Record.{Slot, Raw, noSlot, num, slotAt, opF, countF, boundF, outF, nextF, smallF, countsF}
 use Rattle.machine.specs.State.{room}
 use Rattle.meaning.specs.Events.{horizon}
-use Rattle.valid.specs.Valid.{nextOk, sizesOk, risen, ownOk, allRows, streamsIn}
+use Rattle.valid.specs.Valid.{nextOk, countsOk, sizesOk, risen, ownOk, allRows, streamsIn}
 
 -- ---- a test p that the code has as b
 
@@ -50,6 +51,35 @@ right false x e = absurd (never e)
   where
     never : false ≡ true → ⊥
     never e = let z : _≡_ {A = ℕ} 0 1 = ap (λ (b : Bool). cond b 1 0) e in omega arith
+
+-- ---- the counts of missing events
+
+-- every operator may have counts of 0
+pub counts-none : (r : Raw) → num countsF r ≡ 0 → true ≡ countsOk r
+unfolding countsOk
+counts-none r e = rw e (go (lacksAt (num opF r)) (eqb (num boundF r) 0))
+  where
+    go : (b z : Bool) → true ≡ cond b (cond z true true) true
+    go true true = refl
+    go true false = refl
+    go false z = refl
+
+-- others only a stream with a bound above 0, whose operator counts
+pub counts-fresh : (r : Raw) → (num countsF r ≡ 0 → ⊥) → num boundF r ≡ 0 → false ≡ countsOk r
+unfolding countsOk
+counts-fresh r h e = rw (ne-eqb (num countsF r) 0 h, e) (go (lacksAt (num opF r)))
+  where
+    go : (b : Bool) → false ≡ cond b false false
+    go true = refl
+    go false = refl
+
+pub counts-some : (r : Raw) → (num countsF r ≡ 0 → ⊥) → (num boundF r ≡ 0 → ⊥) → lacksAt (num opF r) ≡ countsOk r
+unfolding countsOk
+counts-some r h k = rw (ne-eqb (num countsF r) 0 h, ne-eqb (num boundF r) 0 k) (go (lacksAt (num opF r)))
+  where
+    go : (b : Bool) → b ≡ cond b true false
+    go true = refl
+    go false = refl
 
 -- ---- rising stamps
 
@@ -103,7 +133,7 @@ rows-turn f n i s h =
 pub sizes-count : (r : Raw) → sizesOk r ≡ true → num countF r ≤ room
 unfolding sizesOk
 sizes-count r e =
-    let rest : Bool = leb (num boundF r) horizon && (nextOk (num outF r) (num nextF r) (num boundF r) && (eqb (num smallF r) 0 && eqb (num lastF r) 0)) in
+    let rest : Bool = leb (num boundF r) horizon && (nextOk (num outF r) (num nextF r) (num boundF r) && (eqb (num smallF r) 0 && countsOk r)) in
     leb-true (num countF r) room (left (leb (num countF r) room) rest e)
 
 -- ---- how many records have an operator

@@ -11,15 +11,19 @@ use Rattle.meaning.specs.Plan.{Plan}
 use Rattle.meaning.specs.Events.{horizon}
 use Rattle.meaning.specs.CycleTest.{acyclic}
 use Rattle.machine.specs.State.{room, planOf}
-use Rattle.operators.specs.Operators.{groupOf, isLast, isDelay, isSignal, isWindow, isOperator}
+use Rattle.operators.specs.Operators.{groupOf, lacksAt, isLast, isDelay, isSignal, isWindow, isOperator}
 use Rattle.operators.specs.Rules.{fieldsOk}
 use Rattle.operators.specs.Windows.{widthOk}
 use Rattle.operators.specs.Limits.{windowLimit, capacity}
-use Rattle.layout.specs.Record.{Slot, Raw, num, slotAt, decRaw, opF, aF, bF, outF, countF, flagF, priorFlagF, smallF, kF, boundF, nextF, keptF, valueF, priorF, lastF}
+use Rattle.layout.specs.Record.{Slot, Raw, num, slotAt, decRaw, opF, aF, bF, outF, countF, flagF, priorFlagF, smallF, kF, boundF, nextF, keptF, valueF, priorF, countsF}
 use Rattle.layout.specs.Windows.{windowLength, areaLength, windowStart}
 use Rattle.encoding.specs.Back.{areaOf, stateOf}
 use Rattle.valid.specs.declared.Tested.{Tested}
 use Rattle.valid.specs.declared.Tested.the-variants as Tested
+
+-- nothing where there is nothing to keep it for
+abbrev pub noneIf : ℕ → ℕ → Bool
+noneIf a has = cond (eqb a 0) (eqb has 0) true
 
 -- ---- "contents whose plan no text taken by load gives"
 
@@ -31,13 +35,18 @@ planOk n r = isOperator (num opF r) && (fieldsOk n (num opF r) (num aF r) (num b
 abbrev pub nextOk : ℕ → ℕ → ℕ → Bool
 nextOk out next bound = cond (eqb out 0) (eqb next 0) (leb next bound)
 
+-- the counts of missing events: none of an operator that has a value for whatever it works on, and none with bound 0
+unfoldable pub countsOk : Raw → Bool
+countsOk r = cond (lacksAt (num opF r)) (noneIf (num boundF r) (num countsF r)) (eqb (num countsF r) 0)
+
 unfoldable pub sizesOk : Raw → Bool
+unfolding countsOk
 sizesOk r =
     leb (num countF r) room
     && (leb (num boundF r) horizon
     && (nextOk (num outF r) (num nextF r) (num boundF r)
     && (eqb (num smallF r) 0
-    && eqb (num lastF r) 0)))
+    && countsOk r)))
 
 -- ---- "held stamps not rising or not below the bound": n stamps rise from low on, and stay below top
 unfoldable pub risen : ℕ → ℕ → ℕ → List Slot → Bool
@@ -50,10 +59,6 @@ risen top low (suc n) (e ∷ l) = leb low (e .stamp) && risen top (e .stamp + 1)
 -- what is absent is 0, and what is there is flagged by 1
 abbrev pub flagOk : ℕ → ℕ → Bool
 flagOk has x = cond (eqb has 0) (eqb x 0) (eqb has 1)
-
--- nothing where there is nothing to keep it for
-abbrev pub noneIf : ℕ → ℕ → Bool
-noneIf a has = cond (eqb a 0) (eqb has 0) true
 
 unfoldable pub noneOk : Raw → Bool
 noneOk r = eqb (num flagF r) 0 && (eqb (num priorFlagF r) 0 && (eqb (num keptF r) 0 && (eqb (num valueF r) 0 && eqb (num priorF r) 0)))

@@ -7,7 +7,7 @@ ghost use Rattle.machine.specs.State.{room};
 ghost use Rattle.le.specs.Bytes.{allZero};
 ghost use Rattle.layout.specs.Record.{num, countF, decRaw};
 ghost use Rattle.layout.specs.Windows.{windowLength, areaLength};
-ghost use Rattle.valid.specs.Valid.{planOk, nextOk, sizesOk, risen, flagOk, noneIf, noneOk, latestOk, lastOk, signalOk, ownOk, delayOk, windowOk, keptOk, rowOk, allRows, streamsIn, count, clearAt, countedAt, windowsOk, tailOk, noted, clearIn, tested};
+ghost use Rattle.valid.specs.Valid.{planOk, nextOk, countsOk, sizesOk, risen, flagOk, noneIf, noneOk, latestOk, lastOk, signalOk, ownOk, delayOk, windowOk, keptOk, rowOk, allRows, streamsIn, count, clearAt, countedAt, windowsOk, tailOk, noted, clearIn, tested};
 use cycle::GRAPH;
 use limits::Bound;
 use limits::Queue;
@@ -41,6 +41,22 @@ fn next_ok(out: u64, next: u64, bound: u64) -> bool
     next <= bound
 }
 
+// Whether the counts of missing events are as they may be. Most are 0, which every operator may have.
+fn counts_ok(r: &[u8]) -> bool
+    requires { ⌜ length (now r) ≡ 256 ⌝ }
+    ensures { λ x. ⌜ x ≡ countsOk (decRaw (now (r .entry))) ⌝ }
+{
+    let counts = layout::word_at(r, layout::COUNTS);
+    if counts == 0 {
+        return true;
+    }
+    let bound = layout::word_at(r, layout::BOUND);
+    if bound == 0 {
+        return false;
+    }
+    operators::can_lack(layout::byte_at(r, layout::OP))
+}
+
 fn sizes_ok(r: &[u8]) -> bool
     requires { ⌜ length (now r) ≡ 256 ⌝ }
     ensures { λ x. ⌜ x ≡ sizesOk (decRaw (now (r .entry))) ⌝ }
@@ -64,7 +80,7 @@ fn sizes_ok(r: &[u8]) -> bool
     if small != 0 {
         return false;
     }
-    layout::word_at(r, layout::REST) == 0
+    counts_ok(r)
 }
 
 // Whether the first n stamps rise and stay below top.

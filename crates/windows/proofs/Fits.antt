@@ -80,7 +80,7 @@ fit-end f k hi n w l = rw (events-none n l)
 
 module _ (f : Fold) (k hi first i n : ℕ) (w : List ℤ) (r : Raw) (low : first ≤ i) (h : i < n) (many : n ≤ length (r .slots)) (words : n ≤ length (slotWords r)) (t : ℕ) (stamp : t ≡ slotAt i r .stamp) where
   -- with the value of slot i
-  now-is : grown first i w r ++ (toZ w64 (slotAt i r .value) ∷ []) ≡ grown first (i + 1) w r
+  pub now-is : grown first i w r ++ (toZ w64 (slotAt i r .value) ∷ []) ≡ grown first (i + 1) w r
   now-is =
       append-assoc w (valuesIn first i (slotWords r)) (toZ w64 (slotAt i r .value) ∷ [])
       ∙ ap (λ (l : List ℤ). w ++ l) (ap (λ (v : ℕ). valuesIn first i (slotWords r) ++ (toZ w64 v ∷ [])) (sym (slot-word r i)) ∙ sym (values-more first i (slotWords r) low (omega arith)))

@@ -4,3 +4,4 @@ pub mod Bests
 pub mod Latest
 pub mod Fits
 pub mod Slides
+pub mod Turns

@@ -1,16 +1,19 @@
 // A window on bytes: what its latest values and the held events of its argument fold to, where that first is a value, and how it
 // slides. Values are worked on raised by 2^63, so that none is below 0: the controller has no wider type for a sum.
 ghost use mathlib.Core.Path.{_≡_};
+ghost use mathlib.Core.Bool.{cond};
 ghost use mathlib.Core.List.{[], _∷_, _++_, map};
-ghost use Prim.Native.Nat.{_+_, _-_, _*_, _/_, _%_, _^_, _≤_, _<_, min};
+ghost use Prim.Native.Nat.{suc, _+_, _-_, _*_, _/_, _%_, _^_, _≤_, _<_, min};
 ghost use lib.ListN.{length, take, drop};
 ghost use mir.Syntax.{w64};
 ghost use mir.Val.{toZ};
 ghost use Rattle.num.specs.Arithmetic.{fit};
+ghost use Rattle.meaning.specs.Events.{has};
 ghost use Rattle.meaning.specs.Table.{latestOf, values, valueOf, folded};
 ghost use Rattle.machine.specs.State.{room};
 ghost use Rattle.machine.specs.Step.{dropBelow};
 ghost use Rattle.machine.specs.Windows.{takeBelow, firstFit};
+ghost use Rattle.machine.specs.Counting.{sumTally};
 ghost use Rattle.operators.specs.Limits.{widthLimit};
 ghost use Rattle.layout.specs.Record.{decRaw};
 ghost use Rattle.layout.specs.Windows.{windowLength, encWindow, decWindow};
@@ -205,6 +208,38 @@ pub fn find(f: Fold, k: usize, w: &[u8], n: usize, a: &[u8], y: u64, hi: u64) ->
         }
     }
     Fit::Nothing
+}
+
+// One more, if there is no value.
+fn lacking(c: usize, v: Found) -> usize
+    requires { ⌜ c < room ⌝ }
+    ensures { λ r. ⌜ (r ≡ cond (has (asOption v)) c (suc c)) × (r ≤ c + 1) ⌝ }
+{
+    match v {
+        Found::Value(_) => c,
+        Found::Nothing => c + 1,
+    }
+}
+
+// At how many held events of a, from stamp y on and below x, the sum of a window of k values that keeps n of them has no value.
+pub fn missing(k: usize, w: &[u8], n: usize, a: &[u8], y: u64, x: u64) -> usize
+    requires { ⌜ (1 ≤ k) × (length (now w) ≡ windowLength) × (n ≤ widthLimit) × (length (now a) ≡ 256) ⌝ }
+    ensures { λ r. ⌜ (r ≡ sumTally k x (kept n (now (w .entry))) (dropBelow y (heldOf (decRaw (now (a .entry)))))) × (r ≤ room) ⌝ }
+{
+    let count = queue::count(a);
+    let first = queue::first_from(a, count, y);
+    let mut c = 0;
+    let mut i = first;
+    while i < count {
+        let stamp = layout::stamp_at(a, i);
+        if x <= stamp {
+            return c;
+        }
+        i += 1;
+        let v = value(Fold::Sum, k, w, n, a, first, i);
+        c = lacking(c, v);
+    }
+    c
 }
 
 // One value more into a window of k values that keeps n of them; the oldest goes where it keeps k. Answers how many it keeps then.

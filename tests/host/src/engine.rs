@@ -10,6 +10,7 @@ type Move = unsafe extern "C" fn(*mut u8, u64, u32) -> u32;
 type Run = unsafe extern "C" fn(*mut u8, u64, u32, *mut u32) -> u32;
 type Collect = unsafe extern "C" fn(*mut u8, u64, u32, *mut u32, *mut i64) -> u32;
 type PlanText = unsafe extern "C" fn(*const u8, u64, *mut u8, u64, *mut u64) -> u32;
+type ReadMissing = unsafe extern "C" fn(*const u8, u64, u32, *mut u32, *mut u32) -> u32;
 type RegisterWrite = unsafe extern "C" fn(*mut u8, u64, *mut u8, u64, u32, u8) -> u32;
 type RegisterLine = unsafe extern "C" fn(*const u8, u64, *mut u32) -> u32;
 
@@ -21,6 +22,7 @@ extern "C" {
     fn ref_run(state: *mut u8, state_length: u64, n: u32, moves: *mut u32) -> u32;
     fn ref_collect(state: *mut u8, state_length: u64, stream: u32, stamp: *mut u32, value: *mut i64) -> u32;
     fn ref_plan_text(state: *const u8, state_length: u64, text: *mut u8, text_length: u64, length: *mut u64) -> u32;
+    fn ref_missing(state: *const u8, state_length: u64, stream: u32, outside: *mut u32, zero: *mut u32) -> u32;
     fn ref_register_write(state: *mut u8, state_length: u64, block: *mut u8, block_length: u64, at: u32, byte: u8) -> u32;
     fn ref_register_line(block: *const u8, block_length: u64, up: *mut u32) -> u32;
 
@@ -31,6 +33,7 @@ extern "C" {
     fn tessla_run(state: *mut u8, state_length: u64, n: u32, moves: *mut u32) -> u32;
     fn tessla_collect(state: *mut u8, state_length: u64, stream: u32, stamp: *mut u32, value: *mut i64) -> u32;
     fn tessla_plan_text(state: *const u8, state_length: u64, text: *mut u8, text_length: u64, length: *mut u64) -> u32;
+    fn tessla_missing(state: *const u8, state_length: u64, stream: u32, outside: *mut u32, zero: *mut u32) -> u32;
     fn tessla_register_write(state: *mut u8, state_length: u64, block: *mut u8, block_length: u64, at: u32, byte: u8) -> u32;
     fn tessla_register_line(block: *const u8, block_length: u64, up: *mut u32) -> u32;
 }
@@ -45,6 +48,7 @@ pub struct Engine {
     run: Run,
     collect: Collect,
     plan_text: PlanText,
+    read_missing: ReadMissing,
     register_write: RegisterWrite,
     register_line: RegisterLine,
 }
@@ -59,6 +63,7 @@ pub const REFERENCE: Engine = Engine {
     run: ref_run,
     collect: ref_collect,
     plan_text: ref_plan_text,
+    read_missing: ref_missing,
     register_write: ref_register_write,
     register_line: ref_register_line,
 };
@@ -73,6 +78,7 @@ pub const LIBRARY: Engine = Engine {
     run: tessla_run,
     collect: tessla_collect,
     plan_text: tessla_plan_text,
+    read_missing: tessla_missing,
     register_write: tessla_register_write,
     register_line: tessla_register_line,
 };
@@ -89,6 +95,13 @@ pub struct Answer {
     pub moves: u32,
     pub stamp: u32,
     pub value: i64,
+}
+
+/// Why events of a stream are missing: at how many stamps the result was outside the range, and at how many the divisor was 0.
+#[derive(Clone, Copy, PartialEq, Eq, Debug, Default)]
+pub struct Missing {
+    pub outside: u32,
+    pub zero: u32,
 }
 
 #[derive(Clone, Copy, PartialEq, Eq, Debug)]
@@ -167,6 +180,22 @@ impl Engine {
         // SAFETY: as above; no byte lies behind the other pointer, and its length says so.
         let number = unsafe { (self.plan_text)(state.as_mut_ptr(), state.len() as u64, std::ptr::null_mut(), 0, &mut length) };
         (number, length)
+    }
+
+    /// Why events of a stream are missing: the number, and the two counts. The state is borrowed for writing as above.
+    pub fn missing(&self, state: &mut [u8], stream: u32) -> (u32, Missing) {
+        let length = state.len() as u64;
+        self.missing_claiming(state, length, stream)
+    }
+
+    /// The same with another length said of the state: nothing behind such a pointer may be touched.
+    pub fn missing_claiming(&self, state: &mut [u8], length: u64, stream: u32) -> (u32, Missing) {
+        assert!(length == state.len() as u64 || length != STATE_LENGTH as u64);
+        let mut results = [STALE.moves, !STALE.moves];
+        let [outside, zero] = &mut results;
+        // SAFETY: as above; the results are locals.
+        let number = unsafe { (self.read_missing)(state.as_mut_ptr(), length, stream, outside, zero) };
+        (number, Missing { outside: results[0], zero: results[1] })
     }
 
     /// One byte written to the block, and the number that comes back.

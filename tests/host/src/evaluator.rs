@@ -1,7 +1,9 @@
-//! The definition, from document 01's operator table, the rules under it, and document 02's signal forms, rule of division and
-//! windows: a plan and the readings of its inputs give for every stream a map from stamp to value. Batch and plain; it knows
-//! nothing of calls, bounds or held events, nor of a window that moves.
+//! The definition, from document 01's operator table, the rules under it, and document 02's signal forms, rule of division,
+//! windows and missing events: a plan and the readings of its inputs give for every stream a map from stamp to value, and one from
+//! stamp to the reason where there is none. Batch and plain; it knows nothing of calls, bounds or held events, nor of a window that
+//! moves or a count that grows.
 
+use crate::engine::Missing;
 use crate::plan::{Op, Stream};
 use std::collections::{BTreeMap, BTreeSet};
 
@@ -9,6 +11,36 @@ pub const LAST_STAMP: u64 = 4_294_967_295;
 pub const HORIZON: u64 = LAST_STAMP + 1;
 
 pub type Events = BTreeMap<u32, i64>;
+
+/// Why there is no value, where there is something to work on.
+#[derive(Clone, Copy, PartialEq, Eq, Debug)]
+pub enum Why {
+    /// "A result outside the value range"
+    Outside,
+    /// "a zero divisor"
+    Zero,
+}
+
+/// What an equation has at a stamp: nothing to work on, or a value, or none and the reason.
+pub type Row = Option<Result<i64, Why>>;
+
+/// What a plan means on some readings.
+#[derive(Clone, PartialEq, Eq, Debug)]
+pub struct Meaning {
+    /// of each stream its events
+    pub events: Vec<Events>,
+    /// of each stream the stamps at which its event is missing
+    pub missing: Vec<BTreeMap<u32, Why>>,
+}
+
+impl Meaning {
+    /// "the number of such stamps below the stream's bound, up to that limit", of those from another bound on.
+    pub fn counts(&self, s: usize, from: u64, bound: u64) -> Missing {
+        let such = |why: Why| self.missing[s].iter().filter(|(t, found)| (from..bound).contains(&(**t as u64)) && **found == why).count();
+        let limited = |why: Why| such(why).min(4_294_967_295) as u32;
+        Missing { outside: limited(Why::Outside), zero: limited(Why::Zero) }
+    }
+}
 
 struct Table<'a> {
     plan: &'a [Stream],
@@ -20,49 +52,47 @@ struct Table<'a> {
 }
 
 impl Table<'_> {
-    /// What stream s has at stamp t. `now` remembers what was found at t; the cycle rule ends the recursion.
-    fn at(&self, s: usize, t: u32, now: &mut Vec<Option<Option<i64>>>) -> Option<i64> {
-        if let Some(known) = now[s] {
-            return known;
+    /// The value that stream s has at stamp t. `now` remembers what was found at t; the cycle rule ends the recursion.
+    fn at(&self, s: usize, t: u32, now: &mut Vec<Option<Row>>) -> Option<i64> {
+        if now[s].is_none() {
+            now[s] = Some(self.row(s, t, now));
         }
-        let result = self.row(s, t, now);
-        now[s] = Some(result);
-        result
+        value(now[s].unwrap())
     }
 
-    fn row(&self, s: usize, t: u32, now: &mut Vec<Option<Option<i64>>>) -> Option<i64> {
+    fn row(&self, s: usize, t: u32, now: &mut Vec<Option<Row>>) -> Row {
         let Stream { op, a, b, k, .. } = self.plan[s];
         match op {
-            Op::In => self.readings[s].get(&t).copied(),
+            Op::In => self.readings[s].get(&t).copied().map(Ok),
             Op::Nil => None,
-            Op::Unit => (t == 0).then_some(0),
-            Op::Time => self.at(a, t, now).map(|_| t as i64),
-            Op::Set => self.at(a, t, now).map(|_| k),
-            Op::Plus => within(self.at(a, t, now)? as i128 + k as i128),
-            Op::Neg => within(-(self.at(a, t, now)? as i128)),
+            Op::Unit => (t == 0).then_some(Ok(0)),
+            Op::Time => self.at(a, t, now).map(|_| Ok(t as i64)),
+            Op::Set => self.at(a, t, now).map(|_| Ok(k)),
+            Op::Plus => Some(within(self.at(a, t, now)? as i128 + k as i128)),
+            Op::Neg => Some(within(-(self.at(a, t, now)? as i128))),
             Op::Keep => {
                 let (x, y) = (self.at(a, t, now), self.at(b, t, now));
-                if y? != 0 { x } else { None }
+                if y? != 0 { x.map(Ok) } else { None }
             }
             Op::Merge => {
                 let (x, y) = (self.at(a, t, now), self.at(b, t, now));
-                x.or(y)
+                x.or(y).map(Ok)
             }
             Op::Last => {
                 self.at(b, t, now)?;
-                self.before[a].range(..t).next_back().map(|(_, v)| *v)
+                self.before[a].range(..t).next_back().map(|(_, v)| Ok(*v))
             }
-            Op::Delay => self.fires(s, a, b, t).then_some(0),
+            Op::Delay => self.fires(s, a, b, t).then_some(Ok(0)),
             Op::Wsum | Op::Wmin | Op::Wmax => {
                 let now = self.at(a, t, now)?;
-                of_latest(op, k, self.before[a].values().copied().chain([now]))
+                Some(of_latest(op, k, self.before[a].values().copied().chain([now])))
             }
             _ => {
                 let (x, y) = (self.at(a, t, now), self.at(b, t, now));
-                let Some(form) = op.on_signals() else { return calculate(op, x? as i128, y? as i128) };
+                let Some(form) = op.on_signals() else { return Some(calculate(op, x? as i128, y? as i128)) };
                 // "an event at each stamp where either argument has one and both have had one at that stamp or before"
                 x.or(y)?;
-                calculate(form, self.latest(a, x)? as i128, self.latest(b, y)? as i128)
+                Some(calculate(form, self.latest(a, x)? as i128, self.latest(b, y)? as i128))
             }
         }
     }
@@ -82,19 +112,23 @@ impl Table<'_> {
     }
 }
 
+fn value(row: Row) -> Option<i64> {
+    row.and_then(Result::ok)
+}
+
 /// "A result outside the value range [..] gives no event."
-fn within(x: i128) -> Option<i64> {
-    i64::try_from(x).ok()
+fn within(x: i128) -> Result<i64, Why> {
+    i64::try_from(x).map_err(|_| Why::Outside)
 }
 
 /// Of all events of a so far, from the first one on: "the sum, least or greatest of the latest k events, this one included, or of
 /// all so far while fewer". "A sum out of range gives no event": the whole sum, whatever a part of it is.
-pub fn of_latest(op: Op, k: i64, all: impl DoubleEndedIterator<Item = i64>) -> Option<i64> {
+fn of_latest(op: Op, k: i64, all: impl DoubleEndedIterator<Item = i64>) -> Result<i64, Why> {
     let latest = all.rev().take(k as usize);
     match op {
         Op::Wsum => within(latest.map(i128::from).sum()),
-        Op::Wmin => latest.min(),
-        Op::Wmax => latest.max(),
+        Op::Wmin => Ok(latest.min().unwrap()),
+        Op::Wmax => Ok(latest.max().unwrap()),
         _ => unreachable!("{op:?} is no window"),
     }
 }
@@ -110,17 +144,18 @@ fn quotient(x: i128, y: i128) -> i128 {
     [1, 0, -1].map(|away| x / y + away).into_iter().find(not_above).unwrap()
 }
 
-fn calculate(op: Op, x: i128, y: i128) -> Option<i64> {
+fn calculate(op: Op, x: i128, y: i128) -> Result<i64, Why> {
     match op {
         Op::Add => within(x + y),
         Op::Sub => within(x - y),
         Op::Mul => within(x * y),
-        // "a zero divisor, gives no event"
-        Op::Div => if y == 0 { None } else { within(quotient(x, y)) },
-        Op::Rem => if y == 0 { None } else { within(x - quotient(x, y) * y) },
-        Op::Lt => Some((x < y) as i64),
-        Op::Le => Some((x <= y) as i64),
-        Op::Eq => Some((x == y) as i64),
+        // "a zero divisor, gives no event"; "Where both could be said, the zero divisor is"
+        Op::Div | Op::Rem if y == 0 => Err(Why::Zero),
+        Op::Div => within(quotient(x, y)),
+        Op::Rem => within(x - quotient(x, y) * y),
+        Op::Lt => Ok((x < y) as i64),
+        Op::Le => Ok((x <= y) as i64),
+        Op::Eq => Ok((x == y) as i64),
         _ => unreachable!("{op:?} is no calculation"),
     }
 }
@@ -138,10 +173,15 @@ pub fn rounded(plan: &[Stream], streams: &[Events], s: usize) -> u64 {
 }
 
 /// All events at stamps below `until`; none if more than `most` stamps would have to be looked at.
+pub fn evaluate(plan: &[Stream], readings: &[Events], until: u64, most: usize) -> Option<Vec<Events>> {
+    Some(meaning(plan, readings, until, most)?.events)
+}
+
+/// The same, with those that are missing there.
 ///
 /// The stamps at which something can happen: 0 (unit), those of the readings, and p + v for an event of a delay's first
 /// argument at p with value v. They are looked at one after the other.
-pub fn evaluate(plan: &[Stream], readings: &[Events], until: u64, most: usize) -> Option<Vec<Events>> {
+pub fn meaning(plan: &[Stream], readings: &[Events], until: u64, most: usize) -> Option<Meaning> {
     // to each such stamp t the (s, p) where stream s has at p the value t − p
     let mut agenda: BTreeMap<u64, Vec<(usize, u32)>> = BTreeMap::from([(0, vec![])]);
     for (stream, events) in plan.iter().zip(readings) {
@@ -151,6 +191,7 @@ pub fn evaluate(plan: &[Stream], readings: &[Events], until: u64, most: usize) -
     }
     let timers: BTreeSet<usize> = plan.iter().filter(|stream| stream.op == Op::Delay).map(|stream| stream.a).collect();
     let mut table = Table { plan, readings, before: vec![Events::new(); plan.len()], due: vec![] };
+    let mut missing = vec![BTreeMap::new(); plan.len()];
     let mut looked = 0;
     while let Some((t, due)) = agenda.pop_first() {
         table.due = due;
@@ -166,17 +207,23 @@ pub fn evaluate(plan: &[Stream], readings: &[Events], until: u64, most: usize) -
             table.at(s, t as u32, &mut now);
         }
         for (s, found) in now.iter().enumerate() {
-            if let Some(v) = found.unwrap() {
-                table.before[s].insert(t as u32, v);
+            match found.unwrap() {
+                Some(Ok(v)) => {
+                    table.before[s].insert(t as u32, v);
+                }
+                Some(Err(why)) => {
+                    missing[s].insert(t as u32, why);
+                }
+                None => {}
             }
         }
         for &a in &timers {
-            if let Some(v) = now[a].unwrap() {
+            if let Some(v) = value(now[a].unwrap()) {
                 if v > 0 && t as i128 + v as i128 <= LAST_STAMP as i128 {
                     agenda.entry(t + v as u64).or_default().push((a, t as u32));
                 }
             }
         }
     }
-    Some(table.before)
+    Some(Meaning { events: table.before, missing })
 }

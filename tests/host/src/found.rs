@@ -2,11 +2,13 @@
 //! reach below y counts as y". Written from documents 01 and 02, docs/LAYOUT.md and docs/DECISIONS.md. Slow and plain: it
 //! searches where the engines step.
 
-use crate::engine::{Answer, Call, STATE_LENGTH};
-use crate::evaluator::{Events, HORIZON};
+use crate::engine::{Answer, Call, Missing, STATE_LENGTH};
+use crate::evaluator::{Events, Why, HORIZON};
 use crate::layout;
+use crate::missing::absent;
 use crate::model::{at_one_stamp, at_window, Division};
 use crate::plan::{keeps_cycle_rule, keeps_window_rule, windows, Op, Plan, Stream, OPERATORS};
+use std::collections::BTreeSet;
 
 /// A stream of a state.
 #[derive(Clone, PartialEq, Debug, Default)]
@@ -25,6 +27,8 @@ pub struct Record {
     pub latest: [Option<i64>; 2],
     /// of a window: the values of a's latest known k events below the bound, the oldest first
     pub window: Vec<i64>,
+    /// of arithmetic: at how many stamps that it moved over its event was missing
+    pub missing: Missing,
 }
 
 #[derive(Clone, PartialEq, Debug, Default)]
@@ -56,10 +60,14 @@ fn read_record(r: &[u8], n: usize) -> Option<(Stream, Record)> {
     if !used(op.uses_a(), stream.a) || !used(op.uses_b(), stream.b) || (!op.uses_k() && stream.k != 0) {
         return None;
     }
-    if r[3] > 1 || (op == Op::In && stream.out) || r[4] > 16 || r[7] != 0 || word(r, 56) != 0 {
+    if r[3] > 1 || (op == Op::In && stream.out) || r[4] > 16 || r[7] != 0 {
         return None;
     }
-    let mut record = Record { bound: word(r, 16), mark: word(r, 24), ..Record::default() };
+    let mut record = Record { bound: word(r, 16), mark: word(r, 24), missing: layout::missing(r, 0), ..Record::default() };
+    // counts of an operator that has none, or before the first move
+    if record.missing != Missing::default() && (!op.counts() || record.bound == 0) {
+        return None;
+    }
     if record.bound > HORIZON || record.mark > if stream.out { record.bound } else { 0 } {
         return None;
     }
@@ -169,6 +177,8 @@ impl Found {
             (r[1], r[2], r[3], r[4]) = (stream.a as u8, stream.b as u8, stream.out as u8, record.held.len() as u8);
             r[5] = record.prev.or(record.value).or(first).is_some() as u8 + record.window.len() as u8;
             r[6] = record.prior.or(second).is_some() as u8;
+            r[56..60].copy_from_slice(&record.missing.outside.to_le_bytes());
+            r[60..64].copy_from_slice(&record.missing.zero.to_le_bytes());
             for (slot, (t, v)) in r[64..].chunks_mut(12).zip(&record.held) {
                 slot[..4].copy_from_slice(&t.to_le_bytes());
                 slot[4..].copy_from_slice(&v.to_le_bytes());
@@ -179,7 +189,7 @@ impl Found {
 
     /// A stream of the plan divides.
     pub fn divides(&self) -> bool {
-        self.plan.iter().any(|stream| matches!(stream.op.on_signals().unwrap_or(stream.op), Op::Div | Op::Rem))
+        self.plan.iter().any(|stream| stream.op.divides())
     }
 
     /// The set points of a delay from its bound on, and the latest below it, which stands for the earlier ones: b's held
@@ -247,6 +257,23 @@ impl Found {
         }
     }
 
+    /// Why the equation has no event at t, if the held events, and those that are kept, are something to work on there.
+    fn absent(&self, s: usize, t: u64) -> Option<Why> {
+        let stream = self.plan[s];
+        let here = [stream.a, stream.b].map(|i| self.records[i].held.get(&(t as u32)).copied());
+        absent(stream, here, self.latest(s, t + 1), self.gives(s, t))
+    }
+
+    /// The counts once the bound has passed the stamps below another one.
+    fn counted(&self, s: usize, to: u64) -> Missing {
+        let mut missing = self.records[s].missing;
+        let held: BTreeSet<u32> = self.plan[s].reads().iter().flat_map(|&i| self.records[i].held.keys().copied()).collect();
+        for t in held.into_iter().map(u64::from).filter(|t| (self.records[s].bound..to).contains(t)) {
+            missing.add(self.absent(s, t));
+        }
+        missing
+    }
+
     /// Of a window: the latest k of what is kept and then a's held events from the bound on to below another one. Those below the
     /// bound are in it already.
     fn window(&self, s: usize, to: u64) -> Vec<i64> {
@@ -293,6 +320,9 @@ impl Found {
     /// values, and a window's.
     fn raise(&mut self, s: usize, bound: u64, event: Option<(u32, i64)>) {
         let stream = self.plan[s];
+        if stream.op.counts() {
+            self.records[s].missing = self.counted(s, bound);
+        }
         if stream.op.is_window() {
             self.records[s].window = self.window(s, bound);
         }

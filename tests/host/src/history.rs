@@ -2,17 +2,19 @@
 //! says of it, worked out from the numbers and results that the calls returned.
 
 use crate::buffer::Lent;
-use crate::engine::{engines, Answer, Call, BLOCK_LENGTH, STATE_LENGTH};
-use crate::evaluator::{evaluate, Events, HORIZON};
+use crate::engine::{engines, Answer, Call, Missing, BLOCK_LENGTH, STATE_LENGTH};
+use crate::evaluator::{evaluate, meaning, Events, Meaning, HORIZON};
 use crate::found::Found;
+use crate::layout;
 use crate::plan::{text_of, Op, Plan};
 use crate::random::{seed, Random};
 use crate::registers::{line, writes, Act, Board, Direct};
 use crate::saved::Saved;
 use crate::texts::{given, pattern, Given};
 
-/// Stamps that the evaluator may look at before a check is given up.
+/// Stamps that the evaluator may look at before a check is given up, of what was handed out and of what is counted.
 const MOST: usize = 20_000;
+const MOST_COUNTED: usize = 3_000;
 
 #[derive(Clone)]
 pub struct Session {
@@ -22,6 +24,8 @@ pub struct Session {
     pub accepted: Vec<Events>,
     pub known: Vec<u64>,
     pub handed: Vec<Vec<(u32, i64)>>,
+    /// the bounds from which on missing events are counted: 0 since a load
+    pub counted_from: Vec<u64>,
     pub list: Vec<Act>,
 }
 
@@ -30,7 +34,10 @@ impl Session {
     pub fn begin(plan: &Plan, states: Vec<Lent>) -> Session {
         let n = plan.len();
         let blocks = states.iter().map(|_| Lent::of(&[0; BLOCK_LENGTH])).collect();
-        Session { plan: plan.clone(), states, blocks, accepted: vec![Events::new(); n], known: vec![0; n], handed: vec![vec![]; n], list: vec![] }
+        Session {
+            plan: plan.clone(), states, blocks, accepted: vec![Events::new(); n], known: vec![0; n], handed: vec![vec![]; n], counted_from: vec![0; n],
+            list: vec![],
+        }
     }
 
     pub fn load(plan: &Plan) -> Session {
@@ -60,9 +67,12 @@ impl Session {
         }
     }
 
-    /// A saved state put back: it has had the calls made up to its copy.
+    /// A saved state put back: it has had the calls made up to its copy. "an older state counts from its first move here"
     pub fn put_back(saved: &Saved) -> Session {
         let mut session = Session::begin(&saved.plan, engines().iter().map(|_| Lent::of(&saved.bytes)).collect());
+        if saved.before_counts() {
+            session.counted_from = (0..saved.plan.len()).map(|s| layout::bound(&saved.bytes, s)).collect();
+        }
         for (call, answer) in &saved.calls {
             session.list.push(Act::Call(*call));
             session.note(*call, *answer);
@@ -173,6 +183,46 @@ impl Session {
         wanted
     }
 
+    /// Asks every engine why events of a stream are missing. It is no call of the list, and changes nothing.
+    pub fn missing(&mut self, stream: u32) -> (u32, Missing) {
+        let before = self.states[0].to_vec();
+        let mut ends = vec![];
+        for (engine, state) in engines().iter().zip(&mut self.states) {
+            ends.push(engine.missing(state, stream));
+            assert!(state[..] == before[..] && state.untouched(), "{}: written", engine.name);
+        }
+        assert_eq!(ends[0], ends[1], "the engines' counts of {stream} differ\n{}", self.story());
+        ends[0]
+    }
+
+    /// What the definition gives for the accepted readings, as far as any stream that counts is known; none if more than `most` stamps
+    /// would have to be looked at.
+    fn meant(&self, most: usize) -> Option<Meaning> {
+        let counts = (0..self.plan.len()).filter(|&s| self.plan[s].op.counts());
+        let until = counts.map(|s| layout::bound(self.state(), s)).max().unwrap_or(0);
+        meaning(&self.plan, &self.accepted, until, most)
+    }
+
+    /// "After any list of calls [..] they equal the number of such stamps below the stream's bound": of every stream, by the call and
+    /// in its record; and "a stream that isn't there gives 11". The sum of all counts, or none if the definition has too much to look
+    /// at.
+    pub fn check_missing(&mut self) -> Option<[u64; 2]> {
+        self.check_missing_within(MOST_COUNTED)
+    }
+
+    pub fn check_missing_within(&mut self, most: usize) -> Option<[u64; 2]> {
+        let meant = self.meant(most)?;
+        let mut sum = [0; 2];
+        for s in 0..self.plan.len() {
+            let wanted = meant.counts(s, self.counted_from[s], layout::bound(self.state(), s));
+            assert_eq!(self.missing(s as u32), (0, wanted), "counts of {s}\n{}", self.story());
+            assert_eq!(layout::missing(self.state(), s), wanted, "bytes of the counts of {s}\n{}", self.story());
+            sum = [sum[0] + wanted.outside as u64, sum[1] + wanted.zero as u64];
+        }
+        assert_eq!(self.missing(self.plan.len() as u32), (11, Missing::default()), "{}", self.story());
+        Some(sum)
+    }
+
     fn note(&mut self, call: Call, answer: Answer) {
         if answer.number != 0 {
             return;
@@ -277,9 +327,15 @@ pub fn any_call(random: &mut Random, session: &Session) -> Call {
                 6..=40 => known.saturating_add(random.below(3)).min(u32::MAX as u64) as u32,
                 _ => known.saturating_add(random.below(12)).min(u32::MAX as u64) as u32,
             };
-            // where something is summed up, often so that the sum is out of range
+            // where something is summed up, often so that the sum is out of range; where something is calculated, that it has no value
             let sums = session.plan.iter().any(|stream| stream.op == Op::Wsum);
-            Call::Reading(input, stamp, if sums && random.chance(30) { random.at_an_end() } else { random.value() })
+            let counts = session.plan.iter().any(|stream| stream.op.counts());
+            let value = match random.below(100) {
+                0..=29 if sums => random.at_an_end(),
+                30..=59 if counts => random.at_an_edge(),
+                _ => random.value(),
+            };
+            Call::Reading(input, stamp, value)
         }
         35..=44 => {
             let bound = match random.below(40) {

@@ -1,5 +1,7 @@
 //! The fields of a state, read from outside (docs/LAYOUT.md): for tests that look at bounds, held events and what is kept.
 
+use crate::engine::Missing;
+
 pub const RECORD: usize = 256;
 /// Behind the 32 records: eight windows of 64 values.
 pub const WINDOWS: usize = 32 * RECORD;
@@ -39,6 +41,21 @@ pub fn window_at(state: &[u8], stream: usize) -> usize {
 pub fn window(state: &[u8], stream: usize) -> Vec<i64> {
     let (at, fill) = (window_at(state, stream), state[RECORD * stream + 5] as usize);
     (0..fill).map(|i| word(state, at + 8 * i) as i64).collect()
+}
+
+/// Of arithmetic: bytes 56 to 59 and 60 to 63, its two counts.
+pub fn missing(state: &[u8], stream: usize) -> Missing {
+    let count = |at: usize| u32::from_le_bytes(state[RECORD * stream + at..RECORD * stream + at + 4].try_into().unwrap());
+    Missing { outside: count(56), zero: count(60) }
+}
+
+/// The state with every count taken for 0.
+pub fn without_counts(state: &[u8]) -> Vec<u8> {
+    let mut state = state.to_vec();
+    for record in state[..WINDOWS].chunks_mut(RECORD) {
+        record[56..64].fill(0);
+    }
+    state
 }
 
 pub fn held(state: &[u8], stream: usize) -> Vec<(u32, i64)> {

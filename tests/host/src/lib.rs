@@ -1,5 +1,5 @@
 //! What the host tests share: the definition's evaluator, the two engines, a model on whole histories and one on any state,
-//! the block of registers over them, the plan as text, random plans.
+//! the block of registers over them, the plan as text, the counts of missing events, random plans.
 
 pub mod buffer;
 pub mod engine;
@@ -7,6 +7,7 @@ pub mod evaluator;
 pub mod found;
 pub mod history;
 pub mod layout;
+pub mod missing;
 pub mod model;
 pub mod plan;
 pub mod random;

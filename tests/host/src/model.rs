@@ -1,10 +1,12 @@
 //! A model of the calls on whole histories: every event that ever came in is kept, and the sentences of document 01 ("When
-//! an equation can move", "The calls"), of document 02's signal forms, rule of division and windows are followed on them. Slow and
-//! plain; it has no bytes and keeps nothing aside.
+//! an equation can move", "The calls"), of document 02's signal forms, rule of division, windows and missing events are followed on
+//! them. Slow and plain; it has no bytes and keeps nothing aside, a count neither.
 
-use crate::engine::{Answer, Call};
-use crate::evaluator::{Events, HORIZON};
+use crate::engine::{Answer, Call, Missing};
+use crate::evaluator::{Events, Why, HORIZON};
+use crate::missing::absent;
 use crate::plan::{Op, Plan, Stream};
+use std::collections::BTreeSet;
 
 #[derive(Clone)]
 pub struct Model {
@@ -97,10 +99,24 @@ impl Model {
         self.latest_of(self.plan[s], self.bound[s])
     }
 
-    /// Of a window: how many of a's events below its bound gave none, their sum being out of range.
-    pub fn passed(&self, s: usize) -> u64 {
-        let below = self.events[self.plan[s].a].keys().filter(|t| (**t as u64) < self.bound[s]);
-        below.filter(|t| !self.events[s].contains_key(t)).count() as u64
+    /// Why the equation has no event at t, if it has something to work on there.
+    fn absent(&self, s: usize, t: u64) -> Option<Why> {
+        let stream = self.plan[s];
+        let here = |i: usize| self.events[i].get(&(t as u32)).copied();
+        let so_far = |i: usize| self.events[i].range(..=t as u32).next_back().map(|(_, v)| *v);
+        absent(stream, [here(stream.a), here(stream.b)], [so_far(stream.a), so_far(stream.b)], self.gives(s, t))
+    }
+
+    /// "the number of such stamps below the stream's bound"
+    pub fn missing(&self, s: usize) -> Missing {
+        let mut count = Missing::default();
+        if self.plan[s].op.counts() {
+            let stamps: BTreeSet<u32> = self.plan[s].reads().iter().flat_map(|&i| self.events[i].keys().copied()).collect();
+            for t in stamps.into_iter().filter(|t| (*t as u64) < self.bound[s]) {
+                count.add(self.absent(s, t as u64));
+            }
+        }
+        count
     }
 
     /// Of a signal form, what the state keeps: the value of the latest event below its bound, of a and of b.

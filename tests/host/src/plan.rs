@@ -40,6 +40,15 @@ impl Op {
     pub fn is_window(self) -> bool {
         WINDOWS.contains(&self)
     }
+    /// "The arithmetic, plus, neg, signal forms and wsum included": what may have no value with something to work on. A comparison
+    /// always has one.
+    pub fn counts(self) -> bool {
+        matches!(self, Plus | Neg | Wsum) || matches!(self.on_signals().unwrap_or(self), Add | Sub | Mul | Div | Rem)
+    }
+    /// It has a divisor, its second argument.
+    pub fn divides(self) -> bool {
+        matches!(self.on_signals().unwrap_or(self), Div | Rem)
+    }
     /// Of a signal form: what it works out of the latest values.
     pub fn on_signals(self) -> Option<Op> {
         SIGNALS.iter().find(|(form, _)| *form == self).map(|(_, op)| *op)

@@ -1,5 +1,8 @@
-//! Random numbers from a printed seed, and random plans.
+//! Random numbers from a printed seed, random plans, and random records of a state.
 
+use crate::engine::Missing;
+use crate::evaluator::HORIZON;
+use crate::found::Record;
 use crate::plan::{keeps_cycle_rule, keeps_window_rule, windows, Op, Plan, Stream, MOST_WINDOWS, OPERATORS, SIGNALS, WINDOWS};
 
 #[derive(Clone)]
@@ -72,6 +75,33 @@ impl Random {
             3..=5 => i64::MIN + near,
             6 => self.pick(&[1 << 62, -(1 << 62), 1 << 58, -(1 << 58)]),
             _ => near - 2,
+        }
+    }
+
+    /// A value with which results are often missing: a divisor of 0 or −1, an end of the range, or one whose double or square is out
+    /// of it.
+    pub fn at_an_edge(&mut self) -> i64 {
+        match self.below(12) {
+            0..=2 => 0,
+            3 => -1,
+            4..=5 => i64::MIN,
+            6 => i64::MAX,
+            7 => self.at_an_end(),
+            8 => self.pick(&[1 << 62, -(1 << 62), (1 << 62) - 1, -(1 << 62) - 1]),
+            9 => self.pick(&[1 << 32, -(1 << 32), 3_037_000_499, 3_037_000_500, -3_037_000_500, (1 << 31) + 1]),
+            _ => self.below(9) as i64 - 4,
+        }
+    }
+
+    /// Of missing events: none, some, as many as one byte or two or three hold, or near the limit.
+    pub fn count(&mut self) -> u32 {
+        let near = self.below(4) as u32;
+        match self.below(8) {
+            0..=1 => 0,
+            2 => near,
+            3 => self.pick(&[1 << 8, 1 << 16, 1 << 24]) - near,
+            4 => self.next() as u32,
+            _ => u32::MAX - near,
         }
     }
 
@@ -203,4 +233,76 @@ pub fn plan(random: &mut Random, most: usize) -> Plan {
     }
     assert!(keeps_cycle_rule(&plan) && keeps_window_rule(&plan));
     plan
+}
+
+/// A plan of which most streams are arithmetic, over one to three inputs: the argument of a last or a delay goes anywhere, the others go
+/// down. The values of its constants are such that results are often missing.
+pub fn arithmetic(random: &mut Random, most: usize) -> Plan {
+    let n = 2 + random.below(most as u64 - 1) as usize;
+    let inputs = 1 + random.below(3.min(n as u64 - 1)) as usize;
+    let counting: Vec<Op> = OPERATORS.iter().map(|(op, _)| *op).filter(|op| op.counts()).collect();
+    let mut plan: Plan = vec![];
+    for s in 0..n {
+        let op = match random.below(100) {
+            _ if s < inputs => Op::In,
+            0..=69 => random.pick(&counting),
+            70..=79 => Op::Last,
+            80..=84 => Op::Merge,
+            85..=86 => Op::Delay,
+            _ => random.pick(&OPERATORS).0,
+        };
+        let op = if op.is_window() && !has_room(&plan) { Op::Neg } else { op };
+        let mut stream = Stream::new(op);
+        // often an input
+        let lower = |random: &mut Random| {
+            let below = if random.chance(50) { inputs } else { s };
+            random.below(below as u64) as usize
+        };
+        if op.uses_a() {
+            stream.a = if matches!(op, Op::Last | Op::Delay) { random.below(n as u64) as usize } else { lower(random) };
+        }
+        if op.uses_b() {
+            // now and then the same as the first
+            stream.b = if random.chance(10) && stream.a < s { stream.a } else { lower(random) };
+        }
+        if op.uses_k() {
+            stream.k = if op.is_window() { random.width() } else { random.at_an_edge() };
+        }
+        stream.out = op != Op::In && random.chance(40);
+        plan.push(stream);
+    }
+    assert!(keeps_cycle_rule(&plan) && keeps_window_rule(&plan));
+    plan
+}
+
+/// A record of a stream, with anything that the layout allows.
+pub fn record(random: &mut Random, stream: &Stream) -> Record {
+    let bound = match random.below(4) {
+        0 => 0,
+        1 => HORIZON - random.below(3),
+        _ => random.below(500),
+    };
+    let mut record = Record { bound, mark: if stream.out { random.below(bound + 1) } else { 0 }, ..Record::default() };
+    let stamps: Vec<u32> = (0..random.below(17)).map(|_| random.below(bound.max(1)) as u32).collect();
+    if bound == 0 {
+        return record;
+    }
+    record.held = stamps.into_iter().map(|t| (t, random.value())).collect();
+    if stream.op.counts() {
+        record.missing = Missing { outside: random.count(), zero: random.count() };
+    }
+    let maybe = |random: &mut Random| random.chance(50).then(|| random.value());
+    match stream.op {
+        Op::Last => record.prev = maybe(random),
+        Op::Delay => {
+            let newest = record.held.keys().next_back().map_or(0, |t| *t as u64 + 1);
+            record.since = newest + random.below(bound - newest + 1);
+            record.value = if record.since > 0 { maybe(random) } else { None };
+            record.prior = maybe(random);
+        }
+        op if op.on_signals().is_some() => record.latest = [maybe(random), maybe(random)],
+        op if op.is_window() => record.window = (0..random.below(stream.k as u64 + 1)).map(|_| random.value()).collect(),
+        _ => {}
+    }
+    record
 }

@@ -4,7 +4,8 @@
 use crate::engine::{Call, Engine, STATE_LENGTH};
 use crate::plan::{number, parse, value};
 
-fn offer(line: &[u8]) -> Option<Call> {
+/// The offer of a line without its ending byte; none for a line that could not be read.
+pub fn offer(line: &[u8]) -> Option<Call> {
     if line.len() > 64 {
         return None;
     }

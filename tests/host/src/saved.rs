@@ -21,6 +21,11 @@ impl Saved {
     pub fn is_cut(&self) -> bool {
         self.head[1].contains(CUT)
     }
+
+    /// Of a version before 1.8: nothing was counted, and bytes 56 to 63 of every record are 0.
+    pub fn before_counts(&self) -> bool {
+        (1..=7).any(|minor| self.head[1].starts_with(&format!("version 1.{minor},")))
+    }
 }
 
 fn words<T: std::str::FromStr>(text: &str) -> Vec<T> {

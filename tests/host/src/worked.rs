@@ -1,7 +1,7 @@
-//! What a worked case says of calls on a session: their numbers, the moves of a run, what an output hands out, bytes of the state;
-//! and load's number of a text.
+//! What a worked case says of calls on a session: their numbers, the moves of a run, what an output hands out, why events are missing,
+//! bytes of the state; and load's number of a text.
 
-use crate::engine::{engines, Answer, Call, STATE_LENGTH};
+use crate::engine::{engines, Answer, Call, Missing, STATE_LENGTH};
 use crate::history::Session;
 use crate::plan::parse;
 use Call::{Collect, Run};
@@ -26,9 +26,15 @@ pub fn collected(session: &mut Session, stream: u32, events: &[(u32, i64)]) {
     numbers(session, &[(Collect(stream), 14)]);
 }
 
-/// Run and collected to the end, all that was handed out is what the definition gives.
+/// The counts of a stream, by the call and as they lie in its record.
+pub fn missing(session: &mut Session, stream: u32, outside: u32, zero: u32) {
+    assert_eq!(session.missing(stream), (0, Missing { outside, zero }), "stream {stream}");
+    record(session, stream as usize, 56, &[outside.to_le_bytes(), zero.to_le_bytes()].concat());
+}
+
+/// Run and collected to the end, all that was handed out is what the definition gives, and so are the counts.
 pub fn as_defined(session: &mut Session) {
-    assert!(session.rest(1000) && session.check_beginning() && session.check_rest());
+    assert!(session.rest(5000) && session.check_beginning() && session.check_rest() && session.check_missing().is_some());
 }
 
 /// Bytes of the state, from the first one named on.

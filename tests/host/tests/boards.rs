@@ -142,6 +142,7 @@ fn a_board_that_only_writes() {
         }
         if ended && work(&mut session) && session.check_beginning() {
             rested += session.check_rest() as u64;
+            session.check_missing();
         }
         events += session.handed.iter().map(|handed| handed.len() as u64).sum::<u64>();
     }
@@ -172,6 +173,7 @@ fn calls_and_writes_on_one_state() {
             }
         }
         session.check_beginning();
+        session.check_missing();
     }
     println!("seed {}: {commands} commands among direct calls, an output waited after {all_waiting} acts", seed());
     assert!(all < 100 || (commands > 4 * all && all_waiting > 4 * all));

@@ -1,7 +1,7 @@
 //! Texts, states and blocks of registers damaged at random: the library's numbers, results and buffers are those of the plain C
 //! engine and, on states and blocks, of the model of any state; a refusal writes nothing but what it says of the block, and nothing
 //! outside the lent buffers is touched. A text that is taken all the same comes back byte for byte, and a state that is one gives its
-//! plan's.
+//! plan's, and says why events are missing.
 
 use host::buffer::Lent;
 use host::engine::{engines, Answer, Call, BLOCK_LENGTH, STATE_LENGTH};
@@ -9,8 +9,9 @@ use host::evaluator::HORIZON;
 use host::found::Found;
 use host::history::{any_write, Session};
 use host::layout::{self, WINDOW_NUMBERS};
+use host::missing;
 use host::model::Division;
-use host::plan::{parse, text_of, Stream, WINDOWS};
+use host::plan::{parse, text_of, Stream, OPERATORS, WINDOWS};
 use host::random::{plan, rounds, seed, Random};
 use host::registers::{line, started, writes, Act, Board};
 use host::texts::{as_defined, asked, pattern, Given};
@@ -115,7 +116,7 @@ fn damage(random: &mut Random, state: &mut [u8], streams: usize) {
     let record = 256 * random.below(streams as u64) as usize;
     let bound = u64::from_le_bytes(state[record + 16..record + 24].try_into().unwrap());
     let count = state[record + 4] as usize;
-    match random.below(18) {
+    match random.below(20) {
         0 => {
             let at = random.below(STATE_LENGTH as u64) as usize;
             state[at] = random.next() as u8;
@@ -204,11 +205,63 @@ fn damage(random: &mut Random, state: &mut [u8], streams: usize) {
             let at = window + if random.chance(50) { random.below(32) } else { random.below(512) } as usize;
             state[at.min(STATE_LENGTH - 1)] = random.next() as u8;
         }
+        // counts of any kind, mostly of a stream that has them
+        17..=18 => {
+            let counting = counting(state, streams);
+            let s = if counting.is_empty() || random.chance(30) { record / 256 } else { random.pick(&counting) };
+            put_counts(random, state, s);
+        }
         _ => {
             let at = record + 1 + random.below(2) as usize;
             state[at] = random.below(streams as u64 + 1) as u8;
         }
     }
+}
+
+/// The streams whose operator counts.
+fn counting(state: &[u8], streams: usize) -> Vec<usize> {
+    let op = |number: u8| (number as usize).checked_sub(1).and_then(|place| OPERATORS.get(place)).map(|(op, _)| *op);
+    (0..streams).filter(|s| op(state[256 * s]).is_some_and(|op| op.counts())).collect()
+}
+
+fn put_counts(random: &mut Random, state: &mut [u8], stream: usize) {
+    for at in [56, 60] {
+        put(state, 256 * stream + at, &random.count().to_le_bytes());
+    }
+}
+
+/// Counts of an operator that has none, or with bound 0.
+fn unmeant_counts(state: &[u8], streams: usize) -> bool {
+    let counting = counting(state, streams);
+    (0..streams).any(|s| state[256 * s + 56..256 * s + 64] != [0; 8] && (!counting.contains(&s) || layout::bound(state, s) == 0))
+}
+
+/// Arithmetic with counts of any kind, and with readings of its arguments from its bound on whose result is often missing. The stream.
+fn about_to_count(random: &mut Random, state: &mut [u8], streams: usize) -> Option<usize> {
+    let all = counting(state, streams);
+    if all.is_empty() {
+        return None;
+    }
+    let s = random.pick(&all);
+    let own = layout::held(state, s).last().map_or(0, |(t, _)| *t as u64 + 1);
+    let bound = own.min(400) + 1 + random.below(5);
+    put(state, 256 * s + 16, &bound.to_le_bytes());
+    put_counts(random, state, s);
+    let arguments = if state[256 * s] < 8 || WINDOW_NUMBERS.contains(&state[256 * s]) { 1..2 } else { 1..3 };
+    let together = random.chance(70);
+    let stamps: Vec<u32> = (0..16).map(|i| bound as u32 + i).collect();
+    for a in arguments.map(|at| state[256 * s + at] as usize).filter(|&a| a < streams && a != s).collect::<Vec<_>>() {
+        let stamps: Vec<u32> = stamps.iter().copied().filter(|_| together || random.chance(60)).collect();
+        put(state, 256 * a + 16, &(bound + 17).to_le_bytes());
+        put(state, 256 * a + 24, &[0; 8]);
+        state[256 * a + 64..256 * a + 256].fill(0);
+        for (j, t) in stamps.iter().enumerate() {
+            put(state, 256 * a + 64 + 12 * j, &t.to_le_bytes());
+            put(state, 256 * a + 68 + 12 * j, &random.at_an_edge().to_le_bytes());
+        }
+        state[256 * a + 4] = stamps.len() as u8;
+    }
+    Some(s)
 }
 
 /// Any width, mostly a good one.
@@ -426,6 +479,8 @@ fn damaged_states() {
     let (mut written, mut waited) = ([0u64; 5], 0u64);
     // texts of the plan: given, refused 19, refused 15
     let mut texts = [0u64; 3];
+    // counts: read, refused 11, refused 15; without meaning; moves and runs that made one greater, or took one to the limit
+    let (mut read, mut unmeant_count, mut counted, mut stopped) = ([0u64; 3], 0u64, 0u64, 0u64);
     let (mut good, mut bad, mut moves, mut done) = (0u64, 0u64, 0u64, [0u64; 5]);
     let mut blocks = [Lent::of(&[0; BLOCK_LENGTH]), Lent::of(&[0; BLOCK_LENGTH])];
     for round in 0..rounds(15_000) {
@@ -447,7 +502,8 @@ fn damaged_states() {
         }
         for _ in 0..4 {
             let mut bytes = session.state().to_vec();
-            let of_a_kind = random.below(12);
+            let of_a_kind = random.below(14);
+            let mut counts_first = None;
             if random.chance(2) {
                 // wiped
                 bytes.fill(0);
@@ -455,7 +511,7 @@ fn damaged_states() {
             if bytes[0] == 0 && random.chance(50) {
                 damage_zeros(&mut random, &mut bytes);
             } else {
-                for _ in 0..(of_a_kind > 7) as u64 + random.below(3) {
+                for _ in 0..(of_a_kind > 9) as u64 + random.below(3) {
                     damage(&mut random, &mut bytes, records);
                 }
             }
@@ -463,6 +519,7 @@ fn damaged_states() {
                 0..=3 => ahead(&mut random, &mut bytes, records),
                 4..=5 => ahead_of_both(&mut random, &mut bytes, records),
                 6..=7 => anywhere(&mut random, &mut bytes, records),
+                8..=9 => counts_first = about_to_count(&mut random, &mut bytes, records),
                 _ => {}
             }
             if random.chance(20) {
@@ -474,9 +531,17 @@ fn damaged_states() {
                     _ => 2,
                 }] += 1;
             }
+            if random.chance(30) {
+                let stream = random.below(records as u64 + 1) as u32;
+                read[match missing::as_defined(&bytes, stream).0 {
+                    0 => 0,
+                    11 => 1,
+                    _ => 2,
+                }] += 1;
+            }
             let mut states = [Lent::of(&bytes), Lent::of(&bytes)];
             // a list of calls on the damaged state, which may go on as one that no call leaves; first a move of a window that was put
-            // anywhere
+            // anywhere, or of arithmetic that is about to count
             let mut first = (6..=7).contains(&of_a_kind);
             for _ in 0..12 {
                 let before = states[0].to_vec();
@@ -498,6 +563,8 @@ fn damaged_states() {
                     s = random.pick(&windows) as u32;
                     s = if !moves_first && random.chance(30) { before[256 * s as usize + 1] as u32 } else { s };
                 }
+                let moves_first = moves_first || counts_first.is_some();
+                s = counts_first.take().map_or(s, |counting| counting as u32);
                 let own = (s as usize).min(records - 1);
                 let bound = host::layout::bound(&before, own).min(HORIZON);
                 let far = if random.chance(50) { 3 } else { 20 };
@@ -613,6 +680,15 @@ fn damaged_states() {
                         _ => {}
                     }
                 }
+                let unmeant = unmeant_counts(&before, records);
+                assert!(!unmeant || found.is_none(), "counts without a meaning: {}", story());
+                unmeant_count += unmeant as u64;
+                for s in 0..records {
+                    let (before, after) = (layout::missing(&before, s), layout::missing(&after, s));
+                    assert!(before == after || matches!(call, Call::Move(_) | Call::Run(_)), "{}", story());
+                    counted += (before != after) as u64;
+                    stopped += ((after.outside == u32::MAX && before.outside < u32::MAX) || (after.zero == u32::MAX && before.zero < u32::MAX)) as u64;
+                }
                 for (kind, met) in unmeant_windows(&before, records).into_iter().enumerate() {
                     assert!(!met || found.is_none(), "{}: {}", UNMEANT[kind], story());
                     unmeant_by[kind] += met as u64;
@@ -648,11 +724,13 @@ fn damaged_states() {
     );
     println!("seed {}: writes, commands done {}, refused {}, refused 15 {}, refused 17 {}, others {}; found waiting {waited}", seed(), written[0], written[1], written[2], written[3], written[4]);
     println!("seed {}: texts of the plan given {}, refused 19 {}, refused 15 {}", seed(), texts[0], texts[1], texts[2]);
+    println!("seed {}: counts read {}, refused 11 {}, refused 15 {}; without meaning {unmeant_count}, greater after a call {counted}, at the limit then {stopped}", seed(), read[0], read[1], read[2]);
     println!("seed {}: calls on zeros {zeros}, on a first stream alone in them {alone}, on bytes behind a first byte that is 0 {headless}", seed());
     assert!(good > bad && moves > 0 && done.iter().all(|&count| count > 0));
     let reached = [below, at, above, edge, lower, before_since, untold, from_kept, unmeant, down, zeros, alone, headless];
-    let reached = [&reached[..], &written, &texts, &[waited, window_untold, taken_in, several, below_its], &unmeant_by].concat();
+    let reached = [&reached[..], &written, &texts, &read, &[waited, window_untold, taken_in, several, below_its, unmeant_count, counted, stopped], &unmeant_by].concat();
     assert!(reached.iter().all(|&count| count > 0) || rounds(15_000) < 15_000, "a kind of state was never met: {reached:?}");
+    assert!((counted > 1000 && stopped > 50) || rounds(15_000) < 15_000, "too few counts: {counted} {stopped}");
 }
 
 /// The records of a state, for a message.
@@ -662,9 +740,9 @@ fn shown(state: &[u8], streams: usize) -> String {
             let r = &state[256 * s..256 * (s + 1)];
             let word = |at: usize| i64::from_le_bytes(r[at..at + 8].try_into().unwrap());
             format!(
-                "{s}: op {} a {} b {} out {} flags {} {} k {} bound {} mark {} kept {} {} {} held {:?}\n",
+                "{s}: op {} a {} b {} out {} flags {} {} k {} bound {} mark {} kept {} {} {} missing {:?} held {:?}\n",
                 r[0], r[1], r[2], r[3], r[5], r[6], word(8), word(16), word(24), word(32), word(40), word(48),
-                host::layout::held(state, s)
+                host::layout::missing(state, s), host::layout::held(state, s)
             )
         })
         .chain((0..8).map(|j| {

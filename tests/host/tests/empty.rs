@@ -2,7 +2,7 @@
 //! the exported calls and the replay; then every call on a buffer of zeros, other lengths, and each byte of it.
 
 use host::buffer::Lent;
-use host::engine::{engines, Answer, Call, STATE_LENGTH};
+use host::engine::{engines, Answer, Call, Missing, STATE_LENGTH};
 use host::evaluator::{evaluate, HORIZON};
 use host::found::Found;
 use host::history::Session;
@@ -237,6 +237,7 @@ fn every_call_on_no_streams() {
                 numbers(&mut session, &[(Progress(stream, bound), 7)]);
             }
             numbers(&mut session, &[(Move(stream), 11)]);
+            assert_eq!(session.missing(stream), (11, Missing::default()));
             assert_eq!(session.call(Collect(stream)), number(13));
             stays_zero(&session);
         }

@@ -3,7 +3,7 @@
 //! b, stream 2 is the delay, the form or the window, an output.
 
 use host::buffer::Lent;
-use host::engine::{engines, Answer, Call, STATE_LENGTH};
+use host::engine::{engines, Answer, Call, Missing, STATE_LENGTH};
 use host::found::{Found, Record};
 use host::plan::{short, text_of};
 
@@ -296,11 +296,12 @@ fn a_full_window_takes_in_what_lies_below_the_waiting_event() {
     let full = |bound: u64, values: &[i64]| Record { window: values.to_vec(), ..record(bound, &held) };
     let state = bytes(OF_THREE, record(20, &readings), record(0, &[]), full(16, &[4, 5, 6]));
     let calls = [(Call::Move(2), number(0)), (Call::Move(2), number(12))];
-    gives(&state, &calls, full(18, &[6, i64::MAX, i64::MAX]));
+    let missing = Missing { outside: 2, zero: 0 };
+    gives(&state, &calls, Record { missing, ..full(18, &[6, i64::MAX, i64::MAX]) });
     // one collected: it comes in, and the least value with it
     let calls = [(Call::Move(2), number(0)), (Call::Collect(2), value(0, 9)), (Call::Move(2), number(0)), (Call::Move(2), number(0))];
     let held: Vec<(u32, i64)> = (1..16).map(|t| (t, 9)).chain([(18, i64::MAX - 1)]).collect();
-    gives(&state, &calls, Record { window: vec![i64::MAX, i64::MAX, i64::MIN], mark: 1, ..record(20, &held) });
+    gives(&state, &calls, Record { window: vec![i64::MAX, i64::MAX, i64::MIN], mark: 1, missing, ..record(20, &held) });
 }
 
 #[test]

@@ -1,8 +1,8 @@
 //! Random plans and random lists of calls, some of them by writes to a block of registers: what document 01's "Whole runs" says, a
 //! model on whole histories, copies put back, the order of inputs, and full streams. Both engines make every call, and now and then
-//! between two they give the plan's text back, which counts as no call.
+//! between two they give the plan's text back and say why events are missing, which counts as no call.
 
-use host::engine::Call;
+use host::engine::{Call, Missing};
 use host::evaluator::{evaluate, rounded, HORIZON};
 use host::history::{any_acts, Session};
 use host::layout;
@@ -35,13 +35,24 @@ fn any_room(random: &mut Random, plan: &[host::plan::Stream]) -> usize {
     }
 }
 
+/// The counts of a stream, by the call and in its record, are those of the model; behind the last there is none.
+fn counts(session: &mut Session, model: &Model, s: usize) -> Missing {
+    let is = s < model.plan.len();
+    let wanted = if is { model.missing(s) } else { Missing::default() };
+    assert_eq!(session.missing(s as u32), (if is { 0 } else { 11 }, wanted), "counts of {s}\n{}", session.story());
+    assert!(!is || layout::missing(session.state(), s) == wanted, "bytes of the counts of {s}\n{}", session.story());
+    wanted
+}
+
 /// Every call's number, results, bounds, held events, marks, kept latest values and windows are those of the model on whole
-/// histories, and so are every write's number and all bytes of the block.
+/// histories, and so are every write's number and all bytes of the block, and the counts of missing events.
 #[test]
 fn numbers_and_states_are_those_of_the_model_on_whole_histories() {
     let (mut calls, mut done, mut full, mut kept, mut down, mut empty) = (0u64, 0u64, 0u64, 0u64, 0u64, 0u64);
-    // windows that are full, plans with eight of them, events of an argument whose sum was missing
-    let (mut filled, mut eight, mut missing) = (0u64, 0u64, 0u64);
+    // windows that are full, plans with eight of them
+    let (mut filled, mut eight) = (0u64, 0u64);
+    // of streams at the end: results out of range, of them sums, and divisors of 0
+    let (mut outside, mut sums, mut zero) = (0u64, 0u64, 0u64);
     // commands done and refused, writes refused, others
     let mut written = [0u64; 4];
     // texts that came back, and buffers too short
@@ -68,6 +79,10 @@ fn numbers_and_states_are_those_of_the_model_on_whole_histories() {
                 texts[(session.text_back(any_room(&mut random, &plan)).number != 0) as usize] += 1;
             }
             let model = &board.calls;
+            if random.chance(10) {
+                let s = random.below(plan.len() as u64 + 1) as usize;
+                counts(&mut session, model, s);
+            }
             for s in 0..plan.len() {
                 let state = session.state();
                 assert_eq!(layout::bound(state, s), model.bound[s], "bound of {s}\n{}", session.story());
@@ -85,7 +100,11 @@ fn numbers_and_states_are_those_of_the_model_on_whole_histories() {
             }
         }
         eight += (windows(&plan).len() == 8) as u64;
-        missing += windows(&plan).into_iter().map(|s| board.calls.passed(s)).sum::<u64>();
+        for s in 0..plan.len() {
+            let count = counts(&mut session, &board.calls, s);
+            (outside, zero) = (outside + count.outside as u64, zero + count.zero as u64);
+            sums += if plan[s].op.is_window() { count.outside as u64 } else { 0 };
+        }
         down += (0..plan.len()).map(|s| rounded(&plan, &board.calls.events, s)).sum::<u64>();
         if plan.is_empty() {
             assert!(session.state().iter().all(|&x| x == 0), "{}", session.story());
@@ -94,8 +113,9 @@ fn numbers_and_states_are_those_of_the_model_on_whole_histories() {
     }
     println!("seed {}: {calls} calls, {done} done, full streams met {full} times, signal forms that keep both values {kept}, divisions that go down {down}, plans of no streams {empty}", seed());
     println!("seed {}: commands done and refused, writes refused, others {written:?}; texts back and refused {texts:?}", seed());
-    println!("seed {}: full windows met {filled} times, plans with eight windows {eight}, sums missing {missing}", seed());
-    assert!(filled > all && (all < 1000 || (eight > all / 250 && missing > all / 10)), "too few windows: {filled}, {eight}, {missing}");
+    println!("seed {}: full windows met {filled} times, plans with eight windows {eight}; results out of range {outside}, of them sums {sums}, divisors of 0 {zero}", seed());
+    assert!(filled > all && (all < 1000 || (eight > all / 250 && sums > all / 10)), "too few windows: {filled}, {eight}, {sums}");
+    assert!(all < 1000 || (outside > all / 5 && zero > all / 10), "too few missing: {outside}, {zero}");
     assert!(written.iter().all(|&count| count > all / 2), "too few writes of a kind: {written:?}");
     assert!(all < 1000 || texts.iter().all(|&count| count > all / 10), "too few texts: {texts:?}");
     assert!(all < 1000 || empty > all / 50, "too few plans of no streams: {empty}");
@@ -103,14 +123,15 @@ fn numbers_and_states_are_those_of_the_model_on_whole_histories() {
     assert!(all < 1000 || down > all / 250, "too few divisions that go down: {down}");
 }
 
-/// Handed out is a beginning at every moment looked at, and complete at rest; from copies put back too.
+/// Handed out is a beginning at every moment looked at, and complete at rest, and the counts of missing events are the definition's; from
+/// copies put back too.
 #[test]
 fn handed_out_is_a_beginning_and_complete_at_rest() {
     let (mut checked, mut rested, mut events, mut copies) = (0u64, 0u64, 0u64, 0u64);
     // how often the operators that look back had an event, and of lasts and delays how many read themselves through others
     let (mut firings, mut lasts, mut signals, mut windowed, mut recursive) = (0u64, 0u64, 0u64, 0u64, 0u64);
-    // and divisions an inexact quotient below zero
-    let mut down = 0u64;
+    // and divisions an inexact quotient below zero; lists whose counts were compared, and what they were
+    let (mut down, mut counted, mut missing) = (0u64, 0u64, [0u64; 2]);
     let all = rounds(6000);
     for round in 0..all {
         let mut random = Random::of(3, round);
@@ -137,9 +158,12 @@ fn handed_out_is_a_beginning_and_complete_at_rest() {
             }
         }
         checked += session.check_beginning() as u64;
+        counted += session.check_missing().is_some() as u64;
         if session.rest(4_000) {
             session.check_beginning();
             rested += session.check_rest() as u64;
+            let sum = session.check_missing().unwrap_or_default();
+            missing = [missing[0] + sum[0], missing[1] + sum[1]];
         }
         events += session.handed.iter().map(|h| h.len() as u64).sum::<u64>();
         if let Some(streams) = evaluate(&plan, &session.accepted, session.least_known().min(500), 5_000) {
@@ -159,9 +183,11 @@ fn handed_out_is_a_beginning_and_complete_at_rest() {
         }
     }
     println!("seed {}: {all} lists, {checked} checked, {rested} at rest, {events} events handed out, {copies} copies put back", seed());
+    println!("seed {}: counts compared in {counted} lists, missing at rest {missing:?}", seed());
     println!("seed {}: {firings} firings, {lasts} events of last, {recursive} of these streams in a cycle, {signals} events of signal forms, {windowed} of windows, {down} divisions that go down", seed());
     assert!(checked * 10 > all * 9 && rested * 2 > all && events > 5 * all && copies > 0);
     assert!(firings > all / 2 && lasts > all && recursive > all / 10 && signals > all / 2 && windowed > all / 2);
+    assert!(counted * 10 > all * 9 && (all < 1000 || (missing[0] > all / 4 && missing[1] > all / 8)), "{counted}, {missing:?}");
     assert!(all < 1000 || down > all / 250, "too few divisions that go down: {down}");
 }
 
@@ -201,6 +227,7 @@ fn loads_over_one_another() {
                 session.check_beginning();
                 session.check_rest();
             }
+            session.check_missing();
             let next = if random.chance(40) { vec![] } else { plan(&mut random, 12) };
             met[session.plan.is_empty() as usize][next.is_empty() as usize] += 1;
             session = Session::load_over(&next, session.states);
@@ -266,6 +293,7 @@ fn the_order_of_inputs_does_not_matter() {
             }
             let all_offered = (0..script.len()).all(|i| next[i] == script[i].1.len());
             if all_offered && session.rest(4_000) {
+                session.check_missing();
                 ends.push(session);
             }
         }
@@ -285,8 +313,8 @@ fn the_order_of_inputs_does_not_matter() {
 /// which comes in when there is room; nothing is lost.
 #[test]
 fn a_full_stream_keeps_the_next_event_waiting() {
-    // full streams with an event waiting, and those of them that are windows
-    let (mut full, mut waiting) = (0u64, 0u64);
+    // full streams with an event waiting, those of them that are windows, and those behind which events were missing
+    let (mut full, mut waiting, mut missing) = (0u64, 0u64, 0u64);
     for round in 0..rounds(600) {
         let mut random = Random::of(5, round);
         // a chain of random length from the fast input to a stream that also reads the slow one
@@ -320,7 +348,7 @@ fn a_full_stream_keeps_the_next_event_waiting() {
         while slow < 60 {
             // the fast input as far as it is taken
             for _ in 0..random.below(30) {
-                let call = Call::Reading(0, fast, fast as i64);
+                let call = Call::Reading(0, fast, if random.chance(10) { random.at_an_edge() } else { fast as i64 });
                 let answer = session.call(call);
                 assert_eq!(answer, model.call(call));
                 if answer.number == 0 {
@@ -340,8 +368,10 @@ fn a_full_stream_keeps_the_next_event_waiting() {
                     assert_eq!(layout::window(session.state(), s), model.window(s), "window of {s}\n{}", session.story());
                     waiting += model.full(s) as u64;
                 }
+                assert_eq!(layout::missing(session.state(), s), model.missing(s), "counts of {s}\n{}", session.story());
                 if model.full(s) {
                     full += 1;
+                    missing += (model.missing(s) != Missing::default()) as u64;
                     // its bound has gone to the stamp of the waiting event, which is still to come
                     let bound = model.bound[s];
                     assert!(layout::held(session.state(), s).iter().all(|(t, _)| (*t as u64) < bound));
@@ -360,10 +390,10 @@ fn a_full_stream_keeps_the_next_event_waiting() {
         session.call(Call::Progress(0, HORIZON));
         session.call(Call::Progress(1, HORIZON));
         assert!(session.rest(100_000), "{}", session.story());
-        assert!(session.check_beginning() && session.check_rest());
+        assert!(session.check_beginning() && session.check_rest() && session.check_missing().is_some());
     }
-    println!("seed {}: full streams with an event waiting met {full} times, windows {waiting}", seed());
-    assert!(full > 0 && waiting > 0, "no full stream was met");
+    println!("seed {}: full streams with an event waiting met {full} times, windows {waiting}, with events missing before {missing}", seed());
+    assert!(full > 0 && waiting > 0 && (missing > 0 || rounds(600) < 100), "no full stream was met");
 }
 
 /// Near the last stamp nothing wraps around.
@@ -391,11 +421,13 @@ fn lists_that_start_near_the_horizon() {
         if session.rest(3_000) && session.check_beginning() {
             rested += session.check_rest() as u64;
         }
+        session.check_missing();
         for s in session.inputs() {
             session.call(Call::Progress(s as u32, HORIZON));
         }
         if session.rest(3_000) && session.check_beginning() {
             rested += session.check_rest() as u64;
+            session.check_missing();
         }
     }
     println!("seed {}: {rested} rests near the horizon of {all} lists", seed());

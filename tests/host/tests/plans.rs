@@ -1,10 +1,11 @@
 //! The plans under plans/: replayed on both engines they print expected.txt, byte for byte, and the events printed are what
-//! the evaluator gives.
+//! the evaluator gives; and why events are missing in them.
 
-use host::engine::engines;
+use host::engine::{engines, Missing};
 use host::evaluator::{evaluate, Events, HORIZON};
+use host::history::Session;
 use host::plan::{number, parse, value, Op};
-use host::replay::replay;
+use host::replay::{offer, replay};
 use std::fs;
 use std::path::PathBuf;
 
@@ -81,6 +82,29 @@ fn the_events_printed_are_those_of_the_definition() {
             assert_eq!(printed, all[..printed.len()], "{} stream {s}", folder.display());
         }
     }
+}
+
+/// By plans/README.md: of hill the hour without a reading, of mean and share stamp 0, where the sums are 0; of share also the stamps
+/// from the first nonsense reading on. No other stream has a gap that it counts.
+#[test]
+fn why_events_of_the_plans_are_missing() {
+    let gaps = [("hill", 20, 0, 1), ("mean", 8, 0, 1), ("share", 5, 1, 0), ("share", 12, 3, 0), ("share", 13, 0, 1)];
+    let mut met = 0;
+    for folder in folders() {
+        let name = folder.file_name().unwrap().to_string_lossy().into_owned();
+        let mut session = Session::load(&parse(&read(&folder, "plan.txt")).unwrap());
+        for call in read(&folder, "trace.txt").split(|&c| c == b'\n').map_while(offer) {
+            session.call(call);
+            assert!(session.rest(100_000), "{name}");
+        }
+        for s in 0..session.plan.len() {
+            let gap = gaps.iter().find(|gap| (gap.0, gap.1) == (name.as_str(), s));
+            let (outside, zero) = gap.map_or((0, 0), |gap| (gap.2, gap.3));
+            assert_eq!(session.missing(s as u32), (0, Missing { outside, zero }), "{name}: stream {s}");
+            met += gap.is_some() as usize;
+        }
+    }
+    assert_eq!(met, gaps.len());
 }
 
 #[test]

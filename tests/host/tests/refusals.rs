@@ -1,7 +1,7 @@
 //! Each number 1 to 15 and 18 with cases by hand, on both engines.
 
 use host::buffer::Lent;
-use host::engine::{engines, Answer, Call, STATE_LENGTH};
+use host::engine::{engines, Answer, Call, Missing, STATE_LENGTH};
 use host::history::Session;
 use host::plan::{parse, short, text_of, SIGNALS, WINDOWS};
 
@@ -336,6 +336,9 @@ fn number_15_lengths() {
             for call in [Call::Reading(0, 1, 1), Call::Progress(0, 1), Call::Move(1), Call::Run(5), Call::Collect(1)] {
                 assert_eq!(engine.call(&mut state, call), Answer { number: 15, ..Answer::default() }, "{}", engine.name);
             }
+            for stream in [0, 1, 2, u32::MAX] {
+                assert_eq!(engine.missing(&mut state, stream), (15, Missing::default()), "{}", engine.name);
+            }
             assert!(state[..] == bytes[..] && state.untouched());
         }
     }
@@ -352,7 +355,9 @@ fn number_15_contents() {
         (256 + 1, 6, "a not below the number of streams"), (256 + 1, 1, "a cycle"), (256 + 2, 1, "neg has no b"), (256 + 3, 2, "out is 0 or 1"),
         (256 + 4, 17, "more than 16 held"), (256 + 4, 1, "a held stamp not below the bound 0"), (256 + 5, 1, "neg keeps nothing"), (256 + 7, 1, "unused"),
         (256 + 8, 1, "neg has no k"), (256 + 16 + 5, 1, "a bound above the horizon"), (256 + 24, 1, "a mark above the bound"), (24, 1, "a mark of no output"),
-        (256 + 56, 1, "unused"), (256 + 64, 1, "an unused slot"), (256 + 255, 1, "an unused slot"), (512 + 5, 1, "kept with bound 0"), (512 + 5, 2, "a flag above 1"),
+        (56, 1, "in counts nothing"), (256 + 56, 1, "counted with bound 0"), (256 + 63, 1, "counted with bound 0"),
+        (256 + 64, 1, "an unused slot"), (256 + 255, 1, "an unused slot"), (512 + 5, 1, "kept with bound 0"), (512 + 5, 2, "a flag above 1"),
+        (512 + 60, 1, "a last counts nothing"), (768 + 59, 1, "a delay counts nothing"), (1024 + 56, 1, "counted with bound 0"), (1024 + 60, 1, "counted with bound 0"),
         (512 + 32, 1, "a value without its flag"), (768 + 32, 1, "since above the bound"), (768 + 40, 1, "a value without its flag"), (768 + 6, 1, "a prior with bound 0"),
         (1024 + 1, 6, "a not below the number of streams"), (1024 + 2, 6, "b not below the number of streams"), (1024 + 1, 4, "a cycle"), (1024 + 2, 4, "a cycle"),
         (1024 + 8, 1, "a signal form has no k"), (1024 + 5, 1, "kept with bound 0"), (1024 + 6, 1, "kept with bound 0"), (1024 + 5, 2, "a flag above 1"),
@@ -361,7 +366,7 @@ fn number_15_contents() {
         (1024, 28, "a width of 0"), (1280 + 1, 6, "a not below the number of streams"), (1280 + 1, 5, "a cycle"), (1280 + 2, 1, "a window has no b"),
         (1280 + 5, 1, "kept with bound 0"), (1280 + 6, 1, "unused"), (1280 + 8, 0, "a width of 0"), (1280 + 8, 65, "a width above 64"), (1280 + 8, 255, "a width above 64"),
         (1280 + 9, 1, "a width above 64"), (1280 + 12, 1, "a width above 64"), (1280 + 15, 255, "a width below 0"), (1280 + 32, 1, "unused"), (1280 + 40, 1, "unused"),
-        (1280 + 55, 1, "unused"), (1280 + 56, 1, "unused"), (1280, 31, "no operator"), (1280, 7, "neg has no k"), (1280, 0, "no stream here, but bytes after it"),
+        (1280 + 55, 1, "unused"), (1280 + 56, 1, "counted with bound 0"), (1280, 31, "no operator"), (1280, 7, "neg has no k"), (1280, 0, "no stream here, but bytes after it"),
         (1536, 31, "no operator"), (1537, 1, "behind the streams"), (8191, 1, "behind the streams"), (8192, 1, "behind the fill of window 0"),
         (8703, 1, "behind the fill of window 0"), (8704, 1, "a window that no stream has"), (12_287, 1, "a window that no stream has"),
     ];
@@ -373,6 +378,7 @@ fn number_15_contents() {
             for call in [Call::Reading(9, 1, 1), Call::Progress(9, 1), Call::Move(9), Call::Run(0), Call::Collect(9)] {
                 let mut state = Lent::of(&bytes);
                 assert_eq!(engine.call(&mut state, call).number, 15, "{}: {why}", engine.name);
+                assert_eq!(engine.missing(&mut state, 9), (15, Missing::default()), "{}: {why}", engine.name);
                 assert!(state[..] == bytes[..] && state.untouched());
             }
         }

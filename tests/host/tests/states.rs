@@ -1,7 +1,7 @@
 //! States saved by earlier versions, under tests/states: each is read, is what its calls leave today but for the rule of division,
 //! and goes on.
 
-use host::engine::{Answer, Call, LIBRARY, STATE_LENGTH};
+use host::engine::{Answer, Call, Missing, LIBRARY, STATE_LENGTH};
 use host::evaluator::HORIZON;
 use host::found::{Found, Record};
 use host::history::{any_acts, Session};
@@ -12,7 +12,7 @@ use host::random::{rounds, seed, Random};
 use host::registers::{Act, Block, Board, REFUSED, WAITING};
 use host::saved::{read, write, Saved};
 use host::texts::pattern;
-use host::worked::{collected, numbers, runs};
+use host::worked::{collected, missing, numbers, runs};
 use std::fs;
 use std::path::PathBuf;
 
@@ -26,7 +26,7 @@ fn files() -> Vec<PathBuf> {
 fn states() -> Vec<(String, Saved)> {
     let name = |path: &PathBuf| path.file_name().unwrap().to_string_lossy().into_owned();
     let states: Vec<(String, Saved)> = files().iter().map(|path| (name(path), read(&fs::read_to_string(path).unwrap()))).collect();
-    assert!(states.len() >= 19, "only {} saved states", states.len());
+    assert!(states.len() >= 22, "only {} saved states", states.len());
     states
 }
 
@@ -91,11 +91,12 @@ fn but_for_values((answers, state): &(Vec<Answer>, Vec<u8>)) -> (Vec<Answer>, Ve
     (answers, Found::read(state).expect("a state").records.into_iter().map(record).collect())
 }
 
-/// Where no result of division by the earlier rule is inside, byte for byte. Where one is, the file is what its calls leave by
-/// that rule, today's is what they leave by the new one, and they differ in values alone.
+/// Where no result of division by the earlier rule is inside, byte for byte but for the counts, which no version before 1.8 has. Where
+/// one is, the file is what its calls leave by that rule, today's is what they leave by the new one, and they differ in values alone.
+/// Today's counts are the definition's.
 #[test]
 fn each_is_what_its_calls_leave_today() {
-    let mut cut = 0;
+    let (mut cut, mut counted) = (0, 0);
     for (name, saved) in states() {
         let then: (Vec<Answer>, Vec<u8>) = (saved.calls.iter().map(|(_, answer)| *answer).collect(), saved.bytes.clone());
         let mut session = Session::load(&saved.plan);
@@ -105,8 +106,12 @@ fn each_is_what_its_calls_leave_today() {
             assert!(x.1 == y.1, "{name}: bytes, {what}");
         };
         same(&today, &made_by(&saved, Division::Down), "today and the model");
+        counted += (session.check_missing().expect("few stamps") != [0, 0]) as u64;
+        // as that version left it
+        let at_that_time = |(answers, bytes): (Vec<Answer>, Vec<u8>)| (answers, if saved.before_counts() { layout::without_counts(&bytes) } else { bytes });
+        let today = at_that_time(today);
         if saved.is_cut() {
-            same(&then, &made_by(&saved, Division::TowardZero), "the file and the model by the earlier rule");
+            same(&then, &at_that_time(made_by(&saved, Division::TowardZero)), "the file and the model by the earlier rule");
             assert!(then != today, "{name}: holds no result of the earlier rule");
             assert_eq!(but_for_values(&then), but_for_values(&today), "{name}");
             cut += 1;
@@ -115,15 +120,17 @@ fn each_is_what_its_calls_leave_today() {
         }
     }
     assert!(cut >= 2, "only {cut} states with results of the earlier rule");
+    assert!(counted >= 4, "only {counted} states whose calls leave counts today");
 }
 
 /// Any calls on the state put back, directly and by a block of registers: answers and bytes are those of the model, and what was
-/// handed out before the copy and after it is what the definition gives for the readings before and after. The latter not of a state with results of the earlier rule
-/// of division: "demands 2 and 3 speak of states loaded since".
+/// handed out before the copy and after it is what the definition gives for the readings before and after, and so are the counts, from the
+/// bounds on that the copy had. The latter two not of a state with results of the earlier rule of division: "demands 2 and 3 speak of
+/// states loaded since".
 #[test]
 fn each_goes_on() {
     for (name, saved) in states() {
-        let (mut calls, mut events, mut checked, mut rested) = (0u64, 0u64, 0u64, 0u64);
+        let (mut calls, mut events, mut checked, mut rested, mut missing) = (0u64, 0u64, 0u64, 0u64, 0u64);
         let all = rounds(150);
         for round in 0..all {
             let mut random = Random::of(30, round);
@@ -155,14 +162,16 @@ fn each_goes_on() {
                 }
                 (checked, rested) = (checked + 1, rested + 1);
             } else {
-                checked += session.check_beginning() as u64;
+                checked += (session.check_beginning() && session.check_missing().is_some()) as u64;
                 if session.rest(4_000) {
-                    rested += (session.check_beginning() && session.check_rest()) as u64;
+                    let counts = session.check_missing();
+                    rested += (session.check_beginning() && session.check_rest() && counts.is_some()) as u64;
+                    missing += counts.map_or(0, |[outside, zero]| outside + zero);
                 }
             }
             events += session.handed.iter().map(|handed| handed.len() as u64).sum::<u64>();
         }
-        println!("seed {}: {name}, {calls} calls and writes on it, {events} events handed out, {checked} lists checked, {rested} at rest", seed());
+        println!("seed {}: {name}, {calls} calls and writes on it, {events} events handed out, {missing} missing, {checked} lists checked, {rested} at rest", seed());
         let outputs = saved.plan.iter().any(|stream| stream.out);
         assert!(all < 20 || (checked * 2 > all && rested * 4 > all && (events > 0) == outputs));
     }
@@ -341,7 +350,7 @@ fn a_full_input_goes_on_by_registers() {
 fn behind_the_records_of_an_earlier_state_all_is_0() {
     for (name, saved) in states() {
         let earlier = ["1.1-", "1.2-", "1.3-", "1.4-", "1.5-"].iter().any(|version| name.starts_with(version));
-        assert!(earlier || name.starts_with("1.6-"), "{name}: of which version?");
+        assert!(earlier || name.starts_with("1.6-") || name.starts_with("1.7-"), "{name}: of which version?");
         assert!(!earlier || (saved.bytes[8192..].iter().all(|&x| x == 0) && windows(&saved.plan).is_empty()), "{name}");
     }
 }
@@ -458,6 +467,113 @@ fn windows_go_on() {
     runs(&mut session, 99, 3);
     collected(&mut session, 1, &[(21, -54)]);
     assert!(session.rest(100) && session.check_beginning() && session.check_rest());
+}
+
+// ---- states saved before the counts: "an older state counts from its first move here"
+
+/// Each is read with 0 and 0 of every stream, whatever was missing before, and neither an offer nor a collect changes that.
+#[test]
+fn an_earlier_state_has_no_counts() {
+    let (mut earlier, mut missed) = (0, 0);
+    for (name, saved) in states().into_iter().filter(|(_, saved)| saved.before_counts()) {
+        earlier += 1;
+        assert!(saved.bytes == layout::without_counts(&saved.bytes), "{name}");
+        let mut session = Session::put_back(&saved);
+        let mut anew = Session::load(&saved.plan);
+        for (call, _) in &saved.calls {
+            anew.call(*call);
+        }
+        let all_0 = |session: &mut Session| {
+            for stream in 0..saved.plan.len() as u32 {
+                assert_eq!(session.missing(stream), (0, Missing::default()), "{name}: stream {stream}");
+            }
+        };
+        all_0(&mut session);
+        missed += (0..saved.plan.len() as u32).filter(|&stream| anew.missing(stream).1 != Missing::default()).count();
+        for s in session.inputs() {
+            session.call(Call::Progress(s as u32, (session.known[s] + 7).min(HORIZON)));
+        }
+        for s in session.outputs() {
+            session.call(Call::Collect(s as u32));
+        }
+        all_0(&mut session);
+    }
+    assert!(earlier >= 22 && missed >= 15, "only {earlier} states, {missed} streams that would have counts");
+}
+
+/// The counts of streams, as (stream, outside, zero).
+fn counts(session: &mut Session, wanted: &[(u32, u32, u32)]) {
+    for &(stream, outside, zero) in wanted {
+        missing(session, stream, outside, zero);
+    }
+}
+
+/// Case 8.9: divisors of 0 and the least value by −1, before the copy and after it.
+#[test]
+fn case_8_9_divisions_count_from_the_first_move() {
+    let saved = named("1.7-division.txt");
+    let mut session = Session::put_back(&saved);
+    counts(&mut session, &[(2, 0, 0), (3, 0, 0), (4, 0, 0), (5, 0, 0)]);
+    // 6 by 0 at 1, the least by −1 at 2, 7 by 2 at 3, then 0 alone at 4, the least by 0 at 5, 5 by −2 at 6. div is known to 4: 5 is
+    // missing. rem is known to 3 and moves twice. sdiv has not moved: 1 and 2 are missing, then 4 and 5. srem is known to 4: 4 and 5
+    runs(&mut session, 99, 1 + 2 + 2 + 1);
+    counts(&mut session, &[(2, 0, 1), (3, 0, 1), (4, 1, 3), (5, 0, 2)]);
+    collected(&mut session, 2, &[(6, -3)]);
+    collected(&mut session, 4, &[(3, 3), (6, -3)]);
+    collected(&mut session, 5, &[(2, 0), (3, 1), (6, -1)]);
+    // had they been counted: 1 and 2 of div as well, 1 of both remainders
+    let mut anew = Session::load(&saved.plan);
+    for (call, _) in &saved.calls {
+        anew.call(*call);
+    }
+    counts(&mut anew, &[(2, 1, 1), (3, 0, 1), (4, 0, 0), (5, 0, 1)]);
+    runs(&mut anew, 99, 6);
+    counts(&mut anew, &[(2, 1, 2), (3, 0, 2), (4, 1, 3), (5, 0, 3)]);
+    assert!(session.check_missing().is_some() && anew.check_missing().is_some());
+}
+
+/// Sums, products and a window out of range: what a window keeps from before makes sums missing after.
+#[test]
+fn sums_count_from_the_first_move() {
+    let mut session = Session::put_back(&named("1.7-sums.txt"));
+    counts(&mut session, &[(1, 0, 0), (2, 0, 0), (3, 0, 0), (4, 0, 0), (6, 0, 0), (7, 0, 0), (8, 0, 0)]);
+    // the greatest at 1 and 2, the least at 3, 5 at 4, the greatest at 6 and 7; beside them 1, 2, −1 at 1 to 3 and 1 at 6.
+    // plus, from 4: 6; 6 and 7 are missing. neg, from 2: 3 is missing, four events. The sum of two, from 4 with the least kept: at 4,
+    // then 6 and 7 are missing. wmax: six events. add, from 4: 6 is missing. smul, from 0: at 1, 4 and 6; 2 and 3 are missing. The
+    // square, from 0: at 4 alone
+    runs(&mut session, 99, 2 + 4 + 2 + 6 + 1 + 3 + 2);
+    counts(&mut session, &[(0, 0, 0), (1, 2, 0), (2, 1, 0), (3, 2, 0), (4, 0, 0), (5, 0, 0), (6, 1, 0), (7, 2, 0), (8, 5, 0)]);
+    collected(&mut session, 3, &[(3, -1), (4, i64::MIN + 5)]);
+    collected(&mut session, 6, &[]);
+    assert!(session.check_missing().is_some());
+    // the window has the greatest twice: the next two sums are missing as well
+    numbers(&mut session, &[(Call::Reading(0, 8, i64::MAX), 0), (Call::Reading(0, 9, 1), 0)]);
+    runs(&mut session, 99, 1 + 2 + 1 + 2 + 1);
+    counts(&mut session, &[(3, 4, 0), (1, 3, 0), (8, 6, 0)]);
+    assert!(session.check_missing().is_some());
+}
+
+/// An output that was full: what was passed before the copy stays uncounted, the event that waited comes in uncounted, and the stamp
+/// after it counts.
+#[test]
+fn a_full_output_counts_from_the_first_move() {
+    let mut session = Session::put_back(&named("1.7-full.txt"));
+    assert_eq!(layout::bound(session.state(), 2), 18);
+    runs(&mut session, 9, 0);
+    counts(&mut session, &[(2, 0, 0)]);
+    assert_eq!(session.call(Call::Collect(2)), Answer { value: 10, ..Answer::default() });
+    counts(&mut session, &[(2, 0, 0)]);
+    // 9 by 2 at 18 comes in
+    runs(&mut session, 1, 1);
+    counts(&mut session, &[(2, 0, 0)]);
+    // past 9 by 0 at 19 to 8 by 2 at 20, which waits
+    runs(&mut session, 9, 1);
+    assert_eq!(layout::bound(session.state(), 2), 20);
+    counts(&mut session, &[(2, 0, 1)]);
+    numbers(&mut session, &[(Call::Collect(2), 0)]);
+    runs(&mut session, 9, 1);
+    counts(&mut session, &[(2, 0, 1)]);
+    assert!(session.rest(99) && session.check_beginning() && session.check_rest() && session.check_missing().is_some());
 }
 
 /// No test: to save a state with the library of today, write a file with the two lines of head, the plan and the calls, and

@@ -3,11 +3,10 @@
 
 use host::buffer::Lent;
 use host::engine::{engines, Answer, Call, STATE_LENGTH};
-use host::evaluator::HORIZON;
-use host::found::{Found, Record};
+use host::found::Found;
 use host::history::{any_acts, Session};
 use host::plan::{parse, short, text_of, Op, Plan, Stream, OPERATORS};
-use host::random::{plan, rounds, seed, Random};
+use host::random::{plan, record, rounds, seed, Random};
 use host::texts::{as_defined, asked, given, pattern, Given};
 use std::fs;
 use Call::{Collect, Reading, Run};
@@ -495,7 +494,7 @@ fn foreign_and_damaged_states() {
     for round in 0..all {
         let mut random = Random::of(73, round);
         let plan = any_plan(&mut random);
-        let records = plan.iter().map(|stream| any_record(&mut random, stream)).collect();
+        let records = plan.iter().map(|stream| record(&mut random, stream)).collect();
         let mut bytes = Found { plan: plan.clone(), records, ..Found::default() }.bytes();
         let text = text_of(&plan);
         let rooms = [text.len(), text.len() + 1 + random.below(50) as usize, random.below(text.len() as u64 + 1) as usize];
@@ -514,33 +513,4 @@ fn foreign_and_damaged_states() {
     }
     println!("seed {}: {foreign} states that no call leaves, {damaged} damaged and still a state, {none} none", seed());
     assert!(all < 1000 || (damaged > all / 8 && none > all / 2), "{damaged} {none}");
-}
-
-/// A record of a stream, with anything that the layout allows.
-fn any_record(random: &mut Random, stream: &Stream) -> Record {
-    let bound = match random.below(4) {
-        0 => 0,
-        1 => HORIZON - random.below(3),
-        _ => random.below(500),
-    };
-    let mut record = Record { bound, mark: if stream.out { random.below(bound + 1) } else { 0 }, ..Record::default() };
-    let stamps: Vec<u32> = (0..random.below(17)).map(|_| random.below(bound.max(1)) as u32).collect();
-    if bound == 0 {
-        return record;
-    }
-    record.held = stamps.into_iter().map(|t| (t, random.value())).collect();
-    let maybe = |random: &mut Random| random.chance(50).then(|| random.value());
-    match stream.op {
-        Op::Last => record.prev = maybe(random),
-        Op::Delay => {
-            let newest = record.held.keys().next_back().map_or(0, |t| *t as u64 + 1);
-            record.since = newest + random.below(bound - newest + 1);
-            record.value = if record.since > 0 { maybe(random) } else { None };
-            record.prior = maybe(random);
-        }
-        op if op.on_signals().is_some() => record.latest = [maybe(random), maybe(random)],
-        op if op.is_window() => record.window = (0..random.below(stream.k as u64 + 1)).map(|_| random.value()).collect(),
-        _ => {}
-    }
-    record
 }

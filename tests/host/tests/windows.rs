@@ -2,7 +2,7 @@
 //! definition, which takes the last k of the list of all events so far; where the values lie; each byte that a window adds.
 
 use host::buffer::Lent;
-use host::engine::{engines, Answer, Call, STATE_LENGTH};
+use host::engine::{engines, Answer, Call, Missing, STATE_LENGTH};
 use host::evaluator::HORIZON;
 use host::found::{Found, Record};
 use host::history::Session;
@@ -232,9 +232,10 @@ impl Course {
         }
     }
 
-    /// Moves a window once: it passes missing sums and adds one event, or goes to the end.
+    /// Moves a window once: it passes missing sums, and counts them, and adds one event, or goes to the end.
     fn move_one(&mut self, s: usize) -> bool {
         let (y, held) = (layout::bound(self.session.state(), s), layout::held(self.session.state(), s).len());
+        let counted = layout::missing(self.session.state(), s);
         if self.session.call(Move(s as u32)).number != 0 {
             return false;
         }
@@ -244,6 +245,7 @@ impl Course {
         let passed = self.below(to) - self.below(y) - added;
         self.passed[passed.min(3)] += 1;
         self.missing += passed as u64;
+        assert_eq!(layout::missing(state, s), Missing { outside: counted.outside + passed as u32, zero: 0 }, "what is counted\n{}", self.session.story());
         self.waited += (held == 16 && self.stamps.binary_search(&(to as u32)).is_ok()) as u64;
         self.check();
         true
@@ -259,6 +261,7 @@ impl Course {
             assert_eq!(self.session.handed[s], wanted, "stream {s}");
         }
         assert!(self.session.check_beginning() && self.session.check_rest());
+        assert!(self.session.check_missing_within(usize::MAX).is_some());
     }
 }
 
@@ -631,7 +634,7 @@ fn what_a_record_keeps() {
         for (i, v) in [-1, 5, LEAST, 7].into_iter().enumerate() {
             offered(&mut session, &[(4 * i as u32, v)]);
             numbers(&mut session, &[(Run(9), 0)]);
-            // the fill; byte 6 and words 32 to 55 stay 0; nobody waits for its events
+            // the fill; byte 6 and words 32 to 55 stay 0, and so do the counts; nobody waits for its events
             record(&session, 1, 4, &[0, (i as u8 + 1).min(3), 0, 0, 3, 0, 0, 0, 0, 0, 0, 0, 4 * i as u8 + 1, 0, 0, 0, 0, 0, 0, 0]);
             record(&session, 1, 24, &[0; 232]);
         }
@@ -731,10 +734,11 @@ fn each_field_of_a_window_s_record_damaged() {
             is_state(&changed(&[(at, 255)]), false, &format!("window {slot}, byte {at} of the width"));
         }
         is_state(&changed(&[(8, 255), (9, 255), (10, 255), (11, 255), (12, 255), (13, 255), (14, 255), (15, 255)]), false, "a width of −1");
-        // b, byte 6, byte 7, words 32 to 63
+        // b, byte 6, byte 7, words 32 to 55; a sum counts those that are missing in 56 to 63, and no other window does
         for at in [2, 6, 7, 63].into_iter().chain((32..64).step_by(step())) {
             for byte in [1, 128, 255] {
-                is_state(&changed(&[(at, byte)]), false, &format!("window {slot}, byte {at} is {byte}"));
+                let is = at >= 56 && good[record] == 28;
+                is_state(&changed(&[(at, byte)]), is, &format!("window {slot}, byte {at} is {byte}"));
             }
         }
         // another window of the same fill; anything else keeps less, or has no k

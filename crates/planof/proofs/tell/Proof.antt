@@ -3,14 +3,8 @@ use mathlib.Core.Path.{sym}
 use lib.Seq.{length-take-le}
 use Rattle.writing.proofs.Cases.{text-within}
 use borrow.Author.Needs.{needs}
-use native.Mathlib.Omega.{arith}
 use Rattle.planof.proofs.tell.Statement.{statement}
 use Rattle.planof.proofs.tell.Tie as tie
-use Rattle.planof.proofs.tell.Reads as reads
-use Rattle.planof.proofs.tell.Lts as lts
-use Rattle.engine.proofs.tessla_plan_text.Reads as tessla-plan-text-reads
-use Rattle.io.proofs.print_decimal.Reads as print-decimal-reads
-use Rattle.io.proofs.write_all.Reads as write-all-reads
 
 slice-aggregate-tessla-plan-text : tie.Need-slice-aggregate-tessla-plan-text
 slice-aggregate-tessla-plan-text c = search needs
@@ -18,23 +12,8 @@ slice-aggregate-tessla-plan-text c = search needs
 tessla-plan-text-requires : tie.Need-tessla-plan-text-requires
 tessla-plan-text-requires c κs = search needs
 
-slice-aggregate-write-all : tie.Need-slice-aggregate-write-all
-slice-aggregate-write-all c = search needs
-
-write-all-requires : tie.Need-write-all-requires
-write-all-requires c κs = search needs
-
-cast-print-decimal : tie.Need-cast-print-decimal
-cast-print-decimal c = search needs
-
-print-decimal-requires : tie.Need-print-decimal-requires
-print-decimal-requires c κs = search needs
-
-slice-aggregate-write-all-2 : tie.Need-slice-aggregate-write-all-2
-slice-aggregate-write-all-2 c = search needs
-
-write-all-requires-2 : tie.Need-write-all-requires-2
-write-all-requires-2 c κs = search needs
+refuse-requires : tie.Need-refuse-requires
+refuse-requires c κs = search needs
 
 returns : tie.Need-returns
 returns c = search needs
@@ -42,11 +21,11 @@ returns c = search needs
 array-share-prefix-text : tie.Need-array-share-prefix-text
 array-share-prefix-text c = text-within _ _ _ _ (c .before .before .tessla-plan-text .ensures .1 .0) (c .before .before .tessla-plan-text .ensures .1 .1)
 
-slice-aggregate-write-all-3 : tie.Need-slice-aggregate-write-all-3
-slice-aggregate-write-all-3 c = sym (length-take-le (c .before .before .before .tessla-plan-text .last .1 .1 .0) (c .before .before .before .tessla-plan-text .last .1 .0) (text-within _ _ _ _ (c .before .before .before .tessla-plan-text .ensures .1 .0) (c .before .before .before .tessla-plan-text .ensures .1 .1)))
+slice-aggregate-write-all : tie.Need-slice-aggregate-write-all
+slice-aggregate-write-all c = sym (length-take-le (c .before .before .before .tessla-plan-text .last .1 .1 .0) (c .before .before .before .tessla-plan-text .last .1 .0) (text-within _ _ _ _ (c .before .before .before .tessla-plan-text .ensures .1 .0) (c .before .before .before .tessla-plan-text .ensures .1 .1)))
 
-write-all-requires-3 : tie.Need-write-all-requires-3
-write-all-requires-3 c κs = search needs
+write-all-requires : tie.Need-write-all-requires
+write-all-requires c κs = search needs
 
 returns-2 : tie.Need-returns-2
 returns-2 c = search needs
@@ -57,14 +36,9 @@ tell-spec =
     (tie.spec
     slice-aggregate-tessla-plan-text
     tessla-plan-text-requires
-    slice-aggregate-write-all
-    write-all-requires
-    cast-print-decimal
-    print-decimal-requires
-    slice-aggregate-write-all-2
-    write-all-requires-2
+    refuse-requires
     returns
     array-share-prefix-text
-    slice-aggregate-write-all-3
-    write-all-requires-3
+    slice-aggregate-write-all
+    write-all-requires
     returns-2)
