@@ -60,10 +60,7 @@ abbrev Seen : Eqn → Cell → State → State → Type 0
 Seen e o M N = Each (λ x. Alike (downTo e (o .bound)) (cellAt M x) (cellAt N x)) (reads e)
 
 module _ (o : Cell) (M N : State) where
-  abbrev lim : Eqn → State → ℕ
-  lim e X = limit e o (cellAt X (argA e)) (cellAt X (argB e))
-
-  limit-same : (e : Eqn) → Seen e o M N → lim e N ≡ lim e M
+  limit-same : (e : Eqn) → Seen e o M N → limit e o (cellAt N (argA e)) (cellAt N (argB e)) ≡ limit e o (cellAt M (argA e)) (cellAt M (argB e))
   limit-same input h = refl
   limit-same nil h = refl
   limit-same unit h = refl
@@ -104,18 +101,24 @@ module _ (o : Cell) (M N : State) where
       (from-cong (view (cellAt N a)) (view (cellAt M a)) (o .bound) (suc t) (λ p m i. h .0 .held p m))
 
   -- so a move finds the same
-  decide-same : (e : Eqn) → Seen e o M N → decide e o (cellAt N (argA e)) (cellAt N (argB e)) ≡ decide e o (cellAt M (argA e)) (cellAt M (argB e))
-  unfolding reach first decide
-  decide-same e h = found
-    where
-      r : reach e o (cellAt N (argA e)) (cellAt N (argB e)) ≡ reach e o (cellAt M (argA e)) (cellAt M (argB e))
-      r = rw (limit-same e h) (least-cong (stops e o (cellAt N (argA e)) (cellAt N (argB e))) (stops e o (cellAt M (argA e)) (cellAt M (argB e))) (o .bound) (lim e M - o .bound) (stops-same e h))
+  module _ (e : Eqn) (h : Seen e o M N) where
+    abbrev a : State → Cell
+    a X = cellAt X (argA e)
 
-      f : first e o (cellAt N (argA e)) (cellAt N (argB e)) ≡ first e o (cellAt M (argA e)) (cellAt M (argB e))
-      f = rw r (least-cong (λ t. has (gives e o (cellAt N (argA e)) (cellAt N (argB e)) t)) (λ t. has (gives e o (cellAt M (argA e)) (cellAt M (argB e)) t)) (o .bound) (reach e o (cellAt M (argA e)) (cellAt M (argB e)) - o .bound) (λ t l. ap has (gives-same e h t l)))
+    abbrev b : State → Cell
+    b X = cellAt X (argB e)
 
-      found : decide e o (cellAt N (argA e)) (cellAt N (argB e)) ≡ decide e o (cellAt M (argA e)) (cellAt M (argB e))
-      found = rw (f, r, gives-same e h (first e o (cellAt M (argA e)) (cellAt M (argB e))) (first-ge e o (cellAt M (argA e)) (cellAt M (argB e))))
+    reach-same : reach e o (a N) (b N) ≡ reach e o (a M) (b M)
+    unfolding reach
+    reach-same = rw (limit-same e h) (least-cong (stops e o (a N) (b N)) (stops e o (a M) (b M)) (o .bound) (limit e o (a M) (b M) - o .bound) (stops-same e h))
+
+    first-same : first e o (a N) (b N) ≡ first e o (a M) (b M)
+    unfolding first
+    first-same = rw reach-same (least-cong (λ t. has (gives e o (a N) (b N) t)) (λ t. has (gives e o (a M) (b M) t)) (o .bound) (reach e o (a M) (b M) - o .bound) (λ t l. ap has (gives-same e h t l)))
+
+    decide-same : decide e o (a N) (b N) ≡ decide e o (a M) (b M)
+    unfolding decide
+    decide-same = rw (first-same, reach-same, gives-same e h (first e o (a M) (b M)) (first-ge e o (a M) (b M)))
 
 -- ---- the cells after a step
 
@@ -165,28 +168,29 @@ module _ (s y : ℕ) (new : List Event) (M : State) (i : ℕ) (other : i ≡ s �
   abbrev toldOf : State
   toldOf = tell s new (write s y new M)
 
-  abbrev gone : Bool
-  gone = among i (s ∷ reads (cellAt M s .eqn))
+  -- it is one of those that may let events go
+  abbrev lets : Bool
+  lets = among i (s ∷ reads (cellAt M s .eqn))
 
-  gone-is : readsIt i (cellAt M s .eqn) ≡ false → gone ≡ false
-  gone-is h = rw (ne-eqb i s other) (false-is (among i (reads (cellAt M s .eqn))) (not-T (among i (reads (cellAt M s .eqn))) (λ x. absurd (rw h at (among-read i (cellAt M s .eqn) x)))))
+  lets-none : readsIt i (cellAt M s .eqn) ≡ false → lets ≡ false
+  lets-none h = rw (ne-eqb i s other) (false-is (among i (reads (cellAt M s .eqn))) (not-T (among i (reads (cellAt M s .eqn))) (λ x. absurd (rw h at (among-read i (cellAt M s .eqn) x)))))
 
-  raise-at : cellAt (raise s y new M) i ≡ withHeld (cond gone (dropBelow (leastWaiting i toldOf) (cellAt toldOf i .held)) (cellAt toldOf i .held)) (cellAt toldOf i)
+  raise-at : cellAt (raise s y new M) i ≡ withHeld (cond lets (dropBelow (leastWaiting i toldOf) (cellAt toldOf i .held)) (cellAt toldOf i .held)) (cellAt toldOf i)
   unfolding raise
   raise-at = releases-at (s ∷ reads (cellAt M s .eqn)) toldOf i
 
   -- a stream that neither reads s nor is its argument
   raise-same : readsIt s (cellAt M i .eqn) ≡ false → readsIt i (cellAt M s .eqn) ≡ false → cellAt (raise s y new M) i ≡ cellAt M i
-  raise-same h k = raise-at ∙ rw (gone-is k) (tell-same s new (write s y new M) i (rw w h) ∙ w)
+  raise-same h k = raise-at ∙ rw (lets-none k) (tell-same s new (write s y new M) i (rw w h) ∙ w)
     where
       w : cellAt (write s y new M) i ≡ cellAt M i
       w = write-same s y new M i other
 
   -- any other: some of its held events may go
-  raise-held : cellAt (raise s y new M) i .held ≡ cond gone (dropBelow (leastWaiting i toldOf) (cellAt M i .held)) (cellAt M i .held)
+  raise-held : cellAt (raise s y new M) i .held ≡ cond lets (dropBelow (leastWaiting i toldOf) (cellAt M i .held)) (cellAt M i .held)
   raise-held =
       ap (λ c. c .held) raise-at
-      ∙ ap (λ h. cond gone (dropBelow (leastWaiting i toldOf) h) h) (tell-held s new (write s y new M) i ∙ ap (λ c. c .held) (write-same s y new M i other))
+      ∙ ap (λ h. cond lets (dropBelow (leastWaiting i toldOf) h) h) (tell-held s new (write s y new M) i ∙ ap (λ c. c .held) (write-same s y new M i other))
 
 -- ---- the theorem
 
@@ -207,15 +211,15 @@ module _ (s j : ℕ) (M : State) (there : s < length M) (other : j ≡ s → ⊥
 
   no-reader : readsIt s f ≡ false
   unfolding touches
-  no-reader = or-none-l (readsIt s f) (readsIt j e || (keeps f && readsOne (reads e) f)) un
+  no-reader = or-none-l (readsIt s f) _ un
 
   no-argument : readsIt j e ≡ false
   unfolding touches
-  no-argument = or-none-l (readsIt j e) (keeps f && readsOne (reads e) f) (or-none-r (readsIt s f) (readsIt j e || (keeps f && readsOne (reads e) f)) un)
+  no-argument = or-none-l (readsIt j e) _ (or-none-r (readsIt s f) _ un)
 
   no-keeper : (keeps f && readsOne (reads e) f) ≡ false
   unfolding touches
-  no-keeper = or-none-r (readsIt j e) (keeps f && readsOne (reads e) f) (or-none-r (readsIt s f) (readsIt j e || (keeps f && readsOne (reads e) f)) un)
+  no-keeper = or-none-r (readsIt j e) _ (or-none-r (readsIt s f) _ un)
 
   module _ (y : ℕ) (new : List Event) where
     own : cellAt (raise s y new M) j ≡ cellAt M j
@@ -234,7 +238,7 @@ module _ (s j : ℕ) (M : State) (there : s < length M) (other : j ≡ s → ⊥
     alike : (x : ℕ) → T (readsIt x f) → Alike (downTo f (cellAt M j .bound)) (cellAt M x) (cellAt (raise s y new M) x)
     alike x h = record {
       bound = raise-bound s y new M there (λ i b. (i ≡ s → ⊥) → b ≡ cellAt M i .bound) (λ i n m. refl) (λ m. absurd (m refl)) x (not-s x h);
-      held = λ t l. ap (λ es. found es t) (raise-held s y new M x (not-s x h)) ∙ go t l (look (gone s y new M x (not-s x h)));
+      held = λ t l. ap (λ es. found es t) (raise-held s y new M x (not-s x h)) ∙ go t l (look (lets s y new M x (not-s x h)));
     }
       where
         w : ℕ
@@ -245,7 +249,7 @@ module _ (s j : ℕ) (M : State) (there : s < length M) (other : j ≡ s → ⊥
         below true q r t l = absurd (rw q at r)
         below false q r t l = let z = waits x h in omega arith
 
-        go : (t : ℕ) → downTo f (cellAt M j .bound) ≤ t → Is (gone s y new M x (not-s x h)) → found (cond (gone s y new M x (not-s x h)) (dropBelow w (cellAt M x .held)) (cellAt M x .held)) t ≡ found (cellAt M x .held) t
+        go : (t : ℕ) → downTo f (cellAt M j .bound) ≤ t → Is (lets s y new M x (not-s x h)) → found (cond (lets s y new M x (not-s x h)) (dropBelow w (cellAt M x .held)) (cellAt M x .held)) t ≡ found (cellAt M x .held) t
         go t l (no! q z) = rw q
         go t l (yes! q z) = rw q (found-drop w (cellAt M x .held) t (below (keeps f) no-keeper (one-read x (reads e) f (rest (eqb x s) (among x (reads e)) (ne-eqb x s (not-s x h)) z) h) t l))
           where
