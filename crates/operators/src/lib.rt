@@ -3,7 +3,7 @@ ghost use mathlib.Core.Path.{_≡_};
 ghost use mathlib.Core.Bool.{_&&_};
 ghost use lib.Dec.{eqb, ltb};
 ghost use Rattle.operators.specs.Limits.{stateLength, longLength, streamLimit, mostStreams, widthLimit, windowLimit, textLimit, capacity, countFits};
-ghost use Rattle.operators.specs.Operators.{groupOf, usesK, lacksAt, isPresent, isIn, isWindow, takesFirst, takesSecond, delaysFirst};
+ghost use Rattle.operators.specs.Operators.{groupOf, usesK, lacksAt, isPresent, isIn, isWindow, isKeeper, takesFirst, takesSecond, delaysFirst};
 ghost use Rattle.operators.specs.Rules.{valueOk, fieldsOk};
 ghost use Rattle.operators.specs.Windows.{widthOk};
 
@@ -57,6 +57,16 @@ pub fn is_window(number: u64) -> bool
 {
     match number {
         28..=30 => true,
+        _ => false,
+    }
+}
+
+// last, delay, and the signal forms
+pub fn is_keeper(number: u64) -> bool
+    ensures { λ r. ⌜ r ≡ isKeeper (groupOf number) ⌝ }
+{
+    match number {
+        18..=27 => true,
         _ => false,
     }
 }
