@@ -24,6 +24,13 @@ use Rattle.roundtrip.proofs.In.{streams, raws, few, area-for}
 use Rattle.refine.proofs.Whole.{row-of}
 use Rattle.calls.specs.Search.{Neither, Untouched}
 
+-- the stored numbers in place of those that the code has of them
+pub neither-of : {z x y u v : ℕ} → x ≡ u → y ≡ v → Neither z x y → Neither z u v
+neither-of p q h = (λ e. h .0 (e ∙ sym p), λ e. h .1 (e ∙ sym q))
+
+pub of-neither : {z x a b : ℕ} → z ≡ x → Neither z a b → Neither x a b
+of-neither p h = (λ e. h .0 (p ∙ e), λ e. h .1 (p ∙ e))
+
 keeper-is : (e : Eqn) → isKeeper (eqnGroup e) ≡ keeps e
 keeper-is input = refl
 keeper-is nil = refl

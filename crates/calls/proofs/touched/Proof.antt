@@ -4,6 +4,7 @@ use mathlib.Core.Logic.{inl, inr}
 use mathlib.Core.Bool.{true≢false}
 use Rattle.operators.specs.Operators.{groupOf, isKeeper}
 use borrow.Author.Tests.{not-true}
+use Rattle.calls.proofs.Searches.{neither-of, of-neither}
 use borrow.Author.Needs.{needs}
 use Rattle.calls.proofs.touched.Statement.{statement}
 use Rattle.calls.proofs.touched.Tie as tie
@@ -39,7 +40,7 @@ one-of-requires-4 : tie.Need-one-of-requires-4
 one-of-requires-4 c κs = search needs
 
 returns-3 : tie.Need-returns-3
-returns-3 c = let x = c .before .before .before .before .before .before .before .before .before .byte-at .ensures .0 in let y = c .before .before .before .before .before .before .before .before .byte-at2 .ensures .0 in λ e. record { reader = rw (x, y) at (c .before .before .before .before .before .before .before .one-of .ensures (c .before .before .before .before .before .before .if1 .left)); argument = c .before .before .before .before .before .one-of2 .ensures (c .before .before .before .before .if2 .left); keeper = inr (rw x at (c .before .before .before .one-of3 .ensures (not-true (c .before .before .before .one-of3 .result) (c .before .before .if3 .taken))), rw y at (c .before .one-of4 .ensures (not-true (c .before .one-of4 .result) (c .if4 .taken)))) }
+returns-3 c = let x = c .before .before .before .before .before .before .before .before .before .byte-at .ensures .0 in let y = c .before .before .before .before .before .before .before .before .byte-at2 .ensures .0 in λ e. record { reader = neither-of x y (c .before .before .before .before .before .before .before .one-of .ensures (c .before .before .before .before .before .before .if1 .left)); argument = c .before .before .before .before .before .one-of2 .ensures (c .before .before .before .before .if2 .left); keeper = inr (of-neither x (c .before .before .before .one-of3 .ensures (not-true (c .before .before .before .one-of3 .result) (c .before .before .if3 .taken))), of-neither y (c .before .one-of4 .ensures (not-true (c .before .one-of4 .result) (c .if4 .taken)))) }
 
 byte-at-requires-3 : tie.Need-byte-at-requires-3
 byte-at-requires-3 c κs = search needs
@@ -48,7 +49,7 @@ is-keeper-requires : tie.Need-is-keeper-requires
 is-keeper-requires c κs = search needs
 
 returns-4 : tie.Need-returns-4
-returns-4 c = let x = c .before .before .before .before .before .before .before .before .before .byte-at .ensures .0 in let y = c .before .before .before .before .before .before .before .before .byte-at2 .ensures .0 in λ e. record { reader = rw (x, y) at (c .before .before .before .before .before .before .before .one-of .ensures (c .before .before .before .before .before .before .if1 .left)); argument = c .before .before .before .before .before .one-of2 .ensures (c .before .before .before .before .if2 .left); keeper = inl (ap (λ m. isKeeper (groupOf m)) (sym (c .before .byte-at3 .ensures .0)) ∙ sym (c .is-keeper .ensures) ∙ e) }
+returns-4 c = let x = c .before .before .before .before .before .before .before .before .before .byte-at .ensures .0 in let y = c .before .before .before .before .before .before .before .before .byte-at2 .ensures .0 in λ e. record { reader = neither-of x y (c .before .before .before .before .before .before .before .one-of .ensures (c .before .before .before .before .before .before .if1 .left)); argument = c .before .before .before .before .before .one-of2 .ensures (c .before .before .before .before .if2 .left); keeper = inl (ap (λ m. isKeeper (groupOf m)) (sym (c .before .byte-at3 .ensures .0)) ∙ sym (c .is-keeper .ensures) ∙ e) }
 
 pub touched-spec : {M : Type 1} → statement M
 touched-spec =
