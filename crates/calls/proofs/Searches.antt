@@ -69,9 +69,9 @@ module _ (s : List ℕ) (bs : Bytes s) (n : ℕ) (h : IsState s n) where
   unfolding rawsOf
   row-is i l = ap (λ (st : Raws). rowAt st i) (raws s bs n h) ∙ row-of (stateIn s) i (rw (sym (streams s bs n h)) l)
 
-  -- the number of a stream is one byte
-  pub byte-number : (i : ℕ) → i < n → i < 256
-  byte-number i l = let f = few s bs n h in let c = capacity-few (length s) in omega arith
+  -- the number is one byte
+  pub byte-number : (t : ℕ) → (0 < t → t < n) → t < 256
+  byte-number t l = let k = at-most t n l in let f = few s bs n h in let c = capacity-few (length s) in omega arith
 
   -- the bytes of a record, and where there is no stream, of what would be the first
   pub row-fits : (t : ℕ) → (0 < t → t < n) → t * 256 + 256 ≤ length s

@@ -105,12 +105,13 @@ fn touched(r: &[u8], j: u8, s: u8, a: u8, b: u8) -> bool
     if one_of(j, a, b) {
         return true;
     }
-    if !one_of(x, a, b) {
-        if !one_of(y, a, b) {
-            return false;
-        }
+    if !operators::is_keeper(layout::byte_at(r, layout::OP)) {
+        return false;
     }
-    operators::is_keeper(layout::byte_at(r, layout::OP))
+    if one_of(x, a, b) {
+        return true;
+    }
+    one_of(y, a, b)
 }
 
 // Moves the lowest-numbered equation below s that can move, where the last move was one of s; its number, or s if there is none.
@@ -121,11 +122,13 @@ fn move_touched(state: &mut [u8], n: usize, s: usize) -> usize
     let row = layout::row_at(state, s);
     let a = layout::byte_at(row, layout::A) as u8;
     let b = layout::byte_at(row, layout::B) as u8;
-    let mut j = 0;
-    while j < s {
-        if touched(layout::row_at(state, j), j as u8, s as u8, a, b) {
-            if moves::move_one(state, n, j) {
-                return j;
+    let last = s as u8;
+    let mut j: u8 = 0;
+    while j < last {
+        let i = j as usize;
+        if touched(layout::row_at(state, i), j, last, a, b) {
+            if moves::move_one(state, n, i) {
+                return i;
             }
         }
         j += 1;

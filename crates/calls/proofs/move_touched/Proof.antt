@@ -18,10 +18,10 @@ use Rattle.calls.proofs.move_touched.Statement.{statement}
 use Rattle.calls.proofs.move_touched.Tie as tie
 
 abbrev Inv-loop : tie.InvT-loop
-Inv-loop state₀ n s a b j₀ state j = (j ≤ s) × (state ≡ state₀) × NoneBelow j state₀
+Inv-loop state₀ n s a b last j₀ state j = (j ≤ s) × (state ≡ state₀) × NoneBelow j state₀
 
 abbrev μ-loop : tie.MeasureT-loop
-μ-loop state₀ n s a b j₀ state j = s - j
+μ-loop state₀ n s a b last j₀ state j = s - j
 
 row-at-requires : tie.Need-row-at-requires Inv-loop μ-loop
 row-at-requires c κs = let a = c .before .before .args in let s = now (a .state) in let n = a .n in let h = c .before .before .pre .0 in Searches.row-fits s (λ j. omega (arith, c .before .slice-known .given j)) n h (a .s) (c .before .before .pre .1)
@@ -38,17 +38,17 @@ byte-at-requires-2 c κs = search needs
 cast-b : tie.Need-cast-b Inv-loop μ-loop
 cast-b c = omega arith
 
+cast-last : tie.Need-cast-last Inv-loop μ-loop
+cast-last c = let a = c .before .before .before .before .before .args in let s = now (a .state) in let n = a .n in let h = c .before .before .before .before .before .pre .0 in omega (arith, Searches.byte-number s (λ j. omega (arith, c .before .before .before .before .slice-known .given j)) n h (a .s) (c .before .before .before .before .before .pre .1))
+
 loop-holds : tie.Need-loop-holds Inv-loop μ-loop
 loop-holds c = (omega arith, refl, λ j h. absurd (omega arith))
 
+cast-i : tie.Need-cast-i Inv-loop μ-loop
+cast-i c = omega arith
+
 row-at-requires-2 : tie.Need-row-at-requires-2 Inv-loop μ-loop
 row-at-requires-2 c κs = let a = c .before .before .before .before .before .before .before .before .args in let s = now (a .state) in let n = a .n in let h = c .before .before .before .before .before .before .before .before .pre .0 in let l = c .before .before .loop in let k = c .before .before .before .before .before .before .before .before .pre .1 (omega arith) in let f = In.room-for s (λ j. omega (arith, c .before .before .before .before .before .before .before .slice-known .given j)) n h in rw (ap length (l .inv .1)) (omega arith)
-
-cast-touched : tie.Need-cast-touched Inv-loop μ-loop
-cast-touched c = let a = c .before .before .before .before .before .before .before .before .before .args in let s = now (a .state) in let n = a .n in let h = c .before .before .before .before .before .before .before .before .before .pre .0 in let l = c .before .before .before .loop in let k = c .before .before .before .before .before .before .before .before .before .pre .1 (omega arith) in omega (arith, Searches.byte-number s (λ j. omega (arith, c .before .before .before .before .before .before .before .before .slice-known .given j)) n h (l .j) (omega arith))
-
-cast-touched-2 : tie.Need-cast-touched-2 Inv-loop μ-loop
-cast-touched-2 c = let a = c .before .before .before .before .before .before .before .before .before .args in let s = now (a .state) in let n = a .n in let h = c .before .before .before .before .before .before .before .before .before .pre .0 in let l = c .before .before .before .loop in let k = c .before .before .before .before .before .before .before .before .before .pre .1 (omega arith) in omega (arith, Searches.byte-number s (λ j. omega (arith, c .before .before .before .before .before .before .before .before .slice-known .given j)) n h (a .s) (omega arith))
 
 touched-requires : tie.Need-touched-requires Inv-loop μ-loop
 touched-requires c κs = search needs
@@ -63,7 +63,7 @@ returns : tie.Need-returns Inv-loop μ-loop
 returns c = let a = c .before .before .before .before .before .before .before .before .before .before .before .before .before .before .before .before .args in let s = now (a .state) in let n = a .n in let h = c .before .before .before .before .before .before .before .before .before .before .before .before .before .before .before .before .pre .0 in let l = c .before .before .before .before .before .before .before .before .before .before .loop in let k = c .before .before .before .before .before .before .before .before .before .before .before .before .before .before .before .before .pre .1 (omega arith) in inl (omega arith, Turns.turn-moved s (λ j. omega (arith, c .before .before .before .before .before .before .before .before .before .before .before .before .before .before .before .slice-known .given j)) n h (l .state) (c .before .before .before .move-one .last .0) (l .inv .1) (c .before .before .before .move-one .result) (l .j) (omega arith) (c .before .before .before .move-one .ensures .0) (c .before .before .before .move-one .ensures .1) (c .if2 .taken) (l .inv .2))
 
 add-j : tie.Need-add-j Inv-loop μ-loop
-add-j c = omega arith
+add-j c = let a = c .before .before .before .before .before .before .before .before .before .before .before .args in let s = now (a .state) in let n = a .n in let h = c .before .before .before .before .before .before .before .before .before .before .before .pre .0 in omega (arith, Searches.byte-number s (λ j. omega (arith, c .before .before .before .before .before .before .before .before .before .before .slice-known .given j)) n h (a .s) (c .before .before .before .before .before .before .before .before .before .before .before .pre .1))
 
 loop-less : tie.Need-loop-less Inv-loop μ-loop
 loop-less c = omega arith
@@ -88,10 +88,10 @@ move-touched-spec =
     cast-a
     byte-at-requires-2
     cast-b
+    cast-last
     loop-holds
+    cast-i
     row-at-requires-2
-    cast-touched
-    cast-touched-2
     touched-requires
     move-one-requires
     same-length
