@@ -16,6 +16,7 @@ use Rattle.meaning.specs.Plan.{isInput}
 use Rattle.meaning.specs.Events.{Event, ev, Streams, found, events}
 use Rattle.meaning.specs.CycleTest.{acyclic}
 use Rattle.operators.specs.Limits.{capacity}
+use Rattle.operators.proofs.Sizes.{capacity-few}
 use Rattle.operators.specs.Operators.{groupOf, usesK, eqnOf}
 use Rattle.operators.specs.Rules.{fieldsOk}
 use Rattle.lines.specs.Form.{skip, field, ended, whole, scan, valueLine, signed, outLine}
@@ -174,7 +175,7 @@ module _ (s : List ℕ) (size : 0 < capacity (length s)) where
   -- "runs to rest, collects all outputs"
   settled : {b : List ℕ} {y : ℕ} {got : List Event} {w v t : List ℕ} → Begun b y got w → Fine b → Prints cap start b v Rest t → Begun t y got (w ++ v) × Still cap t
   settled {b} {y} {got} x f p =
-      let m = prints-made (omega arith) p f tt in
+      let m = prints-made (let h = capacity-few (length s) in omega arith) p f tt in
       let f0 = loadReply visits s .buffer in
       let made = m .0 in
       let same = seen-append f0 (x .calls) (made .calls) in (
