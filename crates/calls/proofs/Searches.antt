@@ -12,7 +12,8 @@ use Rattle.machine.specs.State.{Cell, cellAt}
 use Rattle.machine.specs.Step.{canMove}
 use Rattle.machine.specs.Touched.{keeps, touches, Still}
 use Rattle.machine.proofs.Touched.{Apart, untouched-by}
-use Rattle.operators.specs.Operators.{groupOf, eqnGroup, isKeeper}
+use Rattle.operators.specs.Operators.{groupOf, eqnGroup}
+use Rattle.operators.specs.Keepers.{isKeeper}
 use Rattle.operators.proofs.Laws.{group-of}
 use Rattle.operators.proofs.Sizes.{capacity-few}
 use Rattle.le.specs.Bytes.{Bytes, part}

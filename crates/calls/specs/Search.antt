@@ -7,7 +7,8 @@ use mathlib.Core.List.{List}
 use lib.ListN.{length}
 use Rattle.machine.specs.Step.{canMove, move}
 use Rattle.machine.specs.Calls.{lowest}
-use Rattle.operators.specs.Operators.{groupOf, isKeeper}
+use Rattle.operators.specs.Operators.{groupOf}
+use Rattle.operators.specs.Keepers.{isKeeper}
 use Rattle.layout.specs.Record.{Raw, num, opF, aF, bF}
 use Rattle.encoding.specs.View.{bytesOf}
 use Rattle.roundtrip.specs.In.{stateIn}

@@ -11,7 +11,8 @@ use lib.IntN.{ℤ, pos}
 use Rattle.meaning.specs.Plan.{Unary, time, neg, set, plus, Calc, add, sub, mul, div, rem, lt, le, eq, Binary, calc, keep, merge, Eqn, input, nil, unit, one, two, last, delay, signal, window, Fold, wsum, wmin, wmax, isInput}
 use Rattle.meaning.specs.Arguments.{arguments, argA, argB}
 use Rattle.meaning.specs.Missing.{canLack}
-use Rattle.operators.specs.Operators.{Operator, noOperator, operators, operatorCount, calcs, calcPlace, folds, foldPlace, unaryNumber, binaryNumber, groupOf, eqnOf, numberOf, valueOf, lacksAt, isPresent, isIn, isLast, isDelay, isSignal, isWindow, isKeeper, takesFirst, takesSecond, isOperator, usesA, usesB, usesK, argumentsOf, eqnGroup}
+use Rattle.operators.specs.Operators.{Operator, noOperator, operators, operatorCount, calcs, calcPlace, folds, foldPlace, unaryNumber, binaryNumber, groupOf, eqnOf, numberOf, valueOf, lacksAt, isPresent, isIn, isLast, isDelay, isSignal, isWindow, takesFirst, takesSecond, isOperator, usesA, usesB, usesK, argumentsOf, eqnGroup}
+use Rattle.operators.specs.Keepers.{isKeeper}
 use Rattle.operators.specs.declared.Group.{Group}
 use Rattle.operators.specs.declared.Group.the-variants.{Absent, One, Two, Signal, Window}
 use Rattle.operators.proofs.Tests.{left, right}

@@ -192,18 +192,6 @@ isWindow Delay = false
 isWindow Signal = false
 isWindow Window = true
 
--- last, delay and the signal forms look at events below their bound, and keep what they need of those let go
-abbrev pub isKeeper : Group → Bool
-isKeeper Absent = false
-isKeeper Input = false
-isKeeper Plain = false
-isKeeper One = false
-isKeeper Two = false
-isKeeper Last = true
-isKeeper Delay = true
-isKeeper Signal = true
-isKeeper Window = false
-
 abbrev pub takesFirst : Group → Bool
 takesFirst Absent = false
 takesFirst Input = false

@@ -3,7 +3,8 @@ ghost use mathlib.Core.Path.{_≡_};
 ghost use mathlib.Core.Bool.{_&&_};
 ghost use lib.Dec.{eqb, ltb};
 ghost use Rattle.operators.specs.Limits.{stateLength, longLength, streamLimit, mostStreams, widthLimit, windowLimit, textLimit, capacity, countFits};
-ghost use Rattle.operators.specs.Operators.{groupOf, usesK, lacksAt, isPresent, isIn, isWindow, isKeeper, takesFirst, takesSecond, delaysFirst};
+ghost use Rattle.operators.specs.Operators.{groupOf, usesK, lacksAt, isPresent, isIn, isWindow, takesFirst, takesSecond, delaysFirst};
+ghost use Rattle.operators.specs.Keepers.{isKeeper};
 ghost use Rattle.operators.specs.Rules.{valueOk, fieldsOk};
 ghost use Rattle.operators.specs.Windows.{widthOk};
 

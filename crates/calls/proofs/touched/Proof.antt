@@ -3,7 +3,8 @@ use mathlib.Core.Path.{sym, ap, _∙_}
 use mathlib.Core.Logic.{inl, inr}
 use mathlib.Core.Bool.{true≢false}
 use borrow.Author.Tests.{not-true}
-use Rattle.operators.specs.Operators.{groupOf, isKeeper}
+use Rattle.operators.specs.Operators.{groupOf}
+use Rattle.operators.specs.Keepers.{isKeeper}
 use Rattle.calls.proofs.Searches.{neither-of, of-neither}
 use borrow.Author.Needs.{needs}
 use Rattle.calls.proofs.touched.Statement.{statement}
