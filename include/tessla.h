@@ -46,12 +46,12 @@
  * for as long as you like; a state is to be copied between calls only.
  *
  * The budget of a run. On a Cortex-M0+ at 48 MHz every call on a state, but for load and plain register writes, first looks at
- * the whole of it, 1.0 to 1.3 ms by the manual's cycles; a move in a run then takes 0.1 to 0.2 ms. In the plans that were measured
- * a run of n moves takes at most 1.3 ms and a millisecond for each four moves, if the outputs are collected; where 31 outputs
- * are full a move takes 1.1 ms. By that the 64 moves of a command 3 take 18 ms. Leave the watchdog twice that. Few calls with
- * much work in each cost least (docs/PERFORMANCE.md, "On the controller"). The plan's text takes 1.1 to 2.0 ms, and 11 ms if every
- * value in it has nineteen digits; the counts of a stream hardly more than the look at the state. All this is of states of
- * TESSLA_STATE_LENGTH bytes.
+ * the whole of it: 1.0 to 1.3 ms by the manual's cycles, 1.6 to 2.3 ms of a longer state. A move in a run then takes 0.1 to 0.2
+ * ms. In the plans that were measured a run of n moves takes at most this look and a millisecond for each four moves, with up to
+ * 64 streams. By that the 64 moves of a command 3 take 18 ms, in a longer state 19. Leave the watchdog twice that. Few calls with
+ * much work in each cost least (docs/PERFORMANCE.md, "On the controller"). The plan's text takes 1.1 to 2.0 ms, of 64 streams up
+ * to 3.8, and 11 ms, of 64 streams 22, if every value in it has nineteen digits; the counts of a stream hardly more than the look
+ * at the state; widening 3 ms.
  *
  * Windows. The operators wsum, wmin and wmax give at each event of their argument the sum, the least or the greatest of its
  * latest k values, that event's included, or of all so far while they are fewer; k is 1 to 64, and a plan has at most eight
