@@ -1494,47 +1494,8 @@ static void other_length(void) {
     run(9);
 }
 
-/* in the longer state: all that asks how long it is, how many streams it has room for, or where its windows lie */
-static void long_states(void) {
-    memset(room, 0, sizeof room);
-    lend(LONG);
-    head("never loaded");
-    without_a_plan();
-    no_plan();
-    head("visits");
-    memset(room, 0, sizeof room);
-    visits();
-    uint32_t n = write_plan(text, rows, 6);
-    load(n);
-    reading(0, 3, 7);
-    run(100);
-    wrong_lengths(n);
-    collect(5);
-    streams();
-    for (uint32_t o = 0; o < 8; o++) {
-        head("alignment");
-        memset(room, 0xEE, sizeof room);
-        state = room + o;
-        text = words + (7 - o);
-        visits();
-        load_rows(6);
-        reading(0, 3, 7);
-        run(100);
-        collect(5);
-    }
-    state = room;
-    text = words;
-    windows();
-    zeros();
-    texts();
-    longest_text();
-    moves_by_block();
-    every_record();
-    random_calls(RANDOM_PLANS / 2, RANDOM_CALLS);
-    lend(SHORT);
-}
-
-int main(void) {
+/* the buffer before its first load, and document 01's example, with what is refused by its length */
+static void first_steps(void) {
     head("never loaded");
     without_a_plan();
     no_plan();
@@ -1553,7 +1514,11 @@ int main(void) {
     collect(5);
     move(1);
     streams();
-    for (uint32_t o = 0; o < 8; o++) { /* every alignment of the buffer and of the text */
+}
+
+/* every alignment of the buffer and of the text */
+static void alignments(void) {
+    for (uint32_t o = 0; o < 8; o++) {
         head("alignment");
         memset(room, 0xEE, sizeof room);
         state = room + o;
@@ -1564,6 +1529,27 @@ int main(void) {
     }
     state = room;
     text = words;
+}
+
+/* in the longer state: all that asks how long it is, how many streams it has room for, or where its windows lie */
+static void long_states(void) {
+    memset(room, 0, sizeof room);
+    lend(LONG);
+    first_steps();
+    alignments();
+    windows();
+    zeros();
+    texts();
+    longest_text();
+    moves_by_block();
+    every_record();
+    random_calls(RANDOM_PLANS / 2, RANDOM_CALLS);
+    lend(SHORT);
+}
+
+int main(void) {
+    first_steps();
+    alignments();
     values();
     divisions();
     signals();

@@ -28,7 +28,7 @@ pub record Longer (s w : List ℕ) : Type 0 where
   pub short : s ≡ bytesOf stateLength state
   pub long : w ≡ bytesOf longLength state
 
--- the number and the results of every call are the same on both
+-- the number and the results of every call but a further copy, which takes the shorter alone, are the same on both
 pub record Alike (s w : List ℕ) : Type 0 where
   pub calls : (c : Call) → seenIn c (reply c s) ≡ seenIn c (reply c w)
   pub text : (lent : List ℕ) → planText s lent ≡ planText w lent

@@ -89,7 +89,8 @@ fn tell(state: &[u8]) {
 // Of a saved state.
 fn tell_saved() {
     let mut room = [0u8; saved::ROOM];
-    let end = saved::read(STDIN_FILENO, &mut room);
+    let n = io::read_full(STDIN_FILENO, &mut room);
+    let end = saved::length_of(&room, n);
     let first = ask(&room[..end], 0);
     if first.number == 15 {
         saved::refuse(first.number);

@@ -40,3 +40,7 @@ module _ (n : ℕ) (s : List ℕ) where
 
       within : lengthOf n s ≤ length s
       within = go (isShort n s) refl
+
+  -- an answer with both promises
+  pub answered : (r : ℕ) → r ≡ lengthOf n s → n ≤ length s → longLength ≤ length s → (r ≡ lengthOf n s) × Counts r s
+  answered r e h l = (e, rw e (inside h l))

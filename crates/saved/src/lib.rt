@@ -1,6 +1,7 @@
-// A saved state, read from a file: all its bytes, or only the first of them, as the firmware need not save the zeros at its end.
+// A saved state that was read from a file: all its bytes, or only the first of them, as the firmware need not save the zeros at
+// its end.
 ghost use mathlib.Core.Path.{_≡_};
-ghost use Prim.Native.Nat.{ℕ, _≤_};
+ghost use Prim.Native.Nat.{_≤_};
 ghost use lib.ListN.{length};
 ghost use Rattle.io.specs.Counts.{Counts};
 ghost use Rattle.operators.specs.Limits.{longLength};
@@ -26,10 +27,11 @@ fn is_short(room: &[u8], n: usize) -> bool
     }
 }
 
-// As how many bytes of the room a file of n bytes is to be taken.
-fn length_of(room: &[u8], n: usize) -> usize
-    requires { ⌜ longLength ≤ length (now room) ⌝ }
-    ensures { λ r. ⌜ r ≡ lengthOf n (now (room .entry)) ⌝ }
+// As how many bytes of the room a file of n bytes, which were read into it, is to be taken for a state.
+pub fn length_of(room: &[u8], n: usize) -> usize
+    requires { ⌜ (longLength ≤ length (now room)) × (n ≤ length (now room)) ⌝ }
+    ensures taken { λ r. ⌜ r ≡ lengthOf n (now (room .entry)) ⌝ }
+    ensures inside { λ r. ⌜ Counts r (now (room .entry)) ⌝ }
 {
     if is_short(room, n) {
         return Plan::STATE;
@@ -38,16 +40,6 @@ fn length_of(room: &[u8], n: usize) -> usize
         return Plan::LONG;
     }
     n
-}
-
-// Reads a state into a room of zeros, and answers how many bytes of the room are to be taken for it.
-pub fn read(fd: i32, room: &mut [u8]) -> usize
-    requires { ⌜ longLength ≤ length (now room) ⌝ }
-    ensures inside { λ r. ⌜ Counts r (now (room .exit)) ⌝ }
-    ensures taken { λ r. ⌜ ((n : ℕ) × (r ≡ lengthOf n (now (room .exit)))) ⌝ }
-{
-    let n = io::read_full(fd, room);
-    length_of(room, n)
 }
 
 // Says on the standard error which number refused it.

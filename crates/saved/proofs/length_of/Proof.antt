@@ -1,6 +1,7 @@
 -- `saved::length_of` meets its contract.
 use mathlib.Core.Path.{sym, _∙_}
 use denote.Ref.{now}
+use Rattle.operators.specs.Limits.{stateLength, longLength}
 use Rattle.saved.proofs.Cases as law
 use borrow.Author.Needs.{needs}
 use native.Mathlib.Omega.{arith}
@@ -14,13 +15,13 @@ is-short-requires : tie.Need-is-short-requires
 is-short-requires c κs = search needs
 
 returns : tie.Need-returns
-returns c = sym (law.as-short (c .before .before .before .args .n) (now (c .before .before .before .args .room)) (sym (c .before .is-short .ensures) ∙ c .if1 .taken))
+returns c = let n = c .before .before .before .args .n in let s = now (c .before .before .before .args .room) in law.answered n s stateLength (sym (law.as-short n s (sym (c .before .is-short .ensures) ∙ c .if1 .taken))) (omega arith) (omega arith)
 
 returns-2 : tie.Need-returns-2
-returns-2 c = let e = law.as-long (c .before .before .before .before .args .n) (now (c .before .before .before .before .args .room)) (sym (c .before .before .is-short .ensures) ∙ c .before .if1 .left) in omega arith
+returns-2 c = let n = c .before .before .before .before .args .n in let s = now (c .before .before .before .before .args .room) in let e = law.as-long n s (sym (c .before .before .is-short .ensures) ∙ c .before .if1 .left) in law.answered n s longLength (omega arith) (omega arith) (omega arith)
 
 returns-3 : tie.Need-returns-3
-returns-3 c = let e = law.as-long (c .before .before .before .before .args .n) (now (c .before .before .before .before .args .room)) (sym (c .before .before .is-short .ensures) ∙ c .before .if1 .left) in omega arith
+returns-3 c = let n = c .before .before .before .before .args .n in let s = now (c .before .before .before .before .args .room) in let e = law.as-long n s (sym (c .before .before .is-short .ensures) ∙ c .before .if1 .left) in law.answered n s n (omega arith) (omega arith) (omega arith)
 
 pub length-of-spec : {M : Type 1} → statement M
 length-of-spec = tie.close (tie.spec is-short-requires returns returns-2 returns-3)
