@@ -1,6 +1,7 @@
 /*
  * The benchmark's program, linked once with each engine: for each plan and operation it makes the same calls on many copies
- * of the same state. Natively it prints the time of a call, under callgrind it dumps the instructions of each operation.
+ * of the same state, of the shorter length where the plan fits it. Natively it prints the time of a call, under callgrind it
+ * dumps the instructions of each operation.
  */
 #define _POSIX_C_SOURCE 199309L
 #include <stdio.h>
@@ -14,8 +15,9 @@
 
 enum { COPIES = 256, MOVES = 4096 };
 
-static uint8_t (*copies)[TESSLA_STATE_LENGTH];
-static uint8_t start[TESSLA_STATE_LENGTH];
+static uint8_t (*copies)[TESSLA_LONG_STATE_LENGTH];
+static uint8_t start[TESSLA_LONG_STATE_LENGTH], wide[TESSLA_LONG_STATE_LENGTH];
+static uint64_t length; /* of the states at present */
 static uint8_t block[TESSLA_BLOCK_LENGTH];
 static uint8_t page[TESSLA_TEXT_LIMIT];
 static unsigned used; /* of the copies: all, or few under callgrind */
@@ -31,7 +33,7 @@ struct plan {
     const char *name;
     char text[TESSLA_TEXT_LIMIT + 1];
     unsigned streams, inputs, outputs;
-    uint32_t input[TESSLA_STREAM_LIMIT], output[TESSLA_STREAM_LIMIT];
+    uint32_t input[TESSLA_LONG_STREAM_LIMIT], output[TESSLA_LONG_STREAM_LIMIT];
 };
 
 static void make(struct plan *p, const char *name, const char *form) {
@@ -59,28 +61,29 @@ static void make(struct plan *p, const char *name, const char *form) {
         p->streams++;
     }
     snprintf(p->text, sizeof p->text, "plan=1\nstreams=%u\n%s", p->streams, body);
+    length = p->streams > TESSLA_STREAM_LIMIT ? TESSLA_LONG_STATE_LENGTH : TESSLA_STATE_LENGTH;
 }
 
 static void chain(struct plan *p, unsigned n) {
-    static char names[TESSLA_STREAM_LIMIT][16];
+    static char names[TESSLA_LONG_STREAM_LIMIT][16];
     char form[TESSLA_TEXT_LIMIT] = "in";
     for (unsigned i = 0; i < n; i++) sprintf(form + strlen(form), "; neg %u%s", i, i + 1 == n ? " out" : "");
     sprintf(names[n], "CHAIN(%u)", n);
     make(p, names[n], form);
 }
 
-/* in, 16 neg of it, 15 add that join them */
-static void tree(struct plan *p) {
+/* in, n neg of it, n - 1 add that join them */
+static void tree(struct plan *p, const char *name, unsigned n) {
     char form[TESSLA_TEXT_LIMIT] = "in";
-    for (unsigned i = 0; i < 16; i++) strcat(form, "; neg 0");
-    for (unsigned i = 0; i < 15; i++) sprintf(form + strlen(form), "; add %u %u%s", 2 * i + 1, 2 * i + 2, i == 14 ? " out" : "");
-    make(p, "TREE(31)", form);
+    for (unsigned i = 0; i < n; i++) strcat(form, "; neg 0");
+    for (unsigned i = 0; i + 1 < n; i++) sprintf(form + strlen(form), "; add %u %u%s", 2 * i + 1, 2 * i + 2, i + 2 == n ? " out" : "");
+    make(p, name, form);
 }
 
-static void readers(struct plan *p) {
+static void readers(struct plan *p, const char *name, unsigned n) {
     char form[TESSLA_TEXT_LIMIT] = "in";
-    for (unsigned i = 0; i < 31; i++) sprintf(form + strlen(form), "; plus 0 k%u%s", i, i == 30 ? " out" : "");
-    make(p, "READERS(31)", form);
+    for (unsigned i = 0; i < n; i++) sprintf(form + strlen(form), "; plus 0 k%u%s", i, i + 1 == n ? " out" : "");
+    make(p, name, form);
 }
 
 /* ---- measuring */
@@ -105,13 +108,13 @@ static void end(const char *plan, const char *operation, unsigned long calls, un
 }
 
 static void spread(void) {
-    for (unsigned i = 0; i < used; i++) memcpy(copies[i], start, sizeof start);
+    for (unsigned i = 0; i < used; i++) memcpy(copies[i], start, length);
 }
 
 static void run_to_rest(uint8_t *s) {
     uint32_t moves;
     do
-        if (tessla_run(s, TESSLA_STATE_LENGTH, 1000, &moves) != 0) fail("run");
+        if (tessla_run(s, length, 1000, &moves) != 0) fail("run");
     while (moves == 1000);
 }
 
@@ -119,13 +122,13 @@ static void collect_all(const struct plan *p, uint8_t *s) {
     uint32_t stamp;
     int64_t value;
     for (unsigned i = 0; i < p->outputs; i++)
-        while (tessla_collect(s, TESSLA_STATE_LENGTH, p->output[i], &stamp, &value) == 0) {}
+        while (tessla_collect(s, length, p->output[i], &stamp, &value) == 0) {}
 }
 
 /* a state in the middle of things: some readings worked off, all collected, `batch` more offered on each input */
 static void prepare(const struct plan *p, unsigned batch) {
     uint32_t t = 1;
-    if (tessla_load(start, sizeof start, (const uint8_t *)p->text, strlen(p->text)) != 0) fail(p->name);
+    if (tessla_load(start, length, (const uint8_t *)p->text, strlen(p->text)) != 0) fail(p->name);
     for (unsigned round = 0; round < 3 + batch; round++) {
         if (round < 3) {
             run_to_rest(start);
@@ -133,13 +136,13 @@ static void prepare(const struct plan *p, unsigned batch) {
         }
         if (round == 3) {
             for (unsigned i = 0; i < p->inputs; i++)
-                if (tessla_offer_progress(start, sizeof start, p->input[i], t) != 0) fail("progress");
+                if (tessla_offer_progress(start, length, p->input[i], t) != 0) fail("progress");
             run_to_rest(start);
             collect_all(p, start);
         }
         /* one after the other, and now and then together, as readings come */
         for (unsigned i = 0; i < p->inputs; i++)
-            if (tessla_offer_reading(start, sizeof start, p->input[i], t + (round % 3 ? i : 0), 1 + (int64_t)t) != 0) fail("offer");
+            if (tessla_offer_reading(start, length, p->input[i], t + (round % 3 ? i : 0), 1 + (int64_t)t) != 0) fail("offer");
         t += p->inputs + 2;
     }
 }
@@ -151,7 +154,7 @@ static unsigned long all_to_rest(const struct plan *p, int whole) {
     spread();
     begin();
     for (unsigned i = 0; i < used; i++) {
-        tessla_run(copies[i], TESSLA_STATE_LENGTH, 100000, &moves);
+        tessla_run(copies[i], length, 100000, &moves);
         total += moves;
     }
     end(p->name, whole ? "run to rest" : "run to rest, a move", whole ? used : total, p->streams);
@@ -159,17 +162,17 @@ static unsigned long all_to_rest(const struct plan *p, int whole) {
 }
 
 static void registered(uint8_t *s, uint32_t at, uint8_t byte) {
-    if (tessla_register_write(s, TESSLA_STATE_LENGTH, block, sizeof block, at, byte) != 0) fail("register write");
+    if (tessla_register_write(s, length, block, sizeof block, at, byte) != 0) fail("register write");
 }
 
 /* the plan's text back from every copy, and that it is the one that was loaded */
 static void texts(const struct plan *p) {
-    uint64_t length = 0;
+    uint64_t written = 0;
     begin();
     for (unsigned i = 0; i < used; i++)
-        if (tessla_plan_text(copies[i], TESSLA_STATE_LENGTH, page, sizeof page, &length) != 0) fail("plan text");
+        if (tessla_plan_text(copies[i], length, page, sizeof page, &written) != 0) fail("plan text");
     end(p->name, "plan text", used, p->streams);
-    if (length != strlen(p->text) || memcmp(page, p->text, length) != 0) fail("another plan text");
+    if (written != strlen(p->text) || memcmp(page, p->text, written) != 0) fail("another plan text");
 }
 
 /* the counts of the plan's last stream, of every copy */
@@ -177,8 +180,19 @@ static void counts(const struct plan *p) {
     uint32_t outside, zero;
     begin();
     for (unsigned i = 0; i < used; i++)
-        if (tessla_missing(copies[i], TESSLA_STATE_LENGTH, p->streams - 1, &outside, &zero) != 0) fail("missing");
+        if (tessla_missing(copies[i], length, p->streams - 1, &outside, &zero) != 0) fail("missing");
     end(p->name, "missing", used, p->streams);
+}
+
+/* every copy of the shorter length widened, and that it is the same plan at the same point */
+static void widened(const struct plan *p) {
+    if (length != TESSLA_STATE_LENGTH) return;
+    begin();
+    for (unsigned i = 0; i < used; i++)
+        if (tessla_widen(copies[i], length, wide, sizeof wide) != 0) fail("widen");
+    end(p->name, "widen", used, p->streams);
+    if (tessla_bounds_in(wide, sizeof wide) != tessla_bounds(copies[0])) fail("other bounds");
+    if (memcmp(wide + TESSLA_LONG_WINDOWS, copies[0] + TESSLA_WINDOWS, 8 * TESSLA_WINDOW) != 0) fail("other windows");
 }
 
 static void operations(const struct plan *p) {
@@ -186,7 +200,7 @@ static void operations(const struct plan *p) {
     int64_t value;
 
     begin();
-    for (unsigned i = 0; i < used; i++) tessla_load(copies[i], TESSLA_STATE_LENGTH, (const uint8_t *)p->text, strlen(p->text));
+    for (unsigned i = 0; i < used; i++) tessla_load(copies[i], length, (const uint8_t *)p->text, strlen(p->text));
     end(p->name, "load", used, p->streams);
 
     prepare(p, 0);
@@ -194,15 +208,16 @@ static void operations(const struct plan *p) {
     collect_all(p, start);
     spread();
     begin();
-    for (unsigned i = 0; i < used; i++) tessla_run(copies[i], TESSLA_STATE_LENGTH, 0, &moves);
+    for (unsigned i = 0; i < used; i++) tessla_run(copies[i], length, 0, &moves);
     end(p->name, "check alone", used, p->streams);
 
     begin();
-    for (unsigned i = 0; i < used; i++) tessla_run(copies[i], TESSLA_STATE_LENGTH, 64, &moves);
+    for (unsigned i = 0; i < used; i++) tessla_run(copies[i], length, 64, &moves);
     end(p->name, "run at rest", used, p->streams);
 
     texts(p);
     counts(p);
+    widened(p);
 
     begin();
     for (unsigned i = 0; i < used; i++) registered(copies[i], TESSLA_AT_COMMAND, TESSLA_COMMAND_RUN);
@@ -215,7 +230,7 @@ static void operations(const struct plan *p) {
 
     begin();
     for (unsigned i = 0; i < used; i++)
-        if (tessla_offer_reading(copies[i], TESSLA_STATE_LENGTH, p->input[0], 1000, 7) != 0) fail("offer");
+        if (tessla_offer_reading(copies[i], length, p->input[0], 1000, 7) != 0) fail("offer");
     end(p->name, "offer", used, p->streams);
 
     /* 1000 in two bytes */
@@ -233,23 +248,22 @@ static void operations(const struct plan *p) {
     prepare(p, 8);
     static uint32_t order[MOVES];
     unsigned made = 0;
-    memcpy(copies[0], start, sizeof start);
+    memcpy(copies[0], start, length);
     for (; made < MOVES; made++) {
-        uint8_t before[TESSLA_STATE_LENGTH];
-        memcpy(before, copies[0], sizeof before);
-        tessla_run(copies[0], TESSLA_STATE_LENGTH, 1, &moves);
+        static uint8_t before[TESSLA_LONG_STATE_LENGTH];
+        memcpy(before, copies[0], length);
+        tessla_run(copies[0], length, 1, &moves);
         if (moves == 0) break;
-        for (order[made] = 0; order[made] < p->streams; order[made]++) {
-            uint8_t other[TESSLA_STATE_LENGTH];
-            memcpy(other, before, sizeof other);
-            if (tessla_move(other, sizeof other, order[made]) == 0) break;
-        }
+        /* the one whose bound is another, bytes 16 to 23 of its record */
+        uint32_t s = 0;
+        while (s < p->streams && memcmp(before + s * TESSLA_RECORD + 16, copies[0] + s * TESSLA_RECORD + 16, 8) == 0) s++;
+        order[made] = s;
     }
     spread();
     begin();
     for (unsigned i = 0; i < used; i++)
         for (unsigned j = 0; j < made; j++)
-            if (tessla_move(copies[i], TESSLA_STATE_LENGTH, order[j]) != 0) fail("move");
+            if (tessla_move(copies[i], length, order[j]) != 0) fail("move");
     end(p->name, "move", (unsigned long)used * made, p->streams);
 
     if (all_to_rest(p, 0) != (unsigned long)used * made) fail("run and moves differ");
@@ -258,7 +272,7 @@ static void operations(const struct plan *p) {
     begin();
     for (unsigned i = 0; i < used; i++)
         for (unsigned o = 0; o < p->outputs; o++)
-            while (tessla_collect(copies[i], TESSLA_STATE_LENGTH, p->output[o], &stamp, &value) == 0) events++;
+            while (tessla_collect(copies[i], length, p->output[o], &stamp, &value) == 0) events++;
     end(p->name, "collect", events + (unsigned long)used * p->outputs, p->streams);
 }
 
@@ -269,40 +283,40 @@ static void held(unsigned n) {
     uint32_t moves;
     sprintf(names[n], "HELD(%u)", n);
     make(&p, names[n], "in; in; add 0 1 out");
-    if (tessla_load(start, sizeof start, (const uint8_t *)p.text, strlen(p.text)) != 0) fail(p.name);
+    if (tessla_load(start, length, (const uint8_t *)p.text, strlen(p.text)) != 0) fail(p.name);
     for (uint32_t t = 0; t < n; t++)
-        if (tessla_offer_reading(start, sizeof start, 0, 2 * t, 5) != 0) fail("offer");
+        if (tessla_offer_reading(start, length, 0, 2 * t, 5) != 0) fail("offer");
     run_to_rest(start);
     spread();
     begin();
-    for (unsigned i = 0; i < used; i++) tessla_run(copies[i], TESSLA_STATE_LENGTH, 0, &moves);
+    for (unsigned i = 0; i < used; i++) tessla_run(copies[i], length, 0, &moves);
     end(p.name, "check alone", used, n);
     begin();
     for (unsigned i = 0; i < used; i++)
-        if (tessla_offer_reading(copies[i], TESSLA_STATE_LENGTH, 1, 40, 7) != 0) fail("offer");
+        if (tessla_offer_reading(copies[i], length, 1, 40, 7) != 0) fail("offer");
     end(p.name, "offer", used, n);
-    if (tessla_offer_progress(start, sizeof start, 1, 40) != 0) fail("progress");
+    if (tessla_offer_progress(start, length, 1, 40) != 0) fail("progress");
     if (n > 0) {
         spread();
         begin();
         for (unsigned i = 0; i < used; i++)
-            if (tessla_move(copies[i], TESSLA_STATE_LENGTH, 2) != 0) fail("move");
+            if (tessla_move(copies[i], length, 2) != 0) fail("move");
         end(p.name, "move", used, n);
     }
 }
 
-/* the longest text: 31 values of 20 characters */
-static void longest(void) {
+/* the longest text of n streams: n - 1 values of 20 characters */
+static void longest(const char *name, unsigned n, size_t bytes) {
     static struct plan p;
     uint32_t moves;
     char form[TESSLA_TEXT_LIMIT] = "";
-    for (unsigned i = 0; i < 31; i++) strcat(form, "plus 31 k-9223372036854775808 out; ");
+    for (unsigned i = 0; i + 1 < n; i++) sprintf(form + strlen(form), "plus %u k-9223372036854775808 out; ", n - 1);
     strcat(form, "unit out");
-    make(&p, "LONGEST", form);
-    if (strlen(p.text) != 1470 || tessla_load(start, sizeof start, (const uint8_t *)p.text, strlen(p.text)) != 0) fail(p.name);
+    make(&p, name, form);
+    if (strlen(p.text) != bytes || tessla_load(start, length, (const uint8_t *)p.text, strlen(p.text)) != 0) fail(p.name);
     spread();
     begin();
-    for (unsigned i = 0; i < used; i++) tessla_run(copies[i], TESSLA_STATE_LENGTH, 0, &moves);
+    for (unsigned i = 0; i < used; i++) tessla_run(copies[i], length, 0, &moves);
     end(p.name, "check alone", used, p.streams);
     texts(&p);
 }
@@ -312,30 +326,31 @@ static void windowed(const char *name, const char *form) {
     static struct plan p;
     uint32_t moves;
     make(&p, name, form);
-    if (tessla_load(start, sizeof start, (const uint8_t *)p.text, strlen(p.text)) != 0) fail(p.name);
+    if (tessla_load(start, length, (const uint8_t *)p.text, strlen(p.text)) != 0) fail(p.name);
     for (uint32_t t = 1; t <= 70; t++) {
-        if (tessla_offer_reading(start, sizeof start, 0, t, (int64_t)(t * 2654435761u % 200001) - 100000) != 0) fail("offer");
+        if (tessla_offer_reading(start, length, 0, t, (int64_t)(t * 2654435761u % 200001) - 100000) != 0) fail("offer");
         run_to_rest(start);
         collect_all(&p, start);
     }
     spread();
     begin();
-    for (unsigned i = 0; i < used; i++) tessla_run(copies[i], TESSLA_STATE_LENGTH, 0, &moves);
+    for (unsigned i = 0; i < used; i++) tessla_run(copies[i], length, 0, &moves);
     end(p.name, "check alone", used, p.streams);
+    widened(&p);
 
     begin();
     for (unsigned i = 0; i < used; i++) {
-        if (tessla_offer_reading(copies[i], TESSLA_STATE_LENGTH, 0, 90, 7) != 0) fail("offer");
-        tessla_run(copies[i], TESSLA_STATE_LENGTH, 100000, &moves);
+        if (tessla_offer_reading(copies[i], length, 0, 90, 7) != 0) fail("offer");
+        tessla_run(copies[i], length, 100000, &moves);
     }
     end(p.name, "a reading to rest", used, p.streams);
     if (moves != p.outputs) fail("a move of each window");
 
-    if (tessla_offer_reading(start, sizeof start, 0, 90, 7) != 0) fail("offer");
+    if (tessla_offer_reading(start, length, 0, 90, 7) != 0) fail("offer");
     spread();
     begin();
     for (unsigned i = 0; i < used; i++)
-        if (tessla_move(copies[i], TESSLA_STATE_LENGTH, 1) != 0) fail("move");
+        if (tessla_move(copies[i], length, 1) != 0) fail("move");
     end(p.name, "move", used, p.streams);
 
     all_to_rest(&p, 0);
@@ -345,9 +360,9 @@ static void windowed(const char *name, const char *form) {
 static void missing_sums(void) {
     static struct plan p;
     make(&p, "MISSING(16)", "in; wsum 0 k64 out");
-    if (tessla_load(start, sizeof start, (const uint8_t *)p.text, strlen(p.text)) != 0) fail(p.name);
+    if (tessla_load(start, length, (const uint8_t *)p.text, strlen(p.text)) != 0) fail(p.name);
     for (uint32_t t = 1; t <= 86; t++) {
-        if (tessla_offer_reading(start, sizeof start, 0, t, t > 68 ? INT64_MAX : 7) != 0) fail("offer");
+        if (tessla_offer_reading(start, length, 0, t, t > 68 ? INT64_MAX : 7) != 0) fail("offer");
         if (t > 70) continue;
         run_to_rest(start);
         collect_all(&p, start);
@@ -363,13 +378,13 @@ static void passing(const char *name, const char *form, uint32_t apart, int64_t 
     static struct plan p;
     uint32_t found_outside, found_zero;
     make(&p, name, form);
-    if (tessla_load(start, sizeof start, (const uint8_t *)p.text, strlen(p.text)) != 0) fail(p.name);
+    if (tessla_load(start, length, (const uint8_t *)p.text, strlen(p.text)) != 0) fail(p.name);
     for (uint32_t t = 0; t < TESSLA_ROOM; t++)
-        if (tessla_offer_reading(start, sizeof start, 0, 4 * t, x) != 0 || tessla_offer_reading(start, sizeof start, 1, 4 * t + apart, y) != 0) fail("offer");
+        if (tessla_offer_reading(start, length, 0, 4 * t, x) != 0 || tessla_offer_reading(start, length, 1, 4 * t + apart, y) != 0) fail("offer");
     for (uint32_t input = 0; input < 2; input++)
-        if (tessla_offer_progress(start, sizeof start, input, 4 * TESSLA_ROOM) != 0) fail("progress");
+        if (tessla_offer_progress(start, length, input, 4 * TESSLA_ROOM) != 0) fail("progress");
     if (all_to_rest(&p, 1) != used) fail("one move past all of them");
-    if (tessla_missing(copies[0], TESSLA_STATE_LENGTH, 2, &found_outside, &found_zero) != 0) fail("missing");
+    if (tessla_missing(copies[0], length, 2, &found_outside, &found_zero) != 0) fail("missing");
     if (found_outside != outside || found_zero != zero) fail("other counts");
 }
 
@@ -385,7 +400,7 @@ static int alone; /* only these runs, and what bytes they leave */
 
 static uint32_t fingerprint(const uint8_t *s) {
     uint32_t h = 2166136261u;
-    for (unsigned i = 0; i < TESSLA_STATE_LENGTH; i++) h = (h ^ s[i]) * 16777619u;
+    for (unsigned i = 0; i < length; i++) h = (h ^ s[i]) * 16777619u;
     return h;
 }
 
@@ -395,11 +410,11 @@ static void space(const char *name, const char *form, uint32_t before, unsigned 
     static struct plan p;
     uint32_t made;
     make(&p, name, form);
-    if (tessla_load(start, sizeof start, (const uint8_t *)p.text, strlen(p.text)) != 0) fail(p.name);
+    if (tessla_load(start, length, (const uint8_t *)p.text, strlen(p.text)) != 0) fail(p.name);
     for (uint32_t t = 0; t < TESSLA_ROOM; t++)
-        if (tessla_offer_reading(start, sizeof start, 0, 3 * t, 5) != 0) fail("offer");
-    if (p.inputs > 1 && tessla_offer_progress(start, sizeof start, 1, 3 * TESSLA_ROOM) != 0) fail("progress");
-    if (tessla_run(start, sizeof start, before, &made) != 0 || made != before) fail(p.name);
+        if (tessla_offer_reading(start, length, 0, 3 * t, 5) != 0) fail("offer");
+    if (p.inputs > 1 && tessla_offer_progress(start, length, 1, 3 * TESSLA_ROOM) != 0) fail("progress");
+    if (tessla_run(start, length, before, &made) != 0 || made != before) fail(p.name);
     if (all_to_rest(&p, 1) != used * moves) fail(p.name);
     if (alone) printf("%s|bytes|%08x|0|0\n", p.name, fingerprint(copies[0]));
 }
@@ -441,16 +456,26 @@ int main(int words, char **word) {
     operations(&p);
     make(&p, "SPELLED", "in; in; last 0 1; merge 0 2; last 1 0; merge 1 4; sub 3 5 out");
     operations(&p);
-    static const unsigned lengths[] = { 1, 3, 7, 15, 23, 31 };
+    static const unsigned lengths[] = { 1, 3, 7, 15, 23, 31, 47, 63 };
     for (unsigned i = 0; i < sizeof lengths / sizeof *lengths; i++) {
         chain(&p, lengths[i]);
         operations(&p);
     }
-    tree(&p);
+    tree(&p, "TREE(31)", 16);
     operations(&p);
-    readers(&p);
+    tree(&p, "TREE(63)", 32);
     operations(&p);
-    longest();
+    readers(&p, "READERS(31)", 31);
+    operations(&p);
+    readers(&p, "READERS(63)", 63);
+    operations(&p);
+    /* what the longer state costs a plan that the shorter one takes */
+    chain(&p, 31);
+    p.name = "CHAIN(31), longer state";
+    length = TESSLA_LONG_STATE_LENGTH;
+    operations(&p);
+    longest("LONGEST", 32, 1470);
+    longest("LONGEST(64)", 64, 2942);
     for (unsigned n = 0; n <= TESSLA_ROOM; n += 4) held(n);
     /* a window of the latest 64 values beside neg in its place; then all eight */
     windowed("NEG", "in; neg 0 out");

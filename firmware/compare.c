@@ -1,7 +1,7 @@
 /*
- * The same calls on x86-64, on the plain C engine and on the board: one line a call with its number, its further results and a
- * hash of the whole state, the block and the buffer for a plan's text. The lines must be the same. The last lines say which numbers
- * each call returned.
+ * The same calls on x86-64, on the plain C engine and on the board, on states of both lengths: one line a call with its number, its
+ * further results and a hash of the whole state, the block and the buffer for a plan's text. The lines must be the same. The last
+ * lines say which numbers each call returned.
  */
 #include <string.h>
 
@@ -14,15 +14,25 @@ static void put(const char *text) { fputs(text, stdout); }
 #include "board.h"
 #endif
 
-enum { LENGTH = TESSLA_STATE_LENGTH, MOST = TESSLA_TEXT_LIMIT, WRONG_LENGTHS = 8 };
+enum { SHORT = TESSLA_STATE_LENGTH, LONG = TESSLA_LONG_STATE_LENGTH, MOST = TESSLA_TEXT_LIMIT, WINDOWS = 8 * TESSLA_WINDOW, WRONG_LENGTHS = 13 };
 
-static uint8_t room[LENGTH + 8] __attribute__((aligned(8)));
+static uint8_t room[LONG + 8] __attribute__((aligned(8)));
+static uint8_t spare[LONG + 8] __attribute__((aligned(8))); /* for a copy of a state, from which another is widened */
 static uint8_t words[MOST + 16] __attribute__((aligned(8)));
-static uint8_t copy[LENGTH];
 static uint8_t places[TESSLA_BLOCK_LENGTH + 8] __attribute__((aligned(8)));
 static uint8_t page[MOST + 16] __attribute__((aligned(8))); /* the plan's text that comes back */
-static uint8_t *state = room, *text = words, *block = places, *back = page;
-static uint64_t length = LENGTH, block_length = TESSLA_BLOCK_LENGTH; /* what the calls are told */
+static uint8_t *state = room, *copy = spare, *text = words, *block = places, *back = page;
+static uint32_t whole = SHORT;                                      /* the length of the state that is used */
+static uint64_t length = SHORT, block_length = TESSLA_BLOCK_LENGTH; /* what the calls are told */
+
+/* how many streams the state that is used has room for; its windows lie behind their records */
+static uint32_t cap(void) { return whole == LONG ? TESSLA_LONG_STREAM_LIMIT : TESSLA_STREAM_LIMIT; }
+static uint32_t windows_at(void) { return cap() * TESSLA_RECORD; }
+
+static void lend(uint32_t bytes) {
+    whole = bytes;
+    length = bytes;
+}
 
 /* ---- what is printed */
 
@@ -53,27 +63,32 @@ static struct sums add_up(struct sums sums, const uint8_t *bytes, uint32_t n) {
     return (struct sums){ h, g };
 }
 
-/* of the whole room and of the block's, the bytes around them included; and of the page's, for a call that is lent it */
-static uint64_t hash(int paged) {
-    struct sums sums = add_up((struct sums){ 2166136261u, 1 }, room, sizeof room);
-    sums = add_up(sums, places, sizeof places);
-    if (paged) sums = add_up(sums, page, sizeof page);
-    return (uint64_t)sums.h << 32 | sums.g;
-}
-
-enum { LOAD, READING, PROGRESS, MOVE, RUN, COLLECT, TEXT, MISSING, WRITE, LINE, CALLS };
-static const char *const CALL[CALLS] = { "load ", "reading ", "progress ", "move ", "run ", "collect ", "text ", "missing ", "write ", "line " };
+enum { LOAD, READING, PROGRESS, MOVE, RUN, COLLECT, TEXT, MISSING, WRITE, LINE, WIDEN, CALLS };
+static const char *const CALL[CALLS] = { "load ", "reading ", "progress ", "move ", "run ", "collect ", "text ", "missing ", "write ", "line ", "widen " };
 static uint32_t returned[CALLS]; /* a bit for each number, bit 31 for any other */
 static uint32_t made[CALLS];
+static struct sums answers; /* of all calls so far: their numbers and further results, not their states */
+
+/* of the room that the state lies in and of the block's, the bytes around them included; of the page's, for a call that is lent it;
+   of the copy's, for a call that reads it */
+static uint64_t hash(int call) {
+    struct sums sums = add_up((struct sums){ 2166136261u, 1 }, state < spare || state >= spare + sizeof spare ? room : spare, whole + 8);
+    sums = add_up(sums, places, sizeof places);
+    if (call == TEXT) sums = add_up(sums, page, sizeof page);
+    if (call == WIDEN) sums = add_up(sums, spare, sizeof spare);
+    return (uint64_t)sums.h << 32 | sums.g;
+}
 
 static uint32_t note(int call, uint32_t number, uint64_t x, uint64_t y) {
     returned[call] |= number < 31 ? 1u << number : 1u << 31;
     made[call]++;
+    const uint32_t answer[] __attribute__((aligned(8))) = { number, (uint32_t)x, (uint32_t)(x >> 32), (uint32_t)y, (uint32_t)(y >> 32) };
+    answers = add_up(answers, (const uint8_t *)answer, sizeof answer);
     put(CALL[call]);
     put_hex(number, " ");
     put_hex(x, " ");
     put_hex(y, " ");
-    put_hex(hash(call == TEXT), "\n");
+    put_hex(hash(call), "\n");
     return number;
 }
 
@@ -139,8 +154,11 @@ static uint32_t line(void) {
     return note(LINE, number, up, 0);
 }
 
+/* from the copy, of which the call is told one length, into the state, of which it is told another */
+static uint32_t widen(uint64_t from, uint64_t to) { return note(WIDEN, tessla_widen(copy, from, state, to), from, to); }
+
 static void head(const char *what) {
-    put("-- ");
+    put(whole == LONG ? "-- long " : "-- ");
     put(what);
     put("\n");
 }
@@ -174,7 +192,7 @@ static void show_text(void) {
 
 /* ---- plans */
 
-static struct row rows[TESSLA_STREAM_LIMIT];
+static struct row rows[TESSLA_LONG_STREAM_LIMIT + 1];
 
 static uint32_t load_rows(uint32_t n) { return load(write_plan(text, rows, n)); }
 
@@ -210,7 +228,8 @@ static uint32_t all_operators(void) {
 /* ---- each number of each call, extremes */
 
 static const uint64_t WRONG[WRONG_LENGTHS] = {
-    0, 1, LENGTH - 1, LENGTH + 1, LENGTH + (UINT64_C(1) << 32), UINT64_C(1) << 32, UINT64_MAX, (UINT64_C(1) << 63) + LENGTH,
+    0, 1, SHORT - 1, SHORT + 1, LONG - 1, LONG + 1, 32768, SHORT + (UINT64_C(1) << 32), LONG + (UINT64_C(1) << 32), UINT64_C(1) << 32, UINT64_MAX,
+    (UINT64_C(1) << 63) + SHORT, (UINT64_C(1) << 63) + LONG,
 };
 static const uint32_t STREAMS[] = { 0,  1,  2,   3,   5,     6,          31,         32,         33,        63,
                                     64, 255, 256, 257, 65536, 0x7FFFFFFF, 0x80000000, 0x80000005, 0xFFFFFFFF };
@@ -239,7 +258,7 @@ static void wrong_lengths(uint64_t text_length) {
         missing(0);
         missing(99);
     }
-    length = LENGTH;
+    length = whole;
 }
 
 static void streams(void) {
@@ -355,7 +374,7 @@ static void signals(void) {
         progress(1, 4 * i + 4);
         work_off(n);
     }
-    memcpy(copy, state, LENGTH);
+    memcpy(copy, state, whole);
     for (uint32_t i = 0; i < COUNT(KEPT); i++)
         for (uint32_t change = 1; change < 4; change++) {
             state[256 * (2 + i) + KEPT[i]] ^= (uint8_t)change;
@@ -364,7 +383,7 @@ static void signals(void) {
             progress(0, 80);
             run(100);
             collect(2 + i);
-            memcpy(state, copy, LENGTH);
+            memcpy(state, copy, whole);
         }
     /* fresh: with bound 0 nothing is kept */
     for (uint32_t i = 0; i < COUNT(KEPT); i++) {
@@ -406,7 +425,7 @@ static void windows(void) {
         }
         work_off(n);
     }
-    memcpy(copy, state, LENGTH);
+    memcpy(copy, state, whole);
     /* each field of a record, by turns of the eight; the first, a middle and the last value of each window */
     for (uint32_t i = 0; i < COUNT(FIELDS); i++)
         for (uint32_t change = 1; change < 4; change++) {
@@ -416,15 +435,15 @@ static void windows(void) {
             run(100);
             collect(1 + i % 8);
             missing(1 + i % 8);
-            memcpy(state, copy, LENGTH);
+            memcpy(state, copy, whole);
         }
     for (uint32_t j = 0; j < 8; j++)
         for (uint32_t at = 0; at < 512; at += 73) {
-            state[8192 + 512 * j + at] ^= 0x80;
+            state[windows_at() + 512 * j + at] ^= 0x80;
             reading(0, 300, -6);
             run(100);
             collect(1 + j);
-            memcpy(state, copy, LENGTH);
+            memcpy(state, copy, whole);
         }
     /* half full: what lies behind the fill, and in windows that no stream has */
     for (uint32_t w = 1; w < 8; w += 3) {
@@ -434,23 +453,23 @@ static void windows(void) {
             run(50);
             for (uint32_t s = 1; s <= w; s++) collect(s);
         }
-        memcpy(copy, state, LENGTH);
-        for (uint32_t at = 8192; at < LENGTH; at += at % 512 == 160 ? 1 : 31) {
+        memcpy(copy, state, whole);
+        for (uint32_t at = windows_at(); at < whole; at += at % 512 == 160 ? 1 : 31) {
             state[at] ^= 1;
             run(1);
             reading(0, 300, 1);
             run(100);
-            memcpy(state, copy, LENGTH);
+            memcpy(state, copy, whole);
         }
         for (uint32_t fill = 0; fill < 256; fill += fill < 24 || (fill > 60 && fill < 68) ? 1 : 7) {
             state[256 + 5] = (uint8_t)fill;
             run(1);
-            memcpy(state, copy, LENGTH);
+            memcpy(state, copy, whole);
             state[256 + 8] = (uint8_t)fill; /* the width */
             run(1);
             reading(0, 300, 1);
             run(100);
-            memcpy(state, copy, LENGTH);
+            memcpy(state, copy, whole);
         }
     }
     /* fresh: with bound 0 nothing is kept; a ninth window, and one for another operator */
@@ -487,8 +506,8 @@ static void without_a_plan(void) {
     missing(0);
     for (uint8_t which = 1; which < 4; which++) command(which);
     uint32_t i = 0;
-    while (i < LENGTH && state[i] == 0) i++;
-    head(i == LENGTH ? "all bytes 0" : "a byte not 0");
+    while (i < whole && state[i] == 0) i++;
+    head(i == whole ? "all bytes 0" : "a byte not 0");
 }
 
 /* loaded, texts that are refused, a byte that makes no state of it, and loaded again */
@@ -501,7 +520,7 @@ static void no_plan(void) {
     text_of("plan=1\n");
     text_of("\n");
     without_a_plan();
-    state[LENGTH - 1] = 1;
+    state[whole - 1] = 1;
     without_a_plan();
     /* with no text to point at */
     text = 0;
@@ -533,9 +552,9 @@ static void zeros(void) {
         load(0);
         without_a_plan();
     }
-    length = LENGTH;
+    length = whole;
     /* each bit of the first record, by turns, and some bytes behind it */
-    for (uint32_t at = 1; at < LENGTH; at += at < 64 ? 1 : 61) {
+    for (uint32_t at = 1; at < whole; at += at < 64 ? 1 : 61) {
         state[at] = (uint8_t)(1 << at % 8);
         run(1);
         collect(0);
@@ -548,7 +567,7 @@ static void zeros(void) {
         move(0);
         run(2);
         collect(0);
-        memset(state, 0, LENGTH);
+        memset(state, 0, whole);
     }
     for (uint32_t i = 0; i < 2; i++) {
         visits();
@@ -556,12 +575,12 @@ static void zeros(void) {
         reading(0, 3, 7);
         run(100);
         collect(5);
-        memcpy(copy, state, LENGTH);
+        memcpy(copy, state, whole);
         load(0);
         without_a_plan();
     }
     /* the copy put back, and its first records gone */
-    memcpy(state, copy, LENGTH);
+    memcpy(state, copy, whole);
     run(100);
     for (uint32_t i = 0; i < 6; i++) {
         memset(state + 256 * i, 0, 256);
@@ -580,7 +599,7 @@ static void full(void) {
     for (uint32_t s = 0; s < 6; s++) move(s);
 }
 
-/* ---- plan texts that are refused, and 32 streams */
+/* ---- plan texts that are refused, and as many streams as there is room for */
 
 static void texts(void) {
     head("texts");
@@ -613,32 +632,47 @@ static void texts(void) {
     uint32_t w = eight_windows(rows);
     rows[w++] = (struct row){ .op = WMAX, .k = 1 };
     load_rows(w);
-    for (uint32_t i = 0; i < 32; i++) rows[i] = (struct row){ .op = WSUM, .k = 64 };
-    load_rows(32);
+    for (uint32_t i = 0; i < cap(); i++) rows[i] = (struct row){ .op = WSUM, .k = 64 };
+    load_rows(cap());
     rows[0] = (struct row){ .op = IN };
-    load_rows(32);
+    load_rows(cap());
+    /* more streams than there is room for, and about as many as each length has */
+    static const uint32_t MANY[] = { 1, 31, 32, 33, 63, 64, 65 };
+    head("how many streams");
+    for (uint32_t i = 0; i < COUNT(rows); i++) rows[i] = (struct row){ .op = NIL };
+    for (uint32_t i = 0; i < COUNT(MANY); i++) load_rows(MANY[i]);
     /* longer than any text may be; what is behind the pointer is not looked at then */
+    head("how long a text");
     load(MOST + 1);
     load(UINT64_C(1) << 32);
     load(UINT64_MAX);
     memset(text, 'x', MOST);
     load(MOST);
+    load(MOST / 2 + 1);
     /* the longest chain, the cycle test at its deepest: upward, downward, and closed to a cycle */
+    uint32_t end = cap() - 1;
+    head("chains");
     for (int kind = 0; kind < 3; kind++) {
-        for (uint32_t i = 0; i < 32; i++) rows[i] = (struct row){ .op = NEG, .a = (uint8_t)(kind ? (i + 1) % 32 : i - 1) };
+        for (uint32_t i = 0; i <= end; i++) rows[i] = (struct row){ .op = NEG, .a = (uint8_t)(kind ? (i + 1) % cap() : i - 1) };
         if (kind == 0) rows[0] = (struct row){ .op = IN };
-        if (kind == 1) rows[31] = (struct row){ .op = IN };
+        if (kind == 1) rows[end] = (struct row){ .op = IN };
         rows[16].out = 1;
-        uint32_t number = load_rows(32);
-        reading(kind ? 31 : 0, 5, 8);
+        uint32_t number = load_rows(cap());
+        reading(kind ? end : 0, 5, 8);
         run(1000);
         collect(16);
         if (number == 0) {
             /* the same cycle in the state, not in a text */
-            state[kind ? 31 * 256 : 0] = NEG;
-            state[(kind ? 31 * 256 : 0) + 1] = kind ? 0 : 31;
+            state[kind ? end * 256 : 0] = NEG;
+            state[(kind ? end * 256 : 0) + 1] = kind ? 0 : (uint8_t)end;
             run(1);
         }
+    }
+    /* shorter rings, with a tail that leads into them */
+    head("rings");
+    for (uint32_t ring = 1; ring < cap(); ring += 5) {
+        for (uint32_t i = 0; i <= end; i++) rows[i] = (struct row){ .op = NEG, .a = (uint8_t)(i < ring ? (i + 1) % ring : i - 1) };
+        load_rows(cap());
     }
 }
 
@@ -665,12 +699,12 @@ static void worked_texts(void) {
     text = back;
     load(given);
     text = words;
-    memcpy(copy, state, LENGTH);
+    memcpy(copy, state, whole);
     load_rows(6);
-    head(memcmp(copy, state, LENGTH) ? "another state" : "the fresh state");
-    length = LENGTH - 1;
+    head(memcmp(copy, state, whole) ? "another state" : "the fresh state");
+    length = whole - 1;
     plan_text(0);
-    length = LENGTH;
+    length = whole;
     load(0);
     plan_text(0);
     plan_text(5);
@@ -694,6 +728,26 @@ static void around(uint32_t n) {
     plan_text(MOST);
     plan_text((UINT64_C(1) << 32) + 1);
     plan_text(UINT64_MAX);
+}
+
+/* as many streams as there is room for, and values of nineteen digits */
+static void longest_text(void) {
+    uint32_t end = cap() - 1;
+    head("the longest text");
+    for (uint32_t i = 0; i < end; i++) rows[i] = (struct row){ .op = PLUS, .a = (uint8_t)end, .k = INT64_MIN, .out = 1 };
+    rows[end] = (struct row){ .op = UNIT, .out = 1 };
+    uint32_t n = write_plan(text, rows, cap());
+    load(n);
+    plan_text(n);
+    plan_text(n - 1);
+    plan_text(n <= 2048 ? 2048 : MOST);
+    /* no buffer at all */
+    back = 0;
+    plan_text(0);
+    load(0);
+    plan_text(0);
+    back = page;
+    head("texts of changed states");
 }
 
 /* every length of the buffer, every alignment, every operator, values of every length, the longest text; a state changed in each field */
@@ -727,40 +781,26 @@ static void plan_texts(void) {
         load_rows(3);
         around(write_plan(text, rows, 3));
     }
-    head("the longest text");
-    for (uint32_t i = 0; i < 31; i++) rows[i] = (struct row){ .op = PLUS, .a = 31, .k = INT64_MIN, .out = 1 };
-    rows[31] = (struct row){ .op = UNIT, .out = 1 };
-    load_rows(32);
-    plan_text(1470);
-    plan_text(1469);
-    plan_text(2048);
-    /* no buffer at all */
-    back = 0;
-    plan_text(0);
-    load(0);
-    plan_text(0);
-    back = page;
-
-    head("texts of changed states");
+    longest_text();
     visits();
     load_rows(6);
     reading(0, 3, 7);
     run(100);
-    memcpy(copy, state, LENGTH);
+    memcpy(copy, state, whole);
     for (uint32_t s = 0; s < 7; s++)
         for (uint32_t i = 0; i < 40; i++) {
             state[256 * s + i] ^= (uint8_t)(1 << (s + i) % 8);
             plan_text(300);
             plan_text(0);
-            memcpy(state, copy, LENGTH);
+            memcpy(state, copy, whole);
         }
     for (uint32_t op = 0; op < 256; op += op < 33 ? 1 : 25)
         for (uint32_t s = 0; s < 7; s++) {
             state[256 * s] = (uint8_t)op;
             plan_text(300);
-            memcpy(state, copy, LENGTH);
+            memcpy(state, copy, whole);
         }
-    state[LENGTH - 1] = 1;
+    state[whole - 1] = 1;
     plan_text(300);
 }
 
@@ -856,7 +896,7 @@ static void all_missing(void) {
     state = room;
     load_rows(n);
     for (uint32_t fresh = 0; fresh < 2; fresh++) {
-        memcpy(copy, state, LENGTH);
+        memcpy(copy, state, whole);
         for (uint32_t s = 0; s < n + 1; s++)
             for (uint32_t bit = 0; bit < 64; bit += 7) {
                 state[256 * s + 56 + bit / 8] ^= (uint8_t)(1 << bit % 8);
@@ -864,7 +904,7 @@ static void all_missing(void) {
                 two_readings(500, INT64_MIN, 0);
                 run(40);
                 missing(s);
-                memcpy(state, copy, LENGTH);
+                memcpy(state, copy, whole);
             }
         for (uint32_t t = 0; t < 4; t++) two_readings(t, INT64_MIN, (int64_t)t - 1);
         run(1000);
@@ -937,7 +977,7 @@ static void worked_blocks(void) {
     begin_block("no state, though an output would wait", 0);
     reading(0, 3, 1);
     run(99);
-    state[LENGTH - 1] = 1;
+    state[whole - 1] = 1;
     write(5, 7);
     write(19, 3);
     command(1);
@@ -1014,11 +1054,11 @@ static void registers(void) {
     begin_block("places", 0);
     reading(0, 3, 1);
     run(99);
-    memcpy(copy, state, LENGTH);
+    memcpy(copy, state, whole);
     for (uint32_t at = 0; at < 28; at++)
         for (uint32_t i = 0; i < COUNT(BYTES); i++) {
             write(at, BYTES[i]);
-            memcpy(state, copy, LENGTH);
+            memcpy(state, copy, whole);
         }
     for (uint32_t i = 5; i < 32; i++) write((1u << i) + 16, 3);
     write(0x80000000, 1);
@@ -1042,7 +1082,7 @@ static void registers(void) {
         write(18, 1);
         write(20, 1);
     }
-    length = LENGTH;
+    length = whole;
 
     /* byte 18 with every byte written to it, and with every mask: the sums of what is left, of the line and of the numbers */
     head("flags and masks");
@@ -1064,7 +1104,7 @@ static void registers(void) {
 
     /* each end of a command with each of the flags */
     for (uint32_t flags = 0; flags < 256; flags += 51) {
-        memcpy(state, copy, LENGTH);
+        memcpy(state, copy, whole);
         memset(block, (int)flags, TESSLA_BLOCK_LENGTH);
         offer_by_block(0, 9, -1);
         offer_by_block(0, 9, -1);
@@ -1111,13 +1151,43 @@ static void registers(void) {
     }
     for (uint32_t i = 0; i < 18; i++) offer_by_block(0, 100 + i, 1); /* the 17th is refused 9 */
     command(3);
+}
 
-    /* 93 moves to make: 64, then the rest */
+/* three times as many moves to make as the chain has streams behind its input, 93 or 189: 64, then the rest */
+static void moves_by_block(void) {
     head("64 moves");
-    for (uint32_t i = 0; i < 32; i++) rows[i] = (struct row){ .op = i ? NEG : IN, .a = (uint8_t)(i ? i - 1 : 0), .out = i == 31 };
-    load_rows(32);
+    for (uint32_t i = 0; i < cap(); i++) rows[i] = (struct row){ .op = i ? NEG : IN, .a = (uint8_t)(i ? i - 1 : 0), .out = i + 1 == cap() };
+    load_rows(cap());
+    memset(block, 0, TESSLA_BLOCK_LENGTH);
     for (uint32_t t = 1; t < 4; t++) offer_by_block(0, t, 5);
     command(3);
+    run(1000);
+    for (uint32_t i = 0; i < 4; i++) collect_by_block(cap() - 1);
+}
+
+/* every stream changed, each bit of it by turns, in a plan that fills the records; the first byte behind them */
+static void every_record(void) {
+    head("every record");
+    for (uint32_t i = 0; i < cap(); i++) rows[i] = (struct row){ .op = i ? PLUS : IN, .k = i, .out = i != 0 };
+    load_rows(cap());
+    for (uint32_t t = 1; t < 4; t++) reading(0, t, -5);
+    run(1000);
+    memcpy(copy, state, whole);
+    for (uint32_t i = 0; i < cap(); i++)
+        for (uint32_t at = 0; at < 256; at += at < 64 ? 7 : 37) {
+            state[256 * i + at] ^= (uint8_t)(1 << (i + at) % 8);
+            run(1);
+            collect(i);
+            memcpy(state, copy, whole);
+        }
+    state[windows_at()] = 1;
+    run(1);
+    state[windows_at()] = 0;
+    for (uint32_t i = 0; i < cap(); i++) {
+        missing(i);
+        collect(i);
+        move(i);
+    }
     run(1000);
 }
 
@@ -1143,11 +1213,13 @@ static int64_t some_value(void) {
 static uint32_t some_plan(void) {
     if (next(25) == 0) return 0;
     uint32_t n = next(4) ? 1 + next(10) : 1 + next(32);
+    if (whole == LONG && next(4)) n = 33 + next(32);
     for (uint32_t i = 0; i < n; i++) {
         struct row r = { .op = (uint8_t)(i == 0 || next(5) == 0 ? IN : 1 + next(WMAX)) };
         /* mostly backward, so that there is no cycle; last and delay also forward */
-        uint32_t most = next(12) == 0 ? n : i ? i : 1;
+        uint32_t most = next(n > 32 ? 4 * n : 12) == 0 ? n : i ? i : 1;
         if (r.op >= TIME) r.a = (uint8_t)(r.op == LAST || r.op == DELAY ? next(n) : next(most));
+        if (n > 32 && is_window(r.op) && next(2)) r.op = (uint8_t)(r.op - WSUM + SADD);
         if (uses_b(r.op)) r.b = (uint8_t)next(most);
         if (uses_k(r.op)) r.k = !is_window(r.op) ? some_value() : next(30) ? 1 + next(next(3) ? 5 : 64) : next(90);
         if (r.op != IN) r.out = next(2) == 0;
@@ -1170,7 +1242,7 @@ static void some_write(uint32_t s, uint32_t *now) {
 
 /* one draw in each expression: the order of two would be the compiler's choice; without streams a call asks for the first */
 static void some_call(uint32_t n, uint32_t *now) {
-    uint32_t t, most = n ? n : 1, s = next(20) ? next(most) : next(40);
+    uint32_t t, most = n ? n : 1, s = next(20) ? next(most) : next(TESSLA_LONG_STREAM_LIMIT + 8);
     switch (next(13)) {
     case 0:
     case 1:
@@ -1214,11 +1286,11 @@ static void random_calls(uint32_t plans, uint32_t calls) {
         for (uint32_t i = 0; i < calls; i++) some_call(n, &now);
         for (uint32_t s = 0; s < n; s++) missing(s);
         /* a damaged byte, and the state put back */
-        memcpy(copy, state, LENGTH);
+        memcpy(copy, state, whole);
         for (uint32_t i = 0; i < 6; i++) {
-            uint32_t at = next(4) ? next((n ? n : 1) * 256) : next(2) ? 8192 + next(1024) : next(LENGTH);
+            uint32_t at = next(4) ? next((n ? n : 1) * 256) : next(2) ? windows_at() + next(1024) : next(whole);
             state[at] ^= (uint8_t)(1 << next(8));
-            if (run(1) != 0) memcpy(state, copy, LENGTH);
+            if (run(1) != 0) memcpy(state, copy, whole);
             some_call(n, &now);
         }
         /* a damaged text */
@@ -1235,7 +1307,195 @@ static void random_calls(uint32_t plans, uint32_t calls) {
     back = page;
 }
 
-int main(void) {
+/* ---- the longer state, and the copy of one into it */
+
+/* 0 if the records of the copy stand first in the state, then only zeros, then the copy's windows; else in which part another byte is */
+static uint32_t unlike_copy(void) {
+    if (memcmp(state, copy, SHORT - WINDOWS) != 0) return 1;
+    for (uint32_t i = SHORT - WINDOWS; i < LONG - WINDOWS; i++)
+        if (state[i] != 0) return 2;
+    return memcmp(state + LONG - WINDOWS, copy + SHORT - WINDOWS, WINDOWS) != 0 ? 3 : 0;
+}
+
+/* what a copy of the state in the room is widened into: rubbish, at an alignment of its own */
+static void take_copy(uint32_t from_offset, uint32_t to_offset) {
+    memset(spare, 0x77, sizeof spare);
+    copy = spare + from_offset;
+    memcpy(copy, state, SHORT);
+    memset(room, 0xA5, sizeof room);
+    state = room + to_offset;
+    lend(LONG);
+}
+
+static void put_back(void) {
+    state = room;
+    copy = spare;
+    lend(SHORT);
+}
+
+/* cases worked out by hand: firmware/test knows the numbers and the bytes */
+static void worked_widen(void) {
+    put_back();
+    head("worked widen");
+    rows[0] = (struct row){ .op = IN };
+    rows[1] = (struct row){ .op = WSUM, .k = 3, .out = 1 };
+    load_rows(2);
+    reading(0, 1, 5);
+    reading(0, 2, 6);
+    run(9);
+    take_copy(0, 0);
+    uint64_t before = hash(WIDEN);
+    static const uint64_t PAIRS[][2] = { { LONG, LONG }, { SHORT, SHORT }, { LONG, SHORT }, { 0, LONG }, { SHORT, 0 }, { SHORT - 1, LONG }, { SHORT + 1, LONG },
+                                         { SHORT, LONG - 1 }, { SHORT, LONG + 1 }, { SHORT + (UINT64_C(1) << 32), LONG }, { SHORT, LONG + (UINT64_C(1) << 32) } };
+    for (uint32_t i = 0; i < COUNT(PAIRS); i++) widen(PAIRS[i][0], PAIRS[i][1]);
+    /* no state: a byte behind the last stream */
+    copy[513] = 1;
+    widen(SHORT, LONG);
+    copy[513] = 0;
+    head(hash(WIDEN) == before ? "both as they were" : "something was changed");
+    struct sums source = add_up((struct sums){ 1, 1 }, spare, sizeof spare);
+    widen(SHORT, LONG);
+    struct sums after = add_up((struct sums){ 1, 1 }, spare, sizeof spare);
+    head(source.h == after.h && source.g == after.g ? "the source as it was" : "the source was changed");
+    head(unlike_copy() == 0 ? "records, zeros, windows" : "other bytes");
+    char b[3 * 24];
+    for (uint32_t i = 0; i < 24; i++) {
+        b[3 * i] = "0123456789abcdef"[state[16384 + i] >> 4];
+        b[3 * i + 1] = "0123456789abcdef"[state[16384 + i] & 15];
+        b[3 * i + 2] = ' ';
+    }
+    b[sizeof b - 1] = 0;
+    head(b);
+    collect(1);
+    reading(0, 3, 7);
+    reading(0, 4, 1);
+    run(9);
+    for (uint32_t i = 0; i < 4; i++) collect(1);
+    /* from the longer one itself */
+    memcpy(copy, state, LONG);
+    widen(LONG, LONG);
+    widen(LONG, SHORT);
+    /* a state without a plan */
+    memset(spare, 0, sizeof spare);
+    widen(LONG, LONG);
+    widen(SHORT, SHORT);
+    widen(SHORT, LONG);
+    without_a_plan();
+    copy[SHORT - 1] = 1;
+    widen(SHORT, LONG);
+    put_back();
+}
+
+/* every alignment of both buffers; one byte changed that makes no state of it or another one */
+static void widens(void) {
+    head("widen");
+    uint32_t n = eight_windows(rows);
+    load_rows(n);
+    for (uint32_t i = 0; i < 70; i++) {
+        reading(0, 3 * i, VALUES[7 * i % COUNT(VALUES)]);
+        run(50);
+        for (uint32_t s = 1; s < n; s++)
+            while (s % 3 && collect(s) == 0) {}
+    }
+    take_copy(0, 0);
+    for (uint32_t o = 0; o < 8; o++) {
+        memmove(spare + o, copy, SHORT);
+        copy = spare + o;
+        for (uint32_t to = 0; to < 8; to++) {
+            memset(room, (int)(o + to), sizeof room);
+            state = room + to;
+            widen(SHORT, LONG);
+            if (unlike_copy()) head("other bytes");
+            run(1);
+            collect(1 + to);
+        }
+    }
+    state = room;
+    for (uint32_t at = 0; at < SHORT; at += at < 600 ? 3 : 89) {
+        uint8_t bit = (uint8_t)(1 << at % 8);
+        copy[at] ^= bit;
+        if (widen(SHORT, LONG) == 0) {
+            if (unlike_copy()) head("other bytes");
+            run(20);
+        }
+        copy[at] ^= bit;
+    }
+    put_back();
+}
+
+/* random calls on a state, then the same on it and on the longer copy of it: the same numbers and results, and of the copy the same bytes */
+static void random_widens(uint32_t plans, uint32_t calls) {
+    head("random widens");
+    for (uint32_t p = 0; p < plans; p++) {
+        uint32_t n = some_plan(), now = next(3) ? 0 : 0xFFFFFFC0;
+        memset(room, 0xEE, sizeof room);
+        if (load_rows(n) != 0) continue;
+        for (uint32_t i = 0; i < calls; i++) some_call(n, &now);
+        take_copy(p % 8, p / 8 % 8);
+        if (widen(SHORT, LONG) != 0 || unlike_copy()) head("other bytes");
+        uint64_t again = seed;
+        uint32_t then = now;
+        struct sums of[2];
+        for (uint32_t which = 0; which < 2; which++) {
+            seed = again;
+            now = then;
+            answers = (struct sums){ 1, 1 };
+            memset(block, 0x11, TESSLA_BLOCK_LENGTH);
+            if (which) {
+                lend(SHORT);
+                state = copy;
+            }
+            for (uint32_t i = 0; i < calls; i++) some_call(n, &now);
+            for (uint32_t s = 0; s < n; s++) missing(s);
+            of[which] = answers;
+        }
+        state = room + p / 8 % 8;
+        int same = of[0].h == of[1].h && of[0].g == of[1].g && unlike_copy() == 0;
+        put_back();
+        head(same ? "the same on both" : "not the same on both");
+    }
+}
+
+/* a buffer that holds a state of the one length, lent as one of the other */
+static void other_length(void) {
+    head("lent as the other length");
+    memset(room, 0, sizeof room);
+    visits();
+    load_rows(6);
+    reading(0, 3, 7);
+    lend(LONG);
+    run(100);
+    reading(0, 5, 7);
+    lend(SHORT);
+    run(100);
+    while (collect(5) == 0) {}
+    rows[0] = (struct row){ .op = IN };
+    rows[1] = (struct row){ .op = WMAX, .k = 5, .out = 1 };
+    load_rows(2);
+    reading(0, 3, 7);
+    run(9);
+    lend(LONG);
+    run(9);
+    memset(room, 0, sizeof room);
+    load_rows(2);
+    reading(0, 3, -7);
+    run(9);
+    lend(SHORT);
+    run(9);
+    reading(0, 4, -8);
+    run(9);
+    collect(1);
+    collect(1);
+    memset(room, 0, sizeof room);
+    lend(LONG);
+    for (uint32_t i = 0; i < 33; i++) rows[i] = (struct row){ .op = UNIT };
+    load_rows(33);
+    lend(SHORT);
+    run(9);
+}
+
+/* the buffer before its first load, and document 01's example, with what is refused by its length */
+static void first_steps(void) {
     head("never loaded");
     without_a_plan();
     no_plan();
@@ -1254,7 +1514,11 @@ int main(void) {
     collect(5);
     move(1);
     streams();
-    for (uint32_t o = 0; o < 8; o++) { /* every alignment of the buffer and of the text */
+}
+
+/* every alignment of the buffer and of the text */
+static void alignments(void) {
+    for (uint32_t o = 0; o < 8; o++) {
         head("alignment");
         memset(room, 0xEE, sizeof room);
         state = room + o;
@@ -1265,6 +1529,27 @@ int main(void) {
     }
     state = room;
     text = words;
+}
+
+/* in the longer state: all that asks how long it is, how many streams it has room for, or where its windows lie */
+static void long_states(void) {
+    memset(room, 0, sizeof room);
+    lend(LONG);
+    first_steps();
+    alignments();
+    windows();
+    zeros();
+    texts();
+    longest_text();
+    moves_by_block();
+    every_record();
+    random_calls(RANDOM_PLANS / 2, RANDOM_CALLS);
+    lend(SHORT);
+}
+
+int main(void) {
+    first_steps();
+    alignments();
     values();
     divisions();
     signals();
@@ -1278,7 +1563,14 @@ int main(void) {
     all_missing();
     worked_blocks();
     registers();
+    moves_by_block();
+    every_record();
     random_calls(RANDOM_PLANS, RANDOM_CALLS);
+    long_states();
+    other_length();
+    worked_widen();
+    widens();
+    random_widens(RANDOM_PLANS / 2, RANDOM_CALLS);
     for (int i = 0; i < CALLS; i++) {
         put("numbers ");
         put(CALL[i]);

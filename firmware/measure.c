@@ -1,6 +1,6 @@
 /*
- * What the calls cost on the board: each measured call stands between gauge_begin and gauge_end, which a plugin of the
- * emulator looks for, and is counted by SysTick as well. One line each: plan, what, number returned, instructions.
+ * What the calls cost on the board, on states of both lengths: each measured call stands between gauge_begin and gauge_end, which
+ * a plugin of the emulator looks for, and is counted by SysTick as well. One line each: plan, what, number returned, instructions.
  */
 #include <string.h>
 
@@ -8,8 +8,10 @@
 #include "plans.h"
 #include "tessla.h"
 
-static uint8_t state[TESSLA_STATE_LENGTH] __attribute__((aligned(8)));
-static uint8_t copy[TESSLA_STATE_LENGTH];
+/* two states of the longer length: with the stack and the rest they fit into the logger's RAM, or this would not be linked */
+static uint8_t state[TESSLA_LONG_STATE_LENGTH] __attribute__((aligned(8)));
+static uint8_t copy[TESSLA_LONG_STATE_LENGTH];
+static uint64_t lent = TESSLA_STATE_LENGTH; /* as much of the state is lent to the calls */
 static uint8_t text[TESSLA_TEXT_LIMIT];
 static uint8_t page[TESSLA_TEXT_LIMIT];
 static uint8_t block[TESSLA_BLOCK_LENGTH];
@@ -72,7 +74,7 @@ static uint32_t deep;
 /* the plan's text into a page that is long enough; the number is its length */
 #define MEASURE_TEXT() MEASURE_CALL("plan text", (tessla_plan_text(S, page, sizeof page, &length), (uint32_t)length))
 
-#define S state, TESSLA_STATE_LENGTH
+#define S state, lent
 #define B block, TESSLA_BLOCK_LENGTH
 
 /* one reading to rest: the offer, and a run until nothing moves */
@@ -86,8 +88,8 @@ static uint32_t to_rest(uint32_t input, uint32_t t, int64_t v) {
 static uint32_t collect_all(void) {
     uint32_t stamp, events = 0;
     int64_t value;
-    for (uint32_t i = 0; i < TESSLA_STREAM_LIMIT; i++)
-        if (tessla_is_output(state, i))
+    for (uint32_t i = 0; i < tessla_limit(lent); i++)
+        if (tessla_is_output_in(S, i))
             while (tessla_collect(S, i, &stamp, &value) == 0) events++;
     return events;
 }
@@ -96,7 +98,7 @@ static uint32_t collect_all(void) {
 static uint32_t collect_every(void) {
     uint32_t stamp, events = 0;
     int64_t value;
-    for (uint32_t i = 0; i < TESSLA_STREAM_LIMIT; i++)
+    for (uint32_t i = 0; i < tessla_limit(lent); i++)
         while (tessla_collect(S, i, &stamp, &value) == 0) events++;
     return events;
 }
@@ -120,6 +122,13 @@ static void fill_block(uint32_t stream, uint32_t at, int64_t value) {
     for (uint32_t i = 0; i < 8; i++) block[TESSLA_AT_VALUE + i] = (uint8_t)((uint64_t)value >> 8 * i);
 }
 
+/* the shorter state copied into the longer one, and then back as it was */
+static void measure_widen(void) {
+    memcpy(copy, state, TESSLA_STATE_LENGTH);
+    MEASURE_CALL("widen", tessla_widen(copy, TESSLA_STATE_LENGTH, state, TESSLA_LONG_STATE_LENGTH));
+    memcpy(state, copy, TESSLA_STATE_LENGTH);
+}
+
 static void measure(const char *name, const struct row *rows, uint32_t n) {
     uint32_t moves, stamp, up, outside, zero, mover = 0, output = 0;
     uint64_t length = write_plan(text, rows, n);
@@ -136,6 +145,7 @@ static void measure(const char *name, const struct row *rows, uint32_t n) {
     MEASURE_CALL("run at rest", tessla_run(S, 100000, &moves));
     MEASURE_TEXT();
     MEASURE_MISSING(n - 1);
+    if (lent == TESSLA_STATE_LENGTH) measure_widen();
     fill_block(0, 70, 7);
     MEASURE_CALL("plain write", tessla_register_write(S, B, TESSLA_AT_STAMP, 70));
     MEASURE_CALL("line", tessla_register_line(B, &up));
@@ -172,9 +182,9 @@ static void measure(const char *name, const struct row *rows, uint32_t n) {
 }
 
 /* every stream holds 16 events that nobody collects */
-static void full(const struct row *rows, uint32_t n) {
+static void full(const char *name, const struct row *rows, uint32_t n) {
     uint32_t moves;
-    plan = "32 streams, all full";
+    plan = name;
     tessla_load(S, text, write_plan(text, rows, n));
     for (uint32_t t = 0; t < TESSLA_ROOM; t++) to_rest(0, 3 * t, 5);
     MEASURE_CALL("validation", tessla_move(S, 99));
@@ -184,17 +194,19 @@ static void full(const struct row *rows, uint32_t n) {
     MEASURE("collecting all", collect_all());
 }
 
-/* the longest text: 31 values of 20 characters */
-static void longest(struct row *rows) {
+/* the longest text: values of 20 characters in all streams but one */
+static void longest(const char *name, struct row *rows, uint32_t n) {
     uint64_t length;
-    for (uint32_t i = 0; i < 31; i++) rows[i] = (struct row){ .op = PLUS, .a = 31, .k = INT64_MIN, .out = 1 };
-    rows[31] = (struct row){ .op = UNIT, .out = 1 };
-    plan = "32 streams, the longest text";
-    tessla_load(S, text, write_plan(text, rows, 32));
+    uint32_t bytes, end = n - 1;
+    for (uint32_t i = 0; i < end; i++) rows[i] = (struct row){ .op = PLUS, .a = (uint8_t)end, .k = INT64_MIN, .out = 1 };
+    rows[end] = (struct row){ .op = UNIT, .out = 1 };
+    plan = name;
+    bytes = write_plan(text, rows, n);
+    tessla_load(S, text, bytes);
     MEASURE_CALL("validation", tessla_move(S, 99));
     MEASURE_TEXT();
     /* a page too short for it */
-    MEASURE_CALL("plan text refused", tessla_plan_text(S, page, 1469, &length));
+    MEASURE_CALL("plan text refused", tessla_plan_text(S, page, bytes - 1, &length));
 }
 
 /* a reading of the first of two inputs, of which both have reported before, for what it costs beside the inputs alone */
@@ -245,14 +257,15 @@ static void space(const char *name, const struct row *rows, uint32_t n, uint32_t
     MEASURE_CALL("run to rest", tessla_run(S, 100000, &moves));
 }
 
-static void spaces(struct row *rows) {
+/* n streams, of which all but the inputs read the first */
+static void spaces(struct row *rows, uint32_t n, const char *const names[3]) {
     rows[0] = (struct row){ .op = IN };
-    for (uint32_t i = 1; i < 32; i++) rows[i] = (struct row){ .op = NEG };
-    space("31 readers, one let go at a time", rows, 32, 0);
+    for (uint32_t i = 1; i < n; i++) rows[i] = (struct row){ .op = NEG };
+    space(names[0], rows, n, 0);
     rows[1] = (struct row){ .op = IN };
-    for (uint32_t i = 2; i < 32; i++) rows[i] = (struct row){ .op = KEEP, .b = 1 };
-    space("30 readers, 16 let go at once", rows, 32, 0);
-    space("30 readers, the move that lets 16 go", rows, 32, 29);
+    for (uint32_t i = 2; i < n; i++) rows[i] = (struct row){ .op = KEEP, .b = 1 };
+    space(names[1], rows, n, 0);
+    space(names[2], rows, n, n - 3);
 }
 
 static uint32_t moves_of_run(void) {
@@ -368,7 +381,31 @@ static void chain(struct row *r, uint32_t n) {
     for (uint32_t i = 1; i < n; i++) r[i] = (struct row){ .op = NEG, .a = (uint8_t)(i - 1), .out = i + 1 == n };
 }
 
-static struct row rows[TESSLA_STREAM_LIMIT];
+/* an input, half of the streams each read it, the others join two of those before them, down to one */
+static void tree(struct row *r, uint32_t n) {
+    r[0] = (struct row){ .op = IN };
+    for (uint32_t i = 1; i < n; i++)
+        r[i] = i <= n / 2 ? (struct row){ .op = NEG }
+                          : (struct row){ .op = ADD, .a = (uint8_t)(2 * (i - n / 2) - 1), .b = (uint8_t)(2 * (i - n / 2)), .out = i + 1 == n };
+}
+
+/* all read the one input */
+static void readers(struct row *r, uint32_t n) {
+    r[0] = (struct row){ .op = IN };
+    for (uint32_t i = 1; i < n; i++) r[i] = (struct row){ .op = PLUS, .k = i, .out = i + 1 == n };
+}
+
+/* each operator on two inputs and, where there is room, again from time to seq on what the first of its kind gives; further delays */
+static void operators(struct row *r, uint32_t n) {
+    for (uint8_t i = 0; i < n; i++) {
+        uint8_t again = i > WMAX ? (uint8_t)(i - WMAX + UNIT) : 0;
+        uint8_t op = i < 2 ? IN : i <= WMAX ? i : n > TESSLA_STREAM_LIMIT && again <= SEQ ? again : DELAY;
+        r[i] = (struct row){ .op = op, .b = uses_b(op), .k = uses_k(op) ? 3 : 0, .out = op > IN };
+        if (i > WMAX) r[i].a = n > TESSLA_STREAM_LIMIT ? again : i - 4;
+    }
+}
+
+static struct row rows[TESSLA_LONG_STREAM_LIMIT];
 
 /* boxes, then merges of their counts */
 static uint32_t boxes(uint32_t n, uint32_t streams) {
@@ -382,6 +419,34 @@ static uint32_t boxes(uint32_t n, uint32_t streams) {
     return s;
 }
 
+/* what hangs on how many streams there are, for as many as the lent state has room for */
+static void fill(const char *const names[7], const char *const spaced[3]) {
+    uint32_t n = tessla_limit(lent);
+    boxes(n / 6, n);
+    measure(names[0], rows, n);
+    chain(rows, n);
+    measure(names[1], rows, n);
+    tree(rows, n);
+    measure(names[2], rows, n);
+    readers(rows, n);
+    measure(names[3], rows, n);
+    for (uint32_t i = 1; i < n; i++) rows[i].out = 1;
+    full(names[4], rows, n);
+    operators(rows, n);
+    measure(names[5], rows, n);
+    longest(names[6], rows, n);
+    spaces(rows, n, spaced);
+}
+
+static const char *const SHORTER[] = { "32 streams, five boxes", "32 streams, a chain", "32 streams, a tree", "32 streams, 31 readers",
+                                       "32 streams, all full", "32 streams, every operator", "32 streams, the longest text" };
+static const char *const SHORTER_SPACES[] = { "31 readers, one let go at a time", "30 readers, 16 let go at once",
+                                              "30 readers, the move that lets 16 go" };
+static const char *const LONGER[] = { "64 streams, ten boxes", "64 streams, a chain", "64 streams, a tree", "64 streams, 63 readers",
+                                      "64 streams, all full", "64 streams, every operator", "64 streams, the longest text" };
+static const char *const LONGER_SPACES[] = { "63 readers, one let go at a time", "62 readers, 16 let go at once",
+                                             "62 readers, the move that lets 16 go" };
+
 int main(void) {
     gauge_begin();
     own = gauge_end();
@@ -389,28 +454,20 @@ int main(void) {
     measure("6 streams, one box", rows, 6);
     boxes(2, 16);
     measure("16 streams, two boxes", rows, 16);
-    boxes(5, 32);
-    measure("32 streams, five boxes", rows, 32);
     chain(rows, 16);
     measure("16 streams, a chain", rows, 16);
-    chain(rows, 32);
-    measure("32 streams, a chain", rows, 32);
-    for (uint32_t i = 1; i < 32; i++) rows[i] = (struct row){ .op = PLUS, .k = i, .out = i == 31 };
-    measure("32 streams, 31 readers", rows, 32);
-    for (uint32_t i = 1; i < 32; i++) rows[i].out = 1;
-    full(rows, 32);
-    for (uint8_t i = 0; i < 32; i++) {
-        uint8_t op = i < 2 ? IN : i <= WMAX ? i : DELAY;
-        rows[i] = (struct row){ .op = op, .b = uses_b(op), .k = uses_k(op) ? 3 : 0, .out = op > IN };
-        if (i > WMAX) rows[i].a = i - 4;
-    }
-    measure("32 streams, every operator", rows, 32);
-    longest(rows);
-    spaces(rows);
+    fill(SHORTER, SHORTER_SPACES);
     signals();
     windows();
     divisions();
     all_passing();
+    /* the longer state: plans that the shorter one takes as well, and plans that fill it */
+    lent = TESSLA_LONG_STATE_LENGTH;
+    box(rows, 0);
+    measure("longer state, 6 streams, one box", rows, 6);
+    chain(rows, TESSLA_STREAM_LIMIT);
+    measure("longer state, 32 streams, a chain", rows, TESSLA_STREAM_LIMIT);
+    fill(LONGER, LONGER_SPACES);
     put("stack|");
     put_number(deep);
     put("\n");

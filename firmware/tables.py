@@ -83,18 +83,28 @@ for n in names:
         cells += ['%s | +%s' % (count(instructions(command)), count(instructions(command) - instructions(call))) for command, call in COMMANDS]
         print('| %s | %s |' % (plan, ' | '.join(cells)))
     print()
-LONGEST = '32 streams, the longest text'
+LONGEST = ['32 streams, the longest text', '64 streams, the longest text']
 print('The plan as text: instructions of the call, and what it takes beside the check of the state; by the cycles of the manual in ms:')
 print()
 print('| plan | bytes of the text | %s | ms, %s |' % (' | '.join('%s, instructions | beside the check' % CORES[n] for n in names), CORES[c]))
 print('|---|---:|%s---:|' % ('---:|---:|' * len(names)))
-for plan in [*plans, LONGEST]:
+for plan in [*plans, *LONGEST]:
     zone = lambda n, call: zones[n][plan, call]
     cells = ['%s | %s' % (count(zone(n, 'plan text')[1]), count(int(zone(n, 'plan text')[1]) - int(zone(n, 'validation')[1]))) for n in names]
     print('| %s | %s | %s | %s |' % (plan, count(zone(c, 'plan text')[0]), ' | '.join(cells), ms(zone(c, 'plan text')[2])))
 print()
-print('Refused 19, a byte too few for the longest: %s.'
-      % ', '.join('%s instructions on the %s' % (count(zones[n][LONGEST, 'plan text refused'][1]), CORES[n]) for n in names))
+for longest in LONGEST:
+    print('Refused 19, a byte too few for the longest of %s: %s.' % (longest.split(',')[0],
+          ', '.join('%s instructions on the %s' % (count(zones[n][longest, 'plan text refused'][1]), CORES[n]) for n in names)))
+    print()
+print('A state copied into the longer one: instructions of the call, and what it takes beside the check of the state; by the cycles of the manual in ms:')
+print()
+print('| plan | %s | ms, %s |' % (' | '.join('%s, instructions | beside the check' % CORES[n] for n in names), CORES[c]))
+print('|---|%s---:|' % ('---:|---:|' * len(names)))
+for plan in [plan for plan in plans if (plan, 'widen') in zones[c]]:
+    zone = lambda n, call: zones[n][plan, call]
+    cells = ['%s | %s' % (count(zone(n, 'widen')[1]), count(int(zone(n, 'widen')[1]) - int(zone(n, 'validation')[1]))) for n in names]
+    print('| %s | %s | %s |' % (plan, ' | '.join(cells), ms(zone(c, 'widen')[2])))
 print()
 print('The counts of a stream: instructions of the call, and what it takes beside the check of the state:')
 print()

@@ -1,17 +1,18 @@
 /*
  * The calls of the engine, for the logger's firmware.
  *
- * The engine runs a plan, a flat table of TeSSLa stream equations, on stamped readings. All it knows lies in one buffer of
- * TESSLA_STATE_LENGTH bytes that the firmware owns and lends to each call. The engine has no memory of its own, allocates
- * nothing, keeps no pointer after a call returns, and may be used with as many buffers as there is room for.
+ * The engine runs a plan, a flat table of TeSSLa stream equations, on stamped readings. All it knows lies in one buffer, the
+ * state, that the firmware owns and lends to each call: of TESSLA_STATE_LENGTH bytes for a plan of at most 32 streams, or of
+ * TESSLA_LONG_STATE_LENGTH bytes for one of at most 64. The engine has no memory of its own, allocates nothing, keeps no pointer
+ * after a call returns, and may be used with as many buffers as there is room for, of both lengths.
  *
  * A stamp is 0 to 4294967295. The horizon is 4294967296. A bound is 0 to the horizon: of a stream with bound y all events
  * at stamps below y are known. A value is any int64_t.
  *
  * Every call returns a number, 0 for done. On any other number
  *   - each further result (*moves, *stamp, *value, *up, *length, *outside, *zero) is 0, and
- *   - the state is byte for byte as it was, and so is the text buffer of tessla_plan_text. One lent buffer alone is changed by a
- *     refusal, the block of tessla_register_write, and only as is said there.
+ *   - the state is byte for byte as it was, and so are the text buffer of tessla_plan_text and both buffers of tessla_widen. One
+ *     lent buffer alone is changed by a refusal, the block of tessla_register_write, and only as is said there.
  * No call relies on its caller having tested anything. Two things are the caller's all the same, because no callee can
  * test them: a length says how many bytes really lie behind its pointer, and the buffers of one call do not overlap.
  *
@@ -19,11 +20,12 @@
  * size_t in place of uint64_t a program for a 32-bit machine still links, and every call answers wrongly.
  *
  * No plan. Load takes a text of no bytes too, for a logger that goes out before its plan is chosen: a plan of no streams, at
- * rest from the start, and a state of zeros. On it both offers are refused 7, move and missing 11 and collect 13, a run makes 0
- * moves, its text has no bytes, and the zeros stay. A buffer that begins as zeros, as every static one does, is that state
- * before the first load: it is not refused 15. A load that is refused leaves the state as it was, zeros too: only its number
- * tells. tessla_streams says whether there is a plan. A plan may be loaded at any time, over whatever is there; so may no plan,
- * and that ends the one that runs, with all it holds. So do not load the nothing that a card gives which could not be read.
+ * rest from the start, and a state of zeros, of either length. On it both offers are refused 7, move and missing 11 and collect
+ * 13, a run makes 0 moves, its text has no bytes, and the zeros stay. A buffer that begins as zeros, as every static one does,
+ * is that state before the first load: it is not refused 15. A load that is refused leaves the state as it was, zeros too: only
+ * its number tells. tessla_streams says whether there is a plan. A plan may be loaded at any time, over whatever is there; so
+ * may no plan, and that ends the one that runs, with all it holds. So do not load the nothing that a card gives which could not
+ * be read.
  *
  * What a logger does with the calls; examples/logger.c does all of it, but for the registers:
  *
@@ -44,11 +46,12 @@
  * for as long as you like; a state is to be copied between calls only.
  *
  * The budget of a run. On a Cortex-M0+ at 48 MHz every call on a state, but for load and plain register writes, first looks at
- * the whole of it, 1.0 to 1.3 ms by the manual's cycles; a move in a run then takes 0.1 to 0.2 ms. In the plans that were measured
- * a run of n moves takes at most 1.3 ms and a millisecond for each four moves, if the outputs are collected; where 31 outputs
- * are full a move takes 1.1 ms. By that the 64 moves of a command 3 take 18 ms. Leave the watchdog twice that. Few calls with
- * much work in each cost least (docs/PERFORMANCE.md, "On the controller"). The plan's text takes 1.1 to 2.0 ms, and 11 ms if every
- * value in it has nineteen digits; the counts of a stream hardly more than the look at the state.
+ * the whole of it: 1.0 to 1.3 ms by the manual's cycles, 1.6 to 2.3 ms of a longer state. A move in a run then takes 0.1 to 0.2
+ * ms. In the plans that were measured a run of n moves takes at most this look and a millisecond for each four moves, with up to
+ * 64 streams. By that the 64 moves of a command 3 take 18 ms, in a longer state 19. Leave the watchdog twice that. Few calls with
+ * much work in each cost least (docs/PERFORMANCE.md, "On the controller"). The plan's text takes 1.1 to 2.0 ms, of 64 streams up
+ * to 3.8, and 11 ms, of 64 streams 22, if every value in it has nineteen digits; the counts of a stream hardly more than the look
+ * at the state; widening 3 ms.
  *
  * Windows. The operators wsum, wmin and wmax give at each event of their argument the sum, the least or the greatest of its
  * latest k values, that event's included, or of all so far while they are fewer; k is 1 to 64, and a plan has at most eight
@@ -64,13 +67,19 @@
  * examples/reader.c is a driver for one. A firmware that makes the calls itself needs no block.
  *
  * A copy of the state. The buffer may be copied anywhere, to flash say, and put back later, at any address. Only the records of
- * the plan's streams are used, and the windows behind all records, if it has some: the first tessla_used_length bytes. All
- * behind them is 0 and need not be saved. A block of registers is no part of the state: begin with a fresh one. A state put back
- * has had the calls made up to its copy: what was accepted or handed out after the copy does not count for it. Readings offered
- * after the copy are to be offered again, and events collected after the copy are handed out again. A copy damaged in storage is
- * refused 15 where its contents are no state; where they happen to be one, no call can know that it is not the one that was
- * saved: a storage that gives back zeros gives a state without a plan. So save to two places in turn, each with a checksum:
- * examples/saving.c does, and loses no copy to a power cut.
+ * the plan's streams are used, and the windows behind all records, if it has some: the first tessla_used_length bytes, of a
+ * longer state tessla_used_length_in. All behind them is 0 and need not be saved. A block of registers is no part of the state:
+ * begin with a fresh one. A state put back has had the calls made up to its copy: what was accepted or handed out after the
+ * copy does not count for it. Readings offered after the copy are to be offered again, and events collected after the copy are
+ * handed out again. A copy damaged in storage is refused 15 where its contents are no state; where they happen to be one, no
+ * call can know that it is not the one that was saved: a storage that gives back zeros gives a state without a plan. So save to
+ * two places in turn, each with a checksum: examples/saving.c does, and loses no copy to a power cut.
+ *
+ * More than 32 streams. Lend TESSLA_LONG_STATE_LENGTH bytes to every call, and the plan may have 64. A plan of fewer runs there
+ * just as well, and gives the same. Every call on a state takes both lengths, and knows it by the length that is said; the
+ * firmware remembers which one it saved. A logger that has run a plan in the shorter state and gets a firmware with the longer
+ * one puts its copy back and widens it, tessla_widen below: what it holds, keeps and has counted goes on from the same point.
+ * There is no way back: a plan of at most 32 streams is loaded anew into the shorter state.
  *
  * A lost card. The state has the whole plan: tessla_plan_text writes it as the text that was loaded, for a new card or a second
  * logger. What the plan has worked out so far is not in its text: a load of it begins anew. To go on elsewhere, copy the state.
@@ -106,19 +115,31 @@ extern "C" {
  *   1.8   tessla_missing, and in the state the two counts that it reads. The other calls and the plan texts are those of 1.7. A
  *         state saved before 1.8 is read; its counts are 0 and grow from its first move on, whatever was missing before. An
  *         earlier engine refuses a state 15 in which a count is not 0.
+ *   1.9   64 streams in a state of 20480 bytes, which every call takes beside one of 12288; tessla_widen; tessla_limit and the names
+ *         that end in _in, which read a state of either length. A state of 12288 bytes and what the calls do with it are those of
+ *         1.8, but for texts of 2049 to 4096 bytes: these were refused 1, and now get the number of their first fault. For that
+ *         TESSLA_TEXT_LIMIT is 4096, so a buffer of that length is longer now; 1470 bytes take every text of the shorter state.
  */
 #define TESSLA_VERSION_MAJOR 1
-#define TESSLA_VERSION_MINOR 8
-#define TESSLA_VERSION "1.8"
+#define TESSLA_VERSION_MINOR 9
+#define TESSLA_VERSION "1.9"
 
-/* The length of the state in bytes. Any other length is refused 15. */
+/* The two lengths of a state in bytes. Any other length is refused 15. */
 #define TESSLA_STATE_LENGTH 12288
+#define TESSLA_LONG_STATE_LENGTH 20480
 
-/* The most bytes that a plan text may have. A longer one is refused 1. The text of any plan that load takes has at most 1470. */
-#define TESSLA_TEXT_LIMIT 2048
+/*
+ * The most bytes that a plan text may have, whatever the state. A longer one is refused 1. The text of any plan that load takes has
+ * at most 1470 in the shorter state, and at most 2942 in the longer one.
+ */
+#define TESSLA_TEXT_LIMIT 4096
 
-/* A plan has at most 32 streams, and none if its text has no bytes; a stream holds at most 16 events. Windows: see number 18. */
+/*
+ * A plan has at most 32 streams in the shorter state, at most 64 in the longer one, and none if its text has no bytes; a stream holds
+ * at most 16 events. Windows: see number 18.
+ */
 #define TESSLA_STREAM_LIMIT 32
+#define TESSLA_LONG_STREAM_LIMIT 64
 #define TESSLA_ROOM 16
 
 /* The length of the block of registers in bytes. Any other length is refused 17. */
@@ -134,9 +155,9 @@ extern "C" {
  */
 enum tessla_number {
     TESSLA_DONE = 0,           /* all                done */
-    TESSLA_TEXT_LONG = 1,      /* load               the text is longer than 2048 bytes */
+    TESSLA_TEXT_LONG = 1,      /* load               the text is longer than 4096 bytes */
     TESSLA_TEXT_FORM = 2,      /* load               wrong key, wrong form, a line missing, or bytes left over */
-    TESSLA_TEXT_STREAMS = 3,   /* load               streams is 0 or above 32 */
+    TESSLA_TEXT_STREAMS = 3,   /* load               streams is 0 or above the state's limit: 32 in 12288 bytes, 64 in 20480 */
     TESSLA_TEXT_OPERATOR = 4,  /* load               one to five small letters that name no operator */
     TESSLA_TEXT_FIELD = 5,     /* load               an unused field not 0, an argument not below streams, or out=1 on in */
     TESSLA_TEXT_CYCLE = 6,     /* load               a cycle without the first argument of a last or a delay */
@@ -148,7 +169,8 @@ enum tessla_number {
     TESSLA_CANNOT_MOVE = 12,   /* move               the equation cannot move now */
     TESSLA_NO_OUTPUT = 13,     /* collect            no such stream, or out=0 */
     TESSLA_NOTHING = 14,       /* collect            nothing waits to be collected */
-    TESSLA_BAD_STATE = 15,     /* all on a state     wrong state length; but for load also contents that are no state */
+    TESSLA_BAD_STATE = 15,     /* all on a state     wrong state length; but for load also contents that are no state; of widen each
+                                                     buffer has one length alone */
     TESSLA_BAD_WRITE = 17,     /* register calls     the block is not 24 bytes long; a write to bytes 17, 20 to 23 or beyond, or of
                                                      a command other than 1 to 3. (16 is the replay program's.) */
     TESSLA_TEXT_WINDOW = 18,   /* load               the k of a wsum, wmin or wmax is not 1 to 64, or there are more than eight */
@@ -232,6 +254,19 @@ uint32_t tessla_plan_text(const uint8_t *state, uint64_t state_length, uint8_t *
  * was saved before 1.8 counts from its first move on. Each count stops at 4294967295 by itself.
  */
 uint32_t tessla_missing(const uint8_t *state, uint64_t state_length, uint32_t stream, uint32_t *outside, uint32_t *zero);
+
+/*
+ * Widen: copies a state of TESSLA_STATE_LENGTH bytes, `from`, into a buffer of TESSLA_LONG_STATE_LENGTH bytes, `to`, where it goes on
+ * from the same point. What the buffer held before does not matter.
+ * Number: 15, from is not TESSLA_STATE_LENGTH bytes long, to is not TESSLA_LONG_STATE_LENGTH bytes long, or from is no state; then no
+ * byte of either changes. Done: every byte of `to` is written, and `from` stays as it is. The records of the 32 streams are at the
+ * front, as they were, those of the 32 that are new are 0, and what the windows keep lies behind all 64. A state without a plan, all
+ * zeros, becomes zeros.
+ *
+ * Both states have had the calls made up to here, and go on apart. The same calls on both return the same numbers and results, with
+ * one exception: load takes 33 to 64 streams into the longer one. There is no call back.
+ */
+uint32_t tessla_widen(const uint8_t *from, uint64_t from_length, uint8_t *to, uint64_t to_length);
 
 /*
  * The block of registers: TESSLA_BLOCK_LENGTH bytes that the firmware owns and lends beside a state. A number lies with its least
@@ -318,44 +353,64 @@ uint32_t tessla_register_line(const uint8_t *block, uint64_t block_length, uint3
  * i has the record of TESSLA_RECORD bytes at i * TESSLA_RECORD; its first byte is 0 if there is no such stream and 28 to 30 if
  * it is a window, its byte 3 is 1 if it is an output, its bytes 16 to 23 are its bound, its bytes 56 to 59 and 60 to 63 the two
  * counts of tessla_missing. The values of the plan's j-th window, counted from 0 by stream number, lie at TESSLA_WINDOWS + j *
- * TESSLA_WINDOW, the oldest first, 8 bytes each, as many as byte 5 of its record says; all other bytes there are 0.
+ * TESSLA_WINDOW, the oldest first, 8 bytes each, as many as byte 5 of its record says; all other bytes there are 0. In a state of
+ * TESSLA_LONG_STATE_LENGTH bytes they lie from TESSLA_LONG_WINDOWS on.
+ *
+ * What ends in _in takes the length as the calls do, and reads a state of either. Without that ending it is of a state of
+ * TESSLA_STATE_LENGTH bytes. Of another length nothing is read, and the answer is that of a state without a plan.
  */
 #define TESSLA_RECORD 256
 #define TESSLA_WINDOWS (TESSLA_STREAM_LIMIT * TESSLA_RECORD)
+#define TESSLA_LONG_WINDOWS (TESSLA_LONG_STREAM_LIMIT * TESSLA_RECORD)
 #define TESSLA_WINDOW 512
 
+/* How many streams a state of this length has room for; 0 of a length that no state has. */
+static inline uint32_t tessla_limit(uint64_t state_length) {
+    return state_length == TESSLA_STATE_LENGTH        ? TESSLA_STREAM_LIMIT
+           : state_length == TESSLA_LONG_STATE_LENGTH ? TESSLA_LONG_STREAM_LIMIT
+                                                      : 0;
+}
+
 /* Whether a stream is an output. To ask before a collect costs nothing; a collect that is refused 13 costs a millisecond. */
+static inline int tessla_is_output_in(const uint8_t *state, uint64_t state_length, uint32_t stream) {
+    return stream < tessla_limit(state_length) && state[stream * TESSLA_RECORD + 3] == 1;
+}
+
 static inline int tessla_is_output(const uint8_t *state, uint32_t stream) {
-    return stream < TESSLA_STREAM_LIMIT && state[stream * TESSLA_RECORD + 3] == 1;
+    return tessla_is_output_in(state, TESSLA_STATE_LENGTH, stream);
 }
 
 /* How many streams the plan has; 0 of a state without a plan. */
-static inline uint32_t tessla_streams(const uint8_t *state) {
+static inline uint32_t tessla_streams_in(const uint8_t *state, uint64_t state_length) {
     uint32_t n = 0;
-    while (n < TESSLA_STREAM_LIMIT && state[n * TESSLA_RECORD] != 0) n++;
+    while (n < tessla_limit(state_length) && state[n * TESSLA_RECORD] != 0) n++;
     return n;
 }
+
+static inline uint32_t tessla_streams(const uint8_t *state) { return tessla_streams_in(state, TESSLA_STATE_LENGTH); }
 
 /*
  * How many bytes of the state are used, from its beginning; all behind them is 0. Of a state without a plan none: to put it back,
  * fill it with 0. Of a plan without windows its records; of one with windows all up to the end of the last.
  */
-static inline uint32_t tessla_used_length(const uint8_t *state) {
-    uint32_t n = tessla_streams(state), windows = 0;
+static inline uint32_t tessla_used_length_in(const uint8_t *state, uint64_t state_length) {
+    uint32_t n = tessla_streams_in(state, state_length), windows = 0;
     for (uint32_t stream = 0; stream < n; stream++) {
         uint8_t number = state[stream * TESSLA_RECORD];
         if (number >= 28 && number <= 30) windows++;
     }
-    return windows == 0 ? n * TESSLA_RECORD : TESSLA_WINDOWS + windows * TESSLA_WINDOW;
+    return windows == 0 ? n * TESSLA_RECORD : tessla_limit(state_length) * TESSLA_RECORD + windows * TESSLA_WINDOW;
 }
+
+static inline uint32_t tessla_used_length(const uint8_t *state) { return tessla_used_length_in(state, TESSLA_STATE_LENGTH); }
 
 /*
  * The sum of the bounds of all streams. A move, and an offer that makes an input known further, make it greater, and no call but
  * load makes it less: if it is the same after a run as before, the run made no move.
  */
-static inline uint64_t tessla_bounds(const uint8_t *state) {
+static inline uint64_t tessla_bounds_in(const uint8_t *state, uint64_t state_length) {
     uint64_t sum = 0;
-    for (uint32_t stream = 0; stream < TESSLA_STREAM_LIMIT; stream++) {
+    for (uint32_t stream = 0; stream < tessla_limit(state_length); stream++) {
         uint64_t bound = 0;
         for (uint32_t end = 24; end > 16; end--) bound = bound << 8 | state[stream * TESSLA_RECORD + end - 1];
         sum += bound;
@@ -363,13 +418,15 @@ static inline uint64_t tessla_bounds(const uint8_t *state) {
     return sum;
 }
 
+static inline uint64_t tessla_bounds(const uint8_t *state) { return tessla_bounds_in(state, TESSLA_STATE_LENGTH); }
+
 #ifdef TESSLA_TEXTS
 /* The numbers in words, for a log or a screen: define TESSLA_TEXTS before the header is included. */
 #define TESSLA_EACH_TEXT(X) \
     X(0, "done") \
-    X(1, "the plan text is longer than 2048 bytes") \
+    X(1, "the plan text is longer than 4096 bytes") \
     X(2, "a line of the plan has the wrong key or form, is missing, or bytes are left over") \
-    X(3, "streams is 0 or above 32") \
+    X(3, "streams is 0 or above what the state has room for: 32 in 12288 bytes, 64 in 20480") \
     X(4, "no operator has this name") \
     X(5, "an unused field is not 0, an argument names a stream that is not there, or an input is marked out=1") \
     X(6, "a cycle without the first argument of a last or a delay") \

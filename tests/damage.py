@@ -65,19 +65,32 @@ def by_field(draw, rows):
     rows[place] = op, a, b, k, out
 
 
+def ring(draw, count):
+    """Streams of which each reads the next, in a hidden order, closed to a ring or open, with an input at its end."""
+    names = list(range(count))
+    draw.shuffle(names)
+    rows = [None] * count
+    for s, after in zip(names, names[1:] + names[:1]):
+        rows[s] = "neg", after, 0, 0, draw.random() < 0.2
+    if draw.random() < 0.5:
+        rows[names[-1]] = "in", 0, 0, 0, False
+    return rows
+
+
 def texts(draw, rounds):
     """So many texts: of the plans under plans/ and of random plans, with none to three edits."""
     good = [open(path, encoding="ascii").read() for path in sorted(glob.glob("plans/*/plan.txt"))]
     for turn in range(rounds):
         if turn % 50 == 0:
-            # at and above the greatest length
-            yield (draw.choice(good) + "x" * 2048).encode()[:2047 + turn // 50 % 4]
+            # at and above the greatest length, and the one that was it before the longer state
+            yield (draw.choice(good) + "x" * 4096).encode()[:draw.choice([2047, 4095]) + turn // 50 % 4]
             continue
         if turn % 25 == 1:
             yield draw.choice(FEW)
             continue
         if turn % 3 == 0:
-            rows = random_plan(draw, draw.choice([1, 2, 5, 12, 32, 33]))
+            count = draw.choice([1, 2, 5, 12, 32, 33, 47, 64, 65])
+            rows = ring(draw, count) if draw.random() < 0.1 else random_plan(draw, count)
             if draw.random() < 0.1:
                 # about as many windows as are taken
                 for place in draw.sample(range(len(rows)), min(len(rows), draw.randrange(7, 11))):

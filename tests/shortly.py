@@ -30,6 +30,12 @@ def spelled(rows, s):
     return rows[:s] + [(op[1:], n + 1, n + 3, k, out)] + rows[s + 1:] + four
 
 
+def random_count(draw, least, above):
+    """How many streams a plan is to have: at least `least` and below `above`; of one in sixteen 33 to 64, which only the longer state
+    takes."""
+    return draw.randrange(33, 65) if draw.random() < 1 / 16 else draw.randrange(least, above)
+
+
 def random_plan(draw, count):
     """A plan that load takes: undelayed arguments are earlier streams in a hidden order, delayed ones any. One in ten has as many
     windows as there is room for."""

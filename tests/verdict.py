@@ -44,7 +44,7 @@ def take(lines, place, key, stream):
 
 def read(text):
     """The rows (op, a, b, k, out) of a text that passes numbers 1 to 4."""
-    if len(text) > 2048:
+    if len(text) > 4096:
         raise Fault(1, 0, 0)
     # "An empty plan text now means a plan of no streams"
     if not text:
@@ -52,7 +52,7 @@ def read(text):
     lines = re.findall(rb"[^\n]*\n|[^\n]+", text)
     take(lines, 0, "plan", 0)
     count = int(take(lines, 1, "streams", 0))
-    if not 1 <= count <= 32:
+    if not 1 <= count <= 64:
         raise Fault(3, 2, 0)
     rows = []
     for stream in range(count):

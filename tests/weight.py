@@ -1,8 +1,8 @@
 #!/usr/bin/env python3
-"""The day of plans/weight, the evening of plans/light, the night of plans/hill and the weighings of plans/curve, apart from the
-engine: the day's readings, and what must be printed of all four, by the arithmetic of the questions. Without an argument it compares
-the files with this; `tests/weight.py --write` writes the day's readings-0.txt, readings-1.txt and expected.txt. Run at the top of the
-repository."""
+"""The day of plans/weight, the evening of plans/light, the night of plans/hill, the weighings of plans/curve and the visits of
+plans/colony, apart from the engine: the day's readings, and what must be printed of all five, by the arithmetic of the questions.
+Without an argument it compares the files with this; `tests/weight.py --write` writes the day's readings-0.txt, readings-1.txt and
+expected.txt. Run at the top of the repository."""
 import re
 import sys
 from fractions import Fraction
@@ -120,6 +120,40 @@ def perch(trace):
     return lines
 
 
+# ---- plans/colony
+
+BOXES = 10
+
+
+def colony(trace):
+    """What the lines of a trace print: with a box's own line its visits so far, at stamp 0 and at each visit; then what hangs on all
+    boxes, as far as the one known least: the visits of all together wherever one had a visit, and at each full hour those of the hour,
+    the most of an hour and the mean of the last four hours."""
+    known, visits, lines = [0] * BOXES, [[] for _ in range(BOXES)], []
+    told, hours = 0, []
+    for line in trace:
+        s, bound, stamp = re.fullmatch(r"s=(\d+) (?:p=(\d+)|t=(\d+) v=\d+)\n", line).groups()
+        box = int(s) // 4
+        fresh = [(0, 0)] if known[box] == 0 else []
+        known[box] = int(bound) if bound else int(stamp) + 1
+        if stamp:
+            visits[box].append(int(stamp))
+            fresh.append((int(stamp), len(visits[box])))
+        lines += ["s=%d t=%d v=%d\n" % (4 * box + 4, t, v) for t, v in fresh]
+        before, told = told, min(known)
+        all_visits = [t for stamps in visits for t in stamps]
+        for t in sorted({0, *all_visits}):
+            if before <= t < told:
+                lines.append("s=49 t=%d v=%d\n" % (t, sum(x <= t for x in all_visits)))
+        # what lies strictly before a full hour is known as soon as all boxes are known to it
+        full = [HOUR * (n + 1) for n in range(len(hours), told // HOUR)]
+        hours += [sum(t - HOUR <= x < t for x in all_visits) for t in full]
+        latest = [hours[max(0, t // HOUR - 4):t // HOUR] for t in full]
+        for s, results in ((57, [four[-1] for four in latest]), (58, map(max, latest)), (62, [quotient(sum(four), len(four)) for four in latest])):
+            lines += ["s=%d t=%d v=%d\n" % (s, t, v) for t, v in zip(full, results)]
+    return lines
+
+
 def compare(folder, printed):
     """What is worked out of a folder's trace stands in its expected.txt; gives how many lines that are."""
     with open(folder + "/trace.txt", encoding="ascii") as file:
@@ -141,6 +175,7 @@ def main(write):
     print("the evening of plans/light: %d answers" % compare("plans/light", evening))
     print("the night of plans/hill: %d means" % compare("plans/hill", night))
     print("the weighings of plans/curve: %d lines" % compare("plans/curve", perch))
+    print("the visits of plans/colony: %d lines" % compare("plans/colony", colony))
 
 
 if __name__ == "__main__":

@@ -1,6 +1,6 @@
-"""Warnings about a plan that load takes: what it does is settled, but hardly what was meant."""
+"""Warnings about a plan that load takes: what it does is settled, but hardly what was meant. And what a logger has to have for it."""
 from events import ANY, NEVER, NONE, clocks, possible, row, sets
-from plans import CALCULATIONS, LAST_STAMP, ONE_ARGUMENT, SIGNALS, inputs, reached, readers, reads, sources, windows
+from plans import CALCULATIONS, FEWER_STREAMS, LAST_STAMP, ONE_ARGUMENT, SIGNALS, inputs, reached, readers, reads, sources, windows
 from words import joined
 
 # a timer that rings no more often than this has an end in sight
@@ -274,6 +274,17 @@ def nowhere(plan, told):
             told |= ahead[s]
             said.append((s, among_themselves(ahead[s] - {s})))
     return said
+
+
+# ---- what a logger has to have for it
+
+def longer_state(plan):
+    """Of a plan that only the longer state has room for, in words; None of any other."""
+    if len(plan) <= FEWER_STREAMS:
+        return None
+    return (
+        "note: more than %d streams take the longer state, of 20480 bytes: a logger whose firmware lends 12288 refuses this plan "
+        'with 3; see "More than 32 streams" in docs/MANUAL.md' % FEWER_STREAMS)
 
 
 # ---- all of them

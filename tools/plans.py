@@ -10,8 +10,10 @@ TOP = os.path.dirname(os.path.dirname(os.path.realpath(__file__)))
 LAST_STAMP = 4294967295
 HORIZON = LAST_STAMP + 1
 LEAST, GREATEST = -2**63, 2**63 - 1
-TEXT = 2048
-STREAMS = 32
+TEXT = 4096
+STREAMS = 64
+# as many as the shorter of the two states has room for
+FEWER_STREAMS = 32
 WIDEST = 64
 MOST_WINDOWS = 8
 

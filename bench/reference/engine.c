@@ -8,9 +8,11 @@
 #include <stddef.h>
 #include <string.h>
 
-enum { STREAMS = 32, ROOM = 16, RECORD = 256, EVENTS = 64, SLOT = 12, STATE = 12288, TEXT = 2048 };
-/* windows: how many, their greatest width, the bytes of one, and where the first lies, behind the records */
-enum { WINDOWS = 8, WIDEST = 64, WINDOW = 8 * WIDEST, AT_WINDOWS = STREAMS * RECORD };
+enum { MOST = 64, ROOM = 16, RECORD = 256, EVENTS = 64, SLOT = 12, TEXT = 4096 };
+/* windows: how many, their greatest width, the bytes of one and of all; they lie behind the records, up to the state's end */
+enum { WINDOWS = 8, WIDEST = 64, WINDOW = 8 * WIDEST, BEHIND = WINDOWS * WINDOW };
+/* the two lengths of a state, for 32 streams and for 64 */
+enum { SHORT = 32 * RECORD + BEHIND, LONG = MOST * RECORD + BEHIND };
 #define HORIZON UINT64_C(4294967296)
 
 enum op {
@@ -111,11 +113,21 @@ static unsigned fill_of(const uint8_t *r) { return r[5]; }
 static unsigned width_of(const uint8_t *r) { return (unsigned)k_of(r); }
 static int64_t value_in(const uint8_t *w, unsigned i) { return value_of(get8(w + 8 * i)); }
 
+/* of a state that has a right length: how many streams there is room for, its cap */
+static unsigned cap_of(uint64_t length) { return (unsigned)(length - BEHIND) / RECORD; }
+static bool length_good(uint64_t length) { return length == SHORT || length == LONG; }
+
+/* a state that a call works on: its bytes, how many streams it has and how many it has room for */
+struct plan {
+    uint8_t *state;
+    unsigned n, cap;
+};
+
 /* where the values of a window lie, by its rank among the plan's windows */
-static unsigned window_at(const uint8_t *state, const uint8_t *o) {
+static uint8_t *window_of(struct plan p, const uint8_t *o) {
     unsigned rank = 0;
-    for (const uint8_t *r = state; r < o; r += RECORD) rank += is_window(op_of(r));
-    return AT_WINDOWS + WINDOW * rank;
+    for (const uint8_t *r = p.state; r < o; r += RECORD) rank += is_window(op_of(r));
+    return p.state + RECORD * p.cap + WINDOW * rank;
 }
 
 /* the number of held events below stamp t: the place of the first one at t or later */
@@ -171,8 +183,8 @@ static bool fields_good(unsigned op, unsigned a, unsigned b, bool k_is_0, unsign
 static bool width_good(uint64_t k) { return k >= 1 && k <= WIDEST; }
 
 struct edges {
-    uint8_t count[STREAMS];
-    uint8_t to[STREAMS][2];
+    uint8_t count[MOST];
+    uint8_t to[MOST][2];
 };
 
 static void note(struct edges *e, unsigned s, unsigned op, unsigned a, unsigned b) {
@@ -193,7 +205,7 @@ static bool clear(const struct edges *e, uint8_t *colour, unsigned s) {
 }
 
 static bool no_cycle(const struct edges *e, unsigned n) {
-    uint8_t colour[STREAMS] = { 0 };
+    uint8_t colour[MOST] = { 0 };
     for (unsigned s = 0; s < n; s++)
         if (!clear(e, colour, s)) return false;
     return true;
@@ -242,9 +254,9 @@ static bool record_good(const uint8_t *r, unsigned n) {
 
 /* whether these bytes are a state, else it is refused 15; and how many streams it has, all bytes 0 being a state of none */
 static bool is_state(const uint8_t *state, uint64_t length, unsigned *streams) {
-    if (length != STATE) return false;
-    unsigned n = 0;
-    while (n < STREAMS && state[RECORD * n] != 0) n++;
+    if (!length_good(length)) return false;
+    unsigned n = 0, cap = cap_of(length);
+    while (n < cap && state[RECORD * n] != 0) n++;
     struct edges e;
     /* what lies behind the last value of each window is 0, up to the next one */
     unsigned windows = 0;
@@ -255,12 +267,20 @@ static bool is_state(const uint8_t *state, uint64_t length, unsigned *streams) {
         note(&e, s, op_of(r), arg_a(r), arg_b(r));
         if (!is_window(op_of(r))) continue;
         if (windows == WINDOWS) return false;
-        const uint8_t *w = state + AT_WINDOWS + WINDOW * windows++;
+        const uint8_t *w = state + RECORD * cap + WINDOW * windows++;
         if (!all_zero(behind, (size_t)(w - behind))) return false;
         behind = w + 8 * fill_of(r);
     }
     *streams = n;
-    return all_zero(behind, (size_t)(state + STATE - behind)) && no_cycle(&e, n);
+    return all_zero(behind, (size_t)(state + length - behind)) && no_cycle(&e, n);
+}
+
+/* the same of bytes that a call may change */
+static bool is_plan(uint8_t *state, uint64_t length, struct plan *p) {
+    unsigned n;
+    if (!is_state(state, length, &n)) return false;
+    *p = (struct plan){ state, n, cap_of(length) };
+    return true;
 }
 
 /* ---- load */
@@ -331,18 +351,18 @@ struct line {
 };
 
 uint32_t ref_load(uint8_t *state, uint64_t state_length, const uint8_t *text, uint64_t text_length) {
-    if (state_length != STATE) return 15;
+    if (!length_good(state_length)) return 15;
     if (text_length > TEXT) return 1;
     /* the plan of no streams */
     if (text_length == 0) {
-        memset(state, 0, STATE);
+        memset(state, 0, (size_t)state_length);
         return 0;
     }
     struct text t = { text, text_length, 0 };
-    struct line lines[STREAMS];
+    struct line lines[MOST];
     uint64_t n;
     if (!take(&t, "plan=1\n") || !small_line(&t, "streams=", 999, &n)) return 2;
-    if (n == 0 || n > STREAMS) return 3;
+    if (n == 0 || n > cap_of(state_length)) return 3;
     for (unsigned s = 0; s < n; s++) {
         struct line *l = &lines[s];
         uint32_t fault = operator_line(&t, &l->op);
@@ -363,7 +383,7 @@ uint32_t ref_load(uint8_t *state, uint64_t state_length, const uint8_t *text, ui
         if (!width_good(lines[s].k) || windows++ == WINDOWS) return 18;
     }
     if (!no_cycle(&e, (unsigned)n)) return 6;
-    memset(state, 0, STATE);
+    memset(state, 0, (size_t)state_length);
     for (unsigned s = 0; s < n; s++) {
         uint8_t *r = state + RECORD * s;
         r[0] = (uint8_t)lines[s].op;
@@ -591,15 +611,15 @@ static struct next delay_next(const uint8_t *o, const uint8_t *a, const uint8_t 
     return silent(most(y, limit));
 }
 
-static struct next next_of(const uint8_t *state, const uint8_t *o) {
-    const uint8_t *a = state + RECORD * arg_a(o), *b = state + RECORD * arg_b(o);
+static struct next next_of(struct plan p, const uint8_t *o) {
+    const uint8_t *a = p.state + RECORD * arg_a(o), *b = p.state + RECORD * arg_b(o);
     unsigned op = op_of(o);
     if (op == NIL || (op == UNIT && bound_of(o) > 0)) return silent(HORIZON);
     if (op == UNIT) return found(0, 0);
     if (op == LAST) return last_next(o, a, b);
     if (op == DELAY) return delay_next(o, a, b);
     if (is_signal(op)) return signal_next(o, a, b);
-    if (is_window(op)) return window_next(o, state + window_at(state, o), a);
+    if (is_window(op)) return window_next(o, window_of(p, o), a);
     return uses_b(op) ? two_next(o, a, b) : one_next(o, a);
 }
 
@@ -609,12 +629,12 @@ static bool reads(const uint8_t *r, unsigned s) {
     return (uses_a(op_of(r)) && arg_a(r) == s) || (uses_b(op_of(r)) && arg_b(r) == s);
 }
 
-static void release(uint8_t *state, unsigned n, unsigned s) {
-    uint8_t *o = state + RECORD * s;
+static void release(struct plan p, unsigned s) {
+    uint8_t *o = p.state + RECORD * s;
     uint64_t waiting = is_out(o) ? mark_of(o) : HORIZON;
     if (held(o) == 0) return;
-    for (unsigned i = 0; i < n; i++) {
-        const uint8_t *r = state + RECORD * i;
+    for (unsigned i = 0; i < p.n; i++) {
+        const uint8_t *r = p.state + RECORD * i;
         if (reads(r, s)) waiting = least(waiting, bound_of(r));
     }
     unsigned gone = place(o, waiting), left = held(o) - gone;
@@ -672,8 +692,8 @@ static void move_window(uint8_t *o, uint8_t *w, const uint8_t *a, uint64_t y) {
 }
 
 /* the bound of stream s goes to y, with or without an event (t, v) */
-static void raise(uint8_t *state, unsigned n, unsigned s, uint64_t y, bool event, uint64_t t, int64_t v) {
-    uint8_t *o = state + RECORD * s;
+static void raise(struct plan p, unsigned s, uint64_t y, bool event, uint64_t t, int64_t v) {
+    uint8_t *o = p.state + RECORD * s, *a = p.state + RECORD * arg_a(o), *b = p.state + RECORD * arg_b(o);
     uint64_t before = bound_of(o);
     put8(o + 16, y);
     if (event) {
@@ -682,13 +702,13 @@ static void raise(uint8_t *state, unsigned n, unsigned s, uint64_t y, bool event
         put8(slot + 4, (uint64_t)v);
         o[4]++;
     }
-    absorb(o, state + RECORD * arg_a(o), state + RECORD * arg_b(o));
-    if (is_window(op_of(o))) move_window(o, state + window_at(state, o), state + RECORD * arg_a(o), before);
+    absorb(o, a, b);
+    if (is_window(op_of(o))) move_window(o, window_of(p, o), a, before);
     if (event)
-        for (unsigned i = 0; i < n; i++) tell(state + RECORD * i, s, t, v);
-    release(state, n, s);
-    if (uses_a(op_of(o))) release(state, n, arg_a(o));
-    if (uses_b(op_of(o))) release(state, n, arg_b(o));
+        for (unsigned i = 0; i < p.n; i++) tell(p.state + RECORD * i, s, t, v);
+    release(p, s);
+    if (uses_a(op_of(o))) release(p, arg_a(o));
+    if (uses_b(op_of(o))) release(p, arg_b(o));
 }
 
 /* "each count stopping at 4,294,967,295" */
@@ -697,34 +717,34 @@ static void count(uint8_t *p, uint32_t more) {
 }
 
 /* moves equation s if it can; all missing events that were found lie below its new bound, be it t or t + 1 */
-static bool moved(uint8_t *state, unsigned n, unsigned s) {
-    uint8_t *o = state + RECORD * s;
+static bool moved(struct plan p, unsigned s) {
+    uint8_t *o = p.state + RECORD * s;
     if (op_of(o) == IN) return false;
-    struct next x = next_of(state, o);
+    struct next x = next_of(p, o);
     bool event = x.event && held(o) < ROOM;
     uint64_t y = event ? x.t + 1 : x.t;
     if (y == bound_of(o)) return false;
     count(o + 56, x.outside);
     count(o + 60, x.zero);
-    raise(state, n, s, y, event, x.t, x.v);
+    raise(p, s, y, event, x.t, x.v);
     return true;
 }
 
-/* ---- the calls on a state of n streams */
+/* ---- the calls on a state */
 
-static uint32_t offered(uint8_t *state, unsigned n, uint32_t stream, uint32_t stamp, int64_t value) {
-    if (stream >= n || state[RECORD * stream] != IN) return 7;
-    const uint8_t *o = state + RECORD * stream;
+static uint32_t offered(struct plan p, uint32_t stream, uint32_t stamp, int64_t value) {
+    if (stream >= p.n || p.state[RECORD * stream] != IN) return 7;
+    const uint8_t *o = p.state + RECORD * stream;
     if (stamp < bound_of(o)) return 8;
     if (held(o) >= ROOM) return 9;
-    raise(state, n, stream, (uint64_t)stamp + 1, true, stamp, value);
+    raise(p, stream, (uint64_t)stamp + 1, true, stamp, value);
     return 0;
 }
 
-static uint32_t run_of(uint8_t *state, unsigned n, uint32_t most_moves) {
+static uint32_t run_of(struct plan p, uint32_t most_moves) {
     uint32_t moves = 0;
-    for (unsigned s = 0; s < n && moves < most_moves;) {
-        if (moved(state, n, s)) {
+    for (unsigned s = 0; s < p.n && moves < most_moves;) {
+        if (moved(p, s)) {
             moves++;
             s = 0;
         } else {
@@ -738,23 +758,23 @@ static uint32_t run_of(uint8_t *state, unsigned n, uint32_t most_moves) {
 static unsigned oldest(const uint8_t *o) { return place(o, mark_of(o)); }
 
 /* stamp and value are written only where it is done */
-static uint32_t collected(uint8_t *state, unsigned n, uint32_t stream, uint32_t *stamp, int64_t *value) {
-    if (stream >= n || !is_out(state + RECORD * stream)) return 13;
-    uint8_t *o = state + RECORD * stream;
+static uint32_t collected(struct plan p, uint32_t stream, uint32_t *stamp, int64_t *value) {
+    if (stream >= p.n || !is_out(p.state + RECORD * stream)) return 13;
+    uint8_t *o = p.state + RECORD * stream;
     unsigned j = oldest(o);
     if (j == held(o)) return 14;
     *stamp = stamp_at(o, j);
     *value = value_at(o, j);
     put8(o + 24, (uint64_t)*stamp + 1);
-    release(state, n, stream);
+    release(p, stream);
     return 0;
 }
 
 /* ---- the other calls */
 
 uint32_t ref_offer_reading(uint8_t *state, uint64_t state_length, uint32_t stream, uint32_t stamp, int64_t value) {
-    unsigned n;
-    return is_state(state, state_length, &n) ? offered(state, n, stream, stamp, value) : 15;
+    struct plan p;
+    return is_plan(state, state_length, &p) ? offered(p, stream, stamp, value) : 15;
 }
 
 uint32_t ref_offer_progress(uint8_t *state, uint64_t state_length, uint32_t stream, uint64_t bound) {
@@ -769,25 +789,36 @@ uint32_t ref_offer_progress(uint8_t *state, uint64_t state_length, uint32_t stre
 }
 
 uint32_t ref_move(uint8_t *state, uint64_t state_length, uint32_t stream) {
-    unsigned n;
-    if (!is_state(state, state_length, &n)) return 15;
-    if (stream >= n || state[RECORD * stream] == IN) return 11;
-    return moved(state, n, stream) ? 0 : 12;
+    struct plan p;
+    if (!is_plan(state, state_length, &p)) return 15;
+    if (stream >= p.n || state[RECORD * stream] == IN) return 11;
+    return moved(p, stream) ? 0 : 12;
 }
 
 uint32_t ref_run(uint8_t *state, uint64_t state_length, uint32_t n, uint32_t *moves) {
     *moves = 0;
-    unsigned count;
-    if (!is_state(state, state_length, &count)) return 15;
-    *moves = run_of(state, count, n);
+    struct plan p;
+    if (!is_plan(state, state_length, &p)) return 15;
+    *moves = run_of(p, n);
     return 0;
 }
 
 uint32_t ref_collect(uint8_t *state, uint64_t state_length, uint32_t stream, uint32_t *stamp, int64_t *value) {
     *stamp = 0;
     *value = 0;
+    struct plan p;
+    return is_plan(state, state_length, &p) ? collected(p, stream, stamp, value) : 15;
+}
+
+/* ---- widen: the records where they were, zeros for those that are new, and the windows behind all of them */
+
+uint32_t ref_widen(const uint8_t *from, uint64_t from_length, uint8_t *to, uint64_t to_length) {
     unsigned n;
-    return is_state(state, state_length, &n) ? collected(state, n, stream, stamp, value) : 15;
+    if (from_length != SHORT || to_length != LONG || !is_state(from, from_length, &n)) return 15;
+    memcpy(to, from, SHORT - BEHIND);
+    memset(to + SHORT - BEHIND, 0, LONG - SHORT);
+    memcpy(to + LONG - BEHIND, from + SHORT - BEHIND, BEHIND);
+    return 0;
 }
 
 /* ---- missing */
@@ -879,37 +910,37 @@ static uint32_t ended(uint8_t *block, uint32_t number) {
     return number;
 }
 
-static bool output_waits(const uint8_t *state, unsigned n) {
-    for (unsigned s = 0; s < n; s++) {
-        const uint8_t *o = state + RECORD * s;
+static bool output_waits(struct plan p) {
+    for (unsigned s = 0; s < p.n; s++) {
+        const uint8_t *o = p.state + RECORD * s;
         if (is_out(o) && oldest(o) < held(o)) return true;
     }
     return false;
 }
 
-/* a command on a state of n streams; "value and reply stamp are filled, or stay if refused" */
-static uint32_t started(uint8_t *state, unsigned n, uint8_t *block) {
+/* a command on a state; "value and reply stamp are filled, or stay if refused" */
+static uint32_t started(struct plan p, uint8_t *block) {
     uint32_t stream = get4(block + AT_STREAM), stamp;
     int64_t value;
     switch (block[AT_COMMAND]) {
-    case OFFER: return offered(state, n, stream, get4(block + AT_STAMP), value_of(get8(block + AT_VALUE)));
+    case OFFER: return offered(p, stream, get4(block + AT_STAMP), value_of(get8(block + AT_VALUE)));
     case COLLECT: {
-        uint32_t number = collected(state, n, stream, &stamp, &value);
+        uint32_t number = collected(p, stream, &stamp, &value);
         if (number != 0) return number;
         put8(block + AT_VALUE, (uint64_t)value);
         put4(block + AT_REPLY, stamp);
         return 0;
     }
-    default: run_of(state, n, BUDGET); return 0;
+    default: run_of(p, BUDGET); return 0;
     }
 }
 
 /* apart, so that a plain write pays nothing for it */
 static __attribute__((noinline)) uint32_t commanded(uint8_t *state, uint64_t state_length, uint8_t *block) {
-    unsigned n;
-    if (!is_state(state, state_length, &n)) return ended(block, 15);
-    uint32_t number = started(state, n, block);
-    if (output_waits(state, n)) block[AT_FLAGS] |= WAITING;
+    struct plan p;
+    if (!is_plan(state, state_length, &p)) return ended(block, 15);
+    uint32_t number = started(p, block);
+    if (output_waits(p)) block[AT_FLAGS] |= WAITING;
     return ended(block, number);
 }
 

@@ -10,6 +10,7 @@
 #define tessla_collect ref_collect
 #define tessla_plan_text ref_plan_text
 #define tessla_missing ref_missing
+#define tessla_widen ref_widen
 #define tessla_register_write ref_register_write
 #define tessla_register_line ref_register_line
 #include "../../include/tessla.h"

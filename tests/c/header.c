@@ -1,5 +1,5 @@
 /*
- * What include/tessla.h says of a state's bytes without a call, against the calls; its places, commands and flags, against writes
+ * What include/tessla.h says of a state's bytes without a call, of either length, against the calls; its places, commands and flags, against writes
  * to a block; the lengths of plan texts, against the texts that come back; its table of what counts missing events, against every
  * operator; and its texts of the numbers.
  */
@@ -11,6 +11,7 @@
 #include "../../examples/logger_plan.h"
 
 static uint8_t state[TESSLA_STATE_LENGTH];
+static uint8_t longer[TESSLA_LONG_STATE_LENGTH];
 static uint8_t block[TESSLA_BLOCK_LENGTH];
 static int faults;
 
@@ -27,17 +28,25 @@ static uint32_t make(char *text, uint32_t n) {
     return at;
 }
 
-/* the loaded plan has n streams, and so many bytes of the state are used */
-static void look_used(uint32_t n, uint32_t used) {
+/* the plan loaded into a state of this length has n streams, and so many bytes of the state are used */
+static void look_used_in(uint8_t *any, uint32_t length, uint32_t n, uint32_t used) {
     uint32_t stamp;
     int64_t value;
-    expect(tessla_streams(state) == n, "the number of streams", n);
-    expect(tessla_used_length(state) == used, "the bytes used", n);
-    for (uint32_t i = tessla_used_length(state); i < TESSLA_STATE_LENGTH; i++) expect(state[i] == 0, "a byte behind the used ones", i);
+    expect(tessla_streams_in(any, length) == n, "the number of streams", n);
+    expect(tessla_used_length_in(any, length) == used, "the bytes used", n);
+    for (uint32_t i = tessla_used_length_in(any, length); i < length; i++) expect(any[i] == 0, "a byte behind the used ones", i);
     for (uint32_t i = 0; i < 300; i++) {
-        uint32_t number = tessla_collect(state, sizeof state, i, &stamp, &value);
-        expect(tessla_is_output(state, i) == (number != TESSLA_NO_OUTPUT), "whether a stream is an output", i);
+        uint32_t number = tessla_collect(any, length, i, &stamp, &value);
+        expect(tessla_is_output_in(any, length, i) == (number != TESSLA_NO_OUTPUT), "whether a stream is an output", i);
     }
+}
+
+/* of a state of the shorter length the shorter names say the same */
+static void look_used(uint32_t n, uint32_t used) {
+    look_used_in(state, sizeof state, n, used);
+    expect(tessla_streams(state) == n && tessla_used_length(state) == used, "the shorter names", n);
+    expect(tessla_bounds(state) == tessla_bounds_in(state, sizeof state), "the shorter name of the bounds", n);
+    for (uint32_t i = 0; i < 300; i++) expect(tessla_is_output(state, i) == tessla_is_output_in(state, sizeof state, i), "the shorter name", i);
 }
 
 /* the call once more: with another prototype in the header this does not compile. The state is lent to be read only */
@@ -72,15 +81,34 @@ static void look_at_text(const char *text, uint32_t n) {
     expect(memcmp(before, state, sizeof before) == 0, "the state after its text", n);
 }
 
-/* the longest text: 31 streams of plus with two digits of a and 20 characters of k, and one that has no argument */
+/* the longest text: n - 1 streams of plus with two digits of a and 20 characters of k, and one that has no argument */
+static uint32_t make_longest(char *text, int n) {
+    uint32_t at = (uint32_t)sprintf(text, "plan=1\nstreams=%d\n", n);
+    for (int i = 0; i < n - 1; i++) at += (uint32_t)sprintf(text + at, "op=plus\na=%d\nb=0\nk=-9223372036854775808\nout=1\n", n - 1);
+    return at + (uint32_t)sprintf(text + at, "op=unit\na=0\nb=0\nk=0\nout=1\n");
+}
+
 static void look_at_the_longest(void) {
-    char text[TESSLA_TEXT_LIMIT + 1];
-    uint32_t at = (uint32_t)sprintf(text, "plan=1\nstreams=%d\n", TESSLA_STREAM_LIMIT);
-    for (int i = 0; i < TESSLA_STREAM_LIMIT - 1; i++) at += (uint32_t)sprintf(text + at, "op=plus\na=31\nb=0\nk=-9223372036854775808\nout=1\n");
-    at += (uint32_t)sprintf(text + at, "op=unit\na=0\nb=0\nk=0\nout=1\n");
+    static char text[TESSLA_TEXT_LIMIT + 2];
+    static uint8_t back[TESSLA_TEXT_LIMIT];
+    uint64_t length = 0;
+    uint32_t at = make_longest(text, TESSLA_STREAM_LIMIT);
     expect(at == 1470, "the longest text", at);
     expect(tessla_load(state, sizeof state, (const uint8_t *)text, at) == TESSLA_DONE, "load of the longest text", at);
     look_at_text(text, at);
+    at = make_longest(text, TESSLA_LONG_STREAM_LIMIT);
+    expect(at == 2942, "the longest text of the longer state", at);
+    expect(tessla_load(state, sizeof state, (const uint8_t *)text, at) == TESSLA_TEXT_STREAMS, "the longer text in the shorter state", at);
+    expect(tessla_load(longer, sizeof longer, (const uint8_t *)text, at) == TESSLA_DONE, "load of the longest text", at);
+    expect(tessla_plan_text(longer, sizeof longer, back, at, &length) == TESSLA_DONE && length == at && memcmp(text, back, at) == 0, "the longest text back", at);
+    expect(tessla_plan_text(longer, sizeof longer, back, at - 1, &length) == TESSLA_TEXT_ROOM && length == 0, "a buffer too short", at);
+    /* a text of as many bytes as the header says is looked at, a longer one is not, in both */
+    memset(text, '\n', sizeof text);
+    for (uint32_t more = 0; more < 2; more++) {
+        uint32_t wanted = more ? TESSLA_TEXT_LONG : TESSLA_TEXT_FORM;
+        expect(tessla_load(state, sizeof state, (const uint8_t *)text, TESSLA_TEXT_LIMIT + more) == wanted, "the limit of a text", more);
+        expect(tessla_load(longer, sizeof longer, (const uint8_t *)text, TESSLA_TEXT_LIMIT + more) == wanted, "the limit of a text", more);
+    }
 }
 
 /* the call once more, as above */
@@ -151,9 +179,9 @@ static void look(uint32_t n) {
     look_used(n, n * 256);
 }
 
-/* plans of w windows over one input, with a stream behind them: what is used has all that they keep, up to its last byte once the last
-   window is full, and so does the place that the header gives to each */
-static void look_at_windows(void) {
+/* plans of w windows over one input, with a stream behind them, in a state of either length: what is used has all that they keep, up to
+   its last byte once the last window is full, and so does the place that the header gives to each */
+static void look_at_windows(uint8_t *any, uint32_t length, uint32_t windows) {
     char text[TESSLA_TEXT_LIMIT + 1];
     const char *names[] = { "wsum", "wmin", "wmax" };
     uint32_t moves, stamp;
@@ -162,25 +190,93 @@ static void look_at_windows(void) {
         uint32_t at = (uint32_t)sprintf(text, "plan=1\nstreams=%lu\nop=in\na=0\nb=0\nk=0\nout=0\n", (unsigned long)w + 2);
         for (uint32_t i = 0; i < w; i++) at += (uint32_t)sprintf(text + at, "op=%s\na=0\nb=0\nk=64\nout=0\n", names[i % 3]);
         at += (uint32_t)sprintf(text + at, "op=neg\na=0\nb=0\nk=0\nout=1\n");
-        uint32_t number = tessla_load(state, sizeof state, (const uint8_t *)text, at);
+        uint32_t number = tessla_load(any, length, (const uint8_t *)text, at);
         expect(number == (w <= 8 ? TESSLA_DONE : TESSLA_TEXT_WINDOW), "load of windows", w);
         if (number != TESSLA_DONE) break;
-        uint32_t used = w == 0 ? 512 : 8192 + 512 * w;
-        look_used(w + 2, used);
+        uint32_t used = w == 0 ? 512 : length - 4096 + 512 * w;
+        look_used_in(any, length, w + 2, used);
         for (uint32_t t = 1; t <= 70; t++) {
-            expect(tessla_offer_reading(state, sizeof state, 0, t, -(int64_t)t) == TESSLA_DONE, "a reading", t);
-            expect(tessla_run(state, sizeof state, 99, &moves) == TESSLA_DONE && moves == w + 1, "a run of windows", w);
-            expect(tessla_collect(state, sizeof state, w + 1, &stamp, &value) == TESSLA_DONE, "a collect", w);
+            expect(tessla_offer_reading(any, length, 0, t, -(int64_t)t) == TESSLA_DONE, "a reading", t);
+            expect(tessla_run(any, length, 99, &moves) == TESSLA_DONE && moves == w + 1, "a run of windows", w);
+            expect(tessla_collect(any, length, w + 1, &stamp, &value) == TESSLA_DONE, "a collect", w);
         }
-        look_used(w + 2, used);
+        look_used_in(any, length, w + 2, used);
         for (uint32_t j = 0; j < w; j++) {
-            const uint8_t *window = state + TESSLA_WINDOWS + j * TESSLA_WINDOW;
-            expect(state[(j + 1) * TESSLA_RECORD + 5] == 64, "a full window", j);
+            const uint8_t *window = any + windows + j * TESSLA_WINDOW;
+            expect(any[(j + 1) * TESSLA_RECORD + 5] == 64, "a full window", j);
             /* -7, the oldest of the latest 64, to -70 */
             for (uint32_t i = 0; i < 64; i++)
                 for (uint32_t b = 0; b < 8; b++) expect(window[8 * i + b] == (b == 0 ? (uint8_t)(249 - i) : 255), "a value of a window", i);
         }
-        if (w > 0) expect(state[used - 1] == 255, "the last used byte", w);
+        if (w > 0) expect(any[used - 1] == 255, "the last used byte", w);
+    }
+}
+
+/* the call once more, as above: the source is lent to be read only */
+uint32_t tessla_widen(const uint8_t *, uint64_t, uint8_t *, uint64_t);
+
+/* the longer state that a widened one of w windows is, where the header says that all lies; 15 for other lengths and no state */
+static void look_at_widen(void) {
+    static uint8_t before[TESSLA_STATE_LENGTH], marks[TESSLA_LONG_STATE_LENGTH];
+    char text[TESSLA_TEXT_LIMIT + 1];
+    uint32_t moves;
+    memset(marks, MARK, sizeof marks);
+    for (uint32_t w = 0; w <= 8; w++) {
+        uint32_t at = (uint32_t)sprintf(text, "plan=1\nstreams=%lu\nop=in\na=0\nb=0\nk=0\nout=0\n", (unsigned long)w + 1);
+        for (uint32_t i = 0; i < w; i++) at += (uint32_t)sprintf(text + at, "op=wmin\na=0\nb=0\nk=%lu\nout=1\n", (unsigned long)w + 3);
+        expect(tessla_load(state, sizeof state, (const uint8_t *)text, at) == TESSLA_DONE, "load of windows", w);
+        for (uint32_t t = 0; t < 9; t++) {
+            expect(tessla_offer_reading(state, sizeof state, 0, t, -1 - (int64_t)t) == TESSLA_DONE, "a reading", t);
+            expect(tessla_run(state, sizeof state, 99, &moves) == TESSLA_DONE && moves == w, "a run", w);
+        }
+        memcpy(before, state, sizeof before);
+        memcpy(longer, marks, sizeof longer);
+        expect(tessla_widen(state, sizeof state, longer, sizeof longer) == TESSLA_DONE, "widen", w);
+        expect(memcmp(state, before, sizeof before) == 0, "the source", w);
+        expect(memcmp(longer, state, TESSLA_WINDOWS) == 0, "the records", w);
+        for (uint32_t i = TESSLA_WINDOWS; i < TESSLA_LONG_WINDOWS; i++) expect(longer[i] == 0, "a record that is new", i);
+        expect(memcmp(longer + TESSLA_LONG_WINDOWS, state + TESSLA_WINDOWS, 8 * TESSLA_WINDOW) == 0, "the windows", w);
+        expect(tessla_bounds_in(longer, sizeof longer) == tessla_bounds(state), "the bounds", w);
+        expect(tessla_streams_in(longer, sizeof longer) == w + 1, "the streams", w);
+        uint32_t used = tessla_used_length(state), used_there = tessla_used_length_in(longer, sizeof longer);
+        expect(used_there == (w == 0 ? used : used + TESSLA_LONG_WINDOWS - TESSLA_WINDOWS), "the bytes used", w);
+        /* refused: nothing is written */
+        memcpy(longer, marks, sizeof longer);
+        expect(tessla_widen(state, sizeof state - 1, longer, sizeof longer) == TESSLA_BAD_STATE, "a shorter source", w);
+        expect(tessla_widen(state, sizeof state, longer, sizeof longer - 1) == TESSLA_BAD_STATE, "a shorter target", w);
+        expect(tessla_widen(state, sizeof state, longer, sizeof state) == TESSLA_BAD_STATE, "a target of the shorter length", w);
+        state[7] = 1;
+        expect(tessla_widen(state, sizeof state, longer, sizeof longer) == TESSLA_BAD_STATE, "no state", w);
+        expect(memcmp(longer, marks, sizeof longer) == 0, "the target after a refusal", w);
+    }
+}
+
+/* plans of 0 to 65 streams in the longer state, and what the names that end in _in say of it; of another length nothing */
+static void look_at_the_longer(void) {
+    static const uint64_t neither[] = { 0, 256, TESSLA_STATE_LENGTH - 1, TESSLA_STATE_LENGTH + 1, TESSLA_LONG_STATE_LENGTH - 1,
+                                        TESSLA_LONG_STATE_LENGTH + 1, (UINT64_C(1) << 32) + TESSLA_STATE_LENGTH, UINT64_MAX };
+    char text[TESSLA_TEXT_LIMIT + 1];
+    uint32_t moves;
+    expect(tessla_limit(TESSLA_STATE_LENGTH) == TESSLA_STREAM_LIMIT && tessla_limit(TESSLA_LONG_STATE_LENGTH) == TESSLA_LONG_STREAM_LIMIT, "the limits", 0);
+    for (uint32_t n = 0; n <= TESSLA_LONG_STREAM_LIMIT + 1; n++) {
+        uint32_t length = make(text, n);
+        memset(longer, MARK, sizeof longer);
+        uint32_t number = tessla_load(longer, sizeof longer, (const uint8_t *)text, length);
+        expect(number == (n <= TESSLA_LONG_STREAM_LIMIT ? TESSLA_DONE : TESSLA_TEXT_STREAMS), "load", n);
+        expect(tessla_load(state, sizeof state, (const uint8_t *)text, length) == (n <= TESSLA_STREAM_LIMIT ? TESSLA_DONE : TESSLA_TEXT_STREAMS), "load", n);
+        if (number != TESSLA_DONE) break;
+        look_used_in(longer, sizeof longer, n, n * TESSLA_RECORD);
+        expect(tessla_bounds_in(longer, sizeof longer) == 0, "the bounds of a fresh state", n);
+        expect(tessla_run(longer, sizeof longer, 1000, &moves) == TESSLA_DONE && moves < 1000, "a run", n);
+        /* every stream is known to the horizon */
+        expect(tessla_bounds_in(longer, sizeof longer) == n * TESSLA_HORIZON, "the bounds", n);
+        look_used_in(longer, sizeof longer, n, n * TESSLA_RECORD);
+        for (uint32_t i = 0; i < sizeof neither / sizeof *neither; i++) {
+            expect(tessla_limit(neither[i]) == 0 && tessla_streams_in(longer, neither[i]) == 0, "a length that is neither", i);
+            expect(tessla_used_length_in(longer, neither[i]) == 0 && tessla_bounds_in(longer, neither[i]) == 0, "a length that is neither", i);
+            expect(!tessla_is_output_in(longer, neither[i], 2), "a length that is neither", i);
+            expect(tessla_run(longer, neither[i], 0, &moves) == TESSLA_BAD_STATE, "a length that is neither", i);
+        }
     }
 }
 
@@ -344,7 +440,10 @@ int main(void) {
 
     look_at_the_longest();
     look_at_missing();
-    look_at_windows();
+    look_at_windows(state, sizeof state, TESSLA_WINDOWS);
+    look_at_windows(longer, sizeof longer, TESSLA_LONG_WINDOWS);
+    look_at_the_longer();
+    look_at_widen();
     look_at_bounds();
     look_at_places();
     look_at_a_run();

@@ -7,7 +7,7 @@ use mathlib.Core.Bool.{Bool, true, false, cond}
 use native.Mathlib.Omega.{arith}
 use lib.Dec.{T, ltb}
 use lib.ListN.{length}
-use borrow.Author.Tests.{lt-ltb, le-ltb, ltb-true}
+use borrow.Author.Tests.{lt-ltb, le-ltb}
 use Rattle.machine.specs.State.{State, cellAt}
 use Rattle.machine.specs.Reach.{least}
 use Rattle.machine.specs.Step.{canMove, comesIn, newBound, ahead, move}
@@ -16,6 +16,9 @@ use Rattle.machine.proofs.Search.{least-is}
 use Rattle.machine.proofs.Frame.{raise-size}
 use Rattle.machine.proofs.Outcomes.{run-more, run-ends}
 use Rattle.machine.proofs.Moves.{lowest-can}
+use Rattle.machine.specs.Touched.{Still}
+use Rattle.machine.proofs.Touched.{move-still}
+use Rattle.meaning.proofs.Tests.{true-is}
 use Rattle.le.specs.Bytes.{Bytes}
 use Rattle.layout.specs.Record.{Raws, encode, decode}
 use Rattle.encoding.specs.View.{rawsOf, bytesOf}
@@ -27,6 +30,7 @@ use Rattle.roundtrip.proofs.Whole.{bytes-length}
 use Rattle.roundtrip.proofs.In.{bytes-are, bytes-in, sound, streams, raws, stays}
 use Rattle.moves.specs.Move.{canRaw, movedRaw}
 use Rattle.refine.proofs.Moves.{can-of, moved-of}
+use Rattle.calls.specs.Search.{NoneBelow, Moved, Searched}
 
 module _ (s : List ℕ) (b : Bytes s) (n : ℕ) (h : IsState s n) where
   -- whether stream i can move, by the code
@@ -58,13 +62,13 @@ module _ (s : List ℕ) (b : Bytes s) (n : ℕ) (h : IsState s n) where
 
   -- ---- the lowest
 
-  pub lowest-is : (i : ℕ) → i < n → ((j : ℕ) → j < i → canMove j (stateIn s) ≡ false) → canMove i (stateIn s) ≡ true → lowest (stateIn s) ≡ i
+  pub lowest-is : (i : ℕ) → i < n → NoneBelow i s → canMove i (stateIn s) ≡ true → lowest (stateIn s) ≡ i
   unfolding lowest
   lowest-is i l before can =
       let k = rw (streams s b n h) at l in
       least-is (λ j. canMove j (stateIn s)) 0 (length (stateIn s)) i (omega arith) (omega arith) (λ j z m. rw (before j m) tt) (inr (rw can tt))
 
-  pub lowest-none : ((j : ℕ) → j < n → canMove j (stateIn s) ≡ false) → ltb (lowest (stateIn s)) n ≡ false
+  pub lowest-none : NoneBelow n s → ltb (lowest (stateIn s)) n ≡ false
   unfolding lowest
   lowest-none before =
       let e : least (λ j. canMove j (stateIn s)) 0 (length (stateIn s)) ≡ length (stateIn s) =
@@ -85,43 +89,44 @@ module _ (s : List ℕ) (b : Bytes s) (n : ℕ) (h : IsState s n) where
         let c : canMove i (stateIn s) ≡ false = sym r-is ∙ e in
         (left-is ∙ rw c, c)
 
-    module _ (e : r ≡ true) (before : (j : ℕ) → j < i → canMove j (stateIn s) ≡ false) where
+    module _ (e : r ≡ true) (before : NoneBelow i s) where
       can : canMove i (stateIn s) ≡ true
       can = sym r-is ∙ e
-
-      pub turn-lowest : true ≡ ltb (lowest (stateIn s)) n
-      turn-lowest = sym (rw (lowest-is i l before can) (lt-ltb i n l))
 
       moved-is : s′ ≡ bytesOf (length s) (move i (stateIn s))
       moved-is = left-is ∙ ap (λ (p : Bool). cond p (encode n (movedRaw n i (decode n s))) s) can ∙ moved-bytes i l can
 
-      pub turn-moved : s′ ≡ cond (ltb (lowest (stateIn s)) n) (bytesOf (length s) (move (lowest (stateIn s)) (stateIn s))) s
-      turn-moved =
-          moved-is ∙ ap (λ (j : ℕ). bytesOf (length s) (move j (stateIn s))) (sym (lowest-is i l before can))
-          ∙ ap (λ (p : Bool). cond p (bytesOf (length s) (move (lowest (stateIn s)) (stateIn s))) s) turn-lowest
+      pub turn-moved : Moved i s s′
+      turn-moved = (lowest-is i l before can, moved-is)
 
       pub turn-length : length s′ ≡ length s
       turn-length = ap length moved-is ∙ bytes-length (length s) (move i (stateIn s)) (next-sound i l can)
 
-  pub none-left : ((j : ℕ) → j < n → canMove j (stateIn s) ≡ false) → (x : List ℕ) → x ≡ s
-      → x ≡ cond (ltb (lowest (stateIn s)) n) (bytesOf (length s) (move (lowest (stateIn s)) (stateIn s))) s
-  none-left before x q = q ∙ sym (rw (lowest-none before))
-
   -- ---- the run that is left
 
-  pub run-step : (k m : ℕ) → k ≡ suc m → ltb (lowest (stateIn s)) n ≡ true → run k (stateIn s) ≡ oneMore (arrivals (lowest (stateIn s)) (comesIn (lowest (stateIn s)) (stateIn s))) (run m (move (lowest (stateIn s)) (stateIn s)))
-  run-step k m e q = ap (λ (j : ℕ). run j (stateIn s)) e ∙ run-more m (stateIn s) (ap (ltb (lowest (stateIn s))) (sym (streams s b n h)) ∙ q)
+  -- one move is made, or none can be
+  pub run-step : (k m i : ℕ) → k ≡ suc m → i < n → lowest (stateIn s) ≡ i → run k (stateIn s) ≡ oneMore (arrivals i (comesIn i (stateIn s))) (run m (move i (stateIn s)))
+  run-step k m i e l q =
+      let z : ltb (lowest (stateIn s)) (length (stateIn s)) ≡ true = rw (q, sym (streams s b n h)) (lt-ltb i n l) in
+      ap (λ (j : ℕ). run j (stateIn s)) e ∙ run-more m (stateIn s) z ∙ ap (λ (j : ℕ). oneMore (arrivals j (comesIn j (stateIn s))) (run m (move j (stateIn s)))) q
 
-  pub run-stop : (k : ℕ) → ltb (lowest (stateIn s)) n ≡ false → run k (stateIn s) ≡ done [] (stateIn s)
+  pub run-stop : (k : ℕ) → NoneBelow n s → run k (stateIn s) ≡ done [] (stateIn s)
   run-stop zero q = unfold run in refl
-  run-stop (suc k) q = run-ends k (stateIn s) (ap (ltb (lowest (stateIn s))) (sym (streams s b n h)) ∙ q)
-
-  pub lowest-below : ltb (lowest (stateIn s)) n ≡ true → lowest (stateIn s) < n
-  lowest-below q = ltb-true (lowest (stateIn s)) n q
+  run-stop (suc k) q = run-ends k (stateIn s) (ap (ltb (lowest (stateIn s))) (sym (streams s b n h)) ∙ lowest-none q)
 
 pub run-zero : (k : ℕ) (M : State) → k ≡ 0 → run k M ≡ done [] M
 run-zero zero M e = unfold run in refl
 run-zero (suc k) M e = absurd (omega arith)
+
+-- ---- what a search answers
+
+pub none-found : (to i : ℕ) (s s′ : List ℕ) → Searched to i s s′ → to ≤ i → (s′ ≡ s) × NoneBelow to s
+none-found to i s s′ (inl h) l = let k = h .0 in absurd (omega arith)
+none-found to i s s′ (inr h) l = h .1
+
+pub one-found : (to i : ℕ) (s s′ : List ℕ) → Searched to i s s′ → (i ≡ to → ⊥) → (i < to) × Moved i s s′
+one-found to i s s′ (inl h) l = h
+one-found to i s s′ (inr h) l = absurd (l (h .0))
 
 -- ---- a turn of the loop of a run
 
@@ -129,49 +134,48 @@ run-zero (suc k) M e = absurd (omega arith)
 abbrev pub Left : (most made : ℕ) → (s₀ s : List ℕ) → Type 0
 Left most made s₀ s = (run most (stateIn s₀) .moves ≡ made + run (most - made) (stateIn s) .moves) × (run most (stateIn s₀) .state ≡ run (most - made) (stateIn s) .state)
 
-module _ (most made n : ℕ) (s₀ s s′ : List ℕ) (b : Bytes s) (h : IsState s n) (inv : Left most made s₀ s) (es : s′ ≡ cond (ltb (lowest (stateIn s)) n) (bytesOf (length s) (move (lowest (stateIn s)) (stateIn s))) s) where
+module _ (most made n : ℕ) (s₀ s s′ : List ℕ) (b : Bytes s) (h : IsState s n) (inv : Left most made s₀ s) where
   -- no equation can move
-  pub run-ended : ltb (lowest (stateIn s)) n ≡ false → length s ≡ length s₀ → (made ≡ run most (stateIn s₀) .moves) × (s′ ≡ bytesOf (length s₀) (run most (stateIn s₀) .state))
+  pub run-ended : (s′ ≡ s) × NoneBelow n s → length s ≡ length s₀ → (made ≡ run most (stateIn s₀) .moves) × (s′ ≡ bytesOf (length s₀) (run most (stateIn s₀) .state))
   run-ended q z =
-      let o = run-stop s b n h (most - made) q in
+      let o = run-stop s b n h (most - made) (q .1) in
       let m : run (most - made) (stateIn s) .moves ≡ 0 = ap (λ (x : Outcome). x .moves) o in
       let k = inv .0 in (
         omega arith,
-        es ∙ rw q (stays s b n h) ∙ ap₂ bytesOf z (sym (inv .1 ∙ ap (λ (x : Outcome). x .state) o)),
+        q .0 ∙ stays s b n h ∙ ap₂ bytesOf z (sym (inv .1 ∙ ap (λ (x : Outcome). x .state) o)),
       )
 
-  -- one has moved
-  module _ (l : made < most) (q : ltb (lowest (stateIn s)) n ≡ true) where
-    i : ℕ
-    i = lowest (stateIn s)
+  -- stream i has moved
+  module _ (l : made < most) (i : ℕ) (below : i < n) (m : Moved i s s′) where
+    in-state : i < length (stateIn s)
+    in-state = rw (sym (streams s b n h)) below
 
-    below : lowest (stateIn s) < n
-    below = lowest-below s b n h q
+    could : canMove i (stateIn s) ≡ true
+    could = true-is (canMove i (stateIn s)) (rw (m .0) at (lowest-can (stateIn s) (rw (m .0) in-state)))
 
-    can-lowest : canMove (lowest (stateIn s)) (stateIn s) ≡ true
-    can-lowest = is-true (canMove (lowest (stateIn s)) (stateIn s)) (lowest-can (stateIn s) (rw (sym (streams s b n h)) below))
-      where
-        is-true : (p : Bool) → T p → p ≡ true
-        is-true true t = refl
-        is-true false t = absurd t
+    ok : Sound (capacity (length s)) (move i (stateIn s))
+    ok = next-sound s b n h i below could
 
-    bytes : s′ ≡ bytesOf (length s) (move (lowest (stateIn s)) (stateIn s))
-    bytes = es ∙ rw q
+    now-in : stateIn s′ ≡ move i (stateIn s)
+    now-in = bytes-in (length s) (move i (stateIn s)) s′ ok (m .1)
 
     pub next-is-state : IsState s′ n
-    next-is-state = bytes-are (length s) (move (lowest (stateIn s)) (stateIn s)) s′ n (next-sound s b n h (lowest (stateIn s)) below can-lowest) (next-length s b n h (lowest (stateIn s)) below can-lowest) bytes
+    next-is-state = bytes-are (length s) (move i (stateIn s)) s′ n ok (next-length s b n h i below could) (m .1)
+
+    -- the next search begins where this move can have changed something
+    pub next-still : Still i (stateIn s′)
+    next-still = rw now-in (rw (m .0) at (move-still (stateIn s) (rw (m .0) in-state)))
 
     pub next-left : Left most (made + 1) s₀ s′
     next-left =
         let e : most - made ≡ suc (most - (made + 1)) = omega arith in
-        let o = run-step s b n h (most - made) (most - (made + 1)) e q in
-        let t : stateIn s′ ≡ move (lowest (stateIn s)) (stateIn s) = bytes-in (length s) (move (lowest (stateIn s)) (stateIn s)) s′ (next-sound s b n h (lowest (stateIn s)) below can-lowest) bytes in
-        let m : run (most - made) (stateIn s) .moves ≡ suc (run (most - (made + 1)) (move (lowest (stateIn s)) (stateIn s)) .moves) = ap (λ (x : Outcome). x .moves) o in
+        let o = run-step s b n h (most - made) (most - (made + 1)) i e below (m .0) in
+        let p : run (most - made) (stateIn s) .moves ≡ suc (run (most - (made + 1)) (move i (stateIn s)) .moves) = ap (λ (x : Outcome). x .moves) o in
         let k = inv .0 in
-        (rw t (omega arith), rw t (inv .1 ∙ ap (λ (x : Outcome). x .state) o))
+        (rw now-in (omega arith), rw now-in (inv .1 ∙ ap (λ (x : Outcome). x .state) o))
 
     pub next-length-is : length s′ ≡ length s
-    next-length-is = ap length bytes ∙ bytes-length (length s) (move (lowest (stateIn s)) (stateIn s)) (next-sound s b n h (lowest (stateIn s)) below can-lowest)
+    next-length-is = ap length (m .1) ∙ bytes-length (length s) (move i (stateIn s)) ok
 
 -- the moves asked for are made
 pub run-done : (most made n : ℕ) (s₀ s : List ℕ) → Bytes s → IsState s n → Left most made s₀ s → most ≤ made → made ≤ most → length s ≡ length s₀ → (made ≡ run most (stateIn s₀) .moves) × (s ≡ bytesOf (length s₀) (run most (stateIn s₀) .state))

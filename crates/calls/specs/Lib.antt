@@ -1,2 +1,3 @@
 pub mod Equation
 pub mod Reply
+pub mod Search

@@ -1,17 +1,16 @@
 // The five calls on a state: each asks for bytes that are one and promises that they still are, so that whoever makes several
 // calls tests the bytes once.
 ghost use mathlib.Core.Path.{_≡_};
-ghost use mathlib.Core.Bool.{cond};
-ghost use Prim.Native.Nat.{_*_, _≤_};
-ghost use lib.Dec.{ltb};
+ghost use mathlib.Core.Bool.{false};
+ghost use Prim.Native.Nat.{_*_, _≤_, _<_};
 ghost use lib.ListN.{length};
-ghost use Rattle.machine.specs.Step.{move};
-ghost use Rattle.machine.specs.Calls.{reading, progress, moving, running, collecting, lowest};
-ghost use Rattle.layout.specs.Record.{decode};
-ghost use Rattle.encoding.specs.View.{bytesOf};
+ghost use Rattle.machine.specs.Calls.{reading, progress, moving, running, collecting};
+ghost use Rattle.machine.specs.Touched.{Still};
+ghost use Rattle.layout.specs.Record.{decRaw, decode};
 ghost use Rattle.roundtrip.specs.In.{stateIn, IsState};
 ghost use Rattle.calls.specs.Equation.{equationRaw};
 ghost use Rattle.calls.specs.Reply.{replyIn};
+ghost use Rattle.calls.specs.Search.{Neither, Untouched, NoneBelow, Searched};
 
 // Offers a reading (stream, stamp, value) of an input.
 pub fn offer_reading(state: &mut [u8], n: usize, stream: u32, stamp: u32, value: i64) -> u32
@@ -82,23 +81,90 @@ pub fn collect(state: &mut [u8], n: usize, stream: u32, stamp: &mut u32, value: 
     0
 }
 
-// Moves the lowest-numbered equation that can move; whether there was one.
-fn move_lowest(state: &mut [u8], n: usize) -> bool
-    requires { ⌜ IsState (now state) n ⌝ }
-    ensures can { λ r. ⌜ r ≡ ltb (lowest (stateIn (now (state .entry)))) n ⌝ }
-    ensures moved { λ _. ⌜ now (state .exit) ≡ cond (ltb (lowest (stateIn (now (state .entry)))) n) (bytesOf (length (now (state .entry))) (move (lowest (stateIn (now (state .entry)))) (stateIn (now (state .entry))))) (now (state .entry)) ⌝ }
+// Whether z is one of two numbers.
+fn one_of(z: u8, x: u8, y: u8) -> bool
+    ensures { λ r. ⌜ (r ≡ false → Neither z x y) ⌝ }
 {
-    let mut i = 0;
+    if z == x {
+        return true;
+    }
+    z == y
+}
+
+// Whether a move of stream s, with the arguments a and b as they are stored, can have let the stream of this record, j, move: it
+// reads s, it is an argument of s, or it keeps something and reads an argument of s.
+fn touched(r: &[u8], j: u8, s: u8, a: u8, b: u8) -> bool
+    requires { ⌜ length (now r) ≡ 256 ⌝ }
+    ensures { λ t. ⌜ (t ≡ false → Untouched s a b j (decRaw (now (r .entry)))) ⌝ }
+{
+    let x = layout::byte_at(r, layout::A) as u8;
+    let y = layout::byte_at(r, layout::B) as u8;
+    if one_of(s, x, y) {
+        return true;
+    }
+    if one_of(j, a, b) {
+        return true;
+    }
+    if !operators::is_keeper(layout::byte_at(r, layout::OP)) {
+        return false;
+    }
+    if one_of(x, a, b) {
+        return true;
+    }
+    one_of(y, a, b)
+}
+
+// Moves the lowest-numbered equation below s that can move, where the last move was one of s; its number, or s if there is none.
+fn move_touched(state: &mut [u8], n: usize, s: usize) -> usize
+    requires { ⌜ IsState (now state) n × (0 < s → s < n) × Still s (stateIn (now state)) ⌝ }
+    ensures { λ i. ⌜ Searched s i (now (state .entry)) (now (state .exit)) ⌝ }
+{
+    let row = layout::row_at(state, s);
+    let a = layout::byte_at(row, layout::A) as u8;
+    let b = layout::byte_at(row, layout::B) as u8;
+    let last = s as u8;
+    let mut j: u8 = 0;
+    while j < last {
+        let i = j as usize;
+        if touched(layout::row_at(state, i), j, last, a, b) {
+            if moves::move_one(state, n, i) {
+                return i;
+            }
+        }
+        j += 1;
+    }
+    s
+}
+
+// Moves the lowest-numbered equation that can move, where none below `from` can; its number, or n if there is none.
+fn move_from(state: &mut [u8], n: usize, from: usize) -> usize
+    requires { ⌜ IsState (now state) n × (from ≤ n) × NoneBelow from (now state) ⌝ }
+    ensures { λ i. ⌜ Searched n i (now (state .entry)) (now (state .exit)) ⌝ }
+{
+    let mut i = from;
     while i < n {
         if moves::move_one(state, n, i) {
-            return true;
+            return i;
         }
         i += 1;
     }
-    false
+    n
+}
+
+// Moves the lowest-numbered equation that can move, where the last move was one of s; its number, or n if there is none.
+fn move_next(state: &mut [u8], n: usize, s: usize) -> usize
+    requires { ⌜ IsState (now state) n × (0 < s → s < n) × Still s (stateIn (now state)) ⌝ }
+    ensures { λ i. ⌜ Searched n i (now (state .entry)) (now (state .exit)) ⌝ }
+{
+    let i = move_touched(state, n, s);
+    if i < s {
+        return i;
+    }
+    move_from(state, n, s)
 }
 
 // Moves the lowest-numbered equation that can, again and again, at most this many times; how often it moved.
+// The first search begins at stream 0, each other where the last move can have changed something.
 pub fn run(state: &mut [u8], n: usize, most: u32) -> u32
     requires { ⌜ IsState (now state) n ⌝ }
     ensures moves { λ r. ⌜ r ≡ replyIn (running most) (now (state .entry)) .moves ⌝ }
@@ -106,8 +172,10 @@ pub fn run(state: &mut [u8], n: usize, most: u32) -> u32
     ensures still { λ _. ⌜ IsState (now (state .exit)) n ⌝ }
 {
     let mut made: u32 = 0;
+    let mut s = 0;
     while made < most {
-        if !move_lowest(state, n) {
+        s = move_next(state, n, s);
+        if s == n {
             return made;
         }
         made += 1;

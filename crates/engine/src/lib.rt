@@ -1,5 +1,5 @@
 // The calls that the firmware links. Each works on lent buffers, asks nothing of its caller, and is promised equal to a
-// definition (`loadReply`, `reply`, `planText`, `missingReply`, `write`, `line`): its number, its results and the buffers it leaves.
+// definition (`loadReply`, `reply`, `planText`, `missingReply`, `widenReply`, `write`, `line`): its number, its results and the buffers it leaves.
 ghost use mathlib.Core.Path.{_≡_};
 ghost use Rattle.block.specs.Block as board;
 ghost use Rattle.registers.specs.Write.{write};
@@ -8,6 +8,7 @@ ghost use Rattle.engine.specs.Load.{loadReply};
 ghost use Rattle.calls.specs.Reply.{reply};
 ghost use Rattle.writing.specs.Text.{planText};
 ghost use Rattle.counts.specs.Missing.{missingReply};
+ghost use Rattle.widen.specs.Widen.{widenReply};
 use operators::Plan;
 use valid::Tested;
 
@@ -144,6 +145,15 @@ pub extern "C" fn tessla_missing(
             15
         }
     }
+}
+
+// Copies a state into a longer buffer, where it goes on from the same point.
+#[no_mangle]
+pub extern "C" fn tessla_widen(from: &[u8], to: &mut [u8]) -> u32
+    ensures number { λ r. ⌜ r ≡ widenReply (now (from .entry)) (now (to .entry)) .number ⌝ }
+    ensures buffer { λ _. ⌜ now (to .exit) ≡ widenReply (now (from .entry)) (now (to .entry)) .buffer ⌝ }
+{
+    widen::widen(from, to)
 }
 
 // Writes a byte of the reader board's block; writing the command starts it.

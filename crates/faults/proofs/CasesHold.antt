@@ -22,8 +22,8 @@ pub cases-hold : map (λ c. faultWith 32 (bytes (c .text)) (c .fault .stream)) c
 unfolding faultWith formFault firstBroken streamLine fieldLine streams declared acyclic head stream opLine named nameAt numberNamed place fieldsAfter field whole scan ended signed valueLine outLine skip fieldsOk widthOk groupOf usesK eqnOf
 cases-hold = refl
 
--- 1 text longer than 2,048 bytes, whatever is in it: no line
-pub too-long : faultWith 32 (replicate 2049 120) 0 ≡ fault 1 0 0
+-- 1 text longer than 4,096 bytes, whatever is in it: no line
+pub too-long : faultWith 32 (replicate 4097 120) 0 ≡ fault 1 0 0
 unfolding faultWith
 too-long = refl
 

@@ -8,6 +8,8 @@ use Rattle.calls.proofs.Answers.{refused-plain}
 use Rattle.writing.proofs.Cases.{text-refused}
 use Rattle.machine.specs.Calls.{Missing}
 use Rattle.counts.proofs.Cases.{missing-refused}
+use Rattle.widen.specs.Widen.{WidenReply}
+use Rattle.widen.proofs.Cases.{widen-refused}
 use Rattle.block.proofs.Flags.{line-refused}
 use Rattle.registers.proofs.Refusals.{laws}
 use Rattle.engine.proofs.Loads.{load-refused, load-results}
@@ -23,6 +25,7 @@ refusals = record {
   ofCall = λ c s b z. plain-leaves (reply c s) (reply c s .number) s (refused-plain c s b z);
   ofText = text-refused;
   ofMissing = λ i s z. let e = missing-refused i s z in (ap (λ (m : Missing). m .outside) e, ap (λ (m : Missing). m .divisors) e);
+  ofWiden = λ s t z. ap (λ (r : WidenReply). r .buffer) (widen-refused s t z);
   ofWrite = λ s b at x h. laws .refusal s b at x h .sameState;
   ofLine = line-refused;
 }

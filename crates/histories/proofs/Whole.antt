@@ -1,4 +1,5 @@
--- The whole theorem, over bytes: any history of loads, calls, register writes and copies put back on a lent buffer.
+-- The whole theorem, over bytes: any history of loads, calls, register writes, copies into a longer buffer and copies put back, on a
+-- lent buffer.
 use Prim.Native.Nat.{ℕ, zero, suc, _+_, _*_, _≤_, _<_}
 use mathlib.Core.Path.{_≡_, refl, sym, ap, ap₂, _∙_, subst}
 use mathlib.Core.Bool.{Bool, true, false, cond}
@@ -32,8 +33,8 @@ use Rattle.valid.specs.Valid.{count}
 use Rattle.readers.proofs.States.{row-bound}
 use Rattle.counts.specs.Missing.{missingReply}
 use Rattle.counts.proofs.Cases.{reply-state}
-use Rattle.operators.specs.Limits.{mostStreams, capacity}
-use Rattle.operators.proofs.Sizes.{capacity-few}
+use Rattle.operators.specs.Limits.{mostStreams, longLength, capacity}
+use Rattle.operators.proofs.Sizes.{capacity-few, long-room}
 use Rattle.encoding.specs.View.{bytesOf}
 use Rattle.encoding.specs.Sound.{Sound}
 use Rattle.preserve.proofs.Calls.{Offered, call-sound}
@@ -46,14 +47,18 @@ use Rattle.plan.specs.Rules.{number, declared}
 use Rattle.plan.specs.Taken.{KeepsRules}
 use Rattle.plan.proofs.Taken.{taken-rendered}
 use Rattle.plan.proofs.Rendered.{arguments-at}
+use Rattle.plan.proofs.More.{rules-more}
 use Rattle.load.proofs.Fresh.{loaded-sound}
 use Rattle.calls.specs.Reply.{Reply, replyOf, reply, leftBy}
 use Rattle.calls.proofs.Replies.{call-15}
 use Rattle.calls.proofs.Bytes.{state-bytes}
+use Rattle.widen.specs.Widen.{widenReply}
+use Rattle.widen.proofs.Spread.{sound-more}
+use Rattle.widen.proofs.Cases.{widen-done}
 use Rattle.registers.specs.Write.{callIn, write, starts}
 use Rattle.registers.proofs.Sequence.{one-write}
 use Rattle.engine.specs.Load.{loadReply}
-use Rattle.histories.specs.Demands.{Act, load, make, askText, askMissing, writeTo, putBack, Course, Point, seenIn, courseOfCall, shownIn, acted, pointFrom, pointAfter, TypedAct, AllTypedActs, RestAhead, boundIn, Demands, DemandsAt}
+use Rattle.histories.specs.Demands.{Act, load, make, askText, askMissing, widen, writeTo, putBack, Course, Point, seenIn, courseOfCall, shownIn, acted, pointFrom, pointAfter, TypedAct, AllTypedActs, RestAhead, boundIn, Demands, DemandsAt}
 use Rattle.histories.specs.Inside.{callsOf, Inside, InsideAt}
 use Rattle.calls.proofs.Answers.{reply-machine}
 use Rattle.engine.proofs.Loads.{load-done, load-refused, load-length}
@@ -99,7 +104,7 @@ calls-more : (l : List Seen) (x : Seen) → callsOf (l ++ x ∷ []) ≡ callsOf 
 calls-more [] x = refl
 calls-more (y ∷ l) x = ap (λ (cs : List Call). y .made ∷ cs) (calls-more l x)
 
-typed-offered : (c : Call) → Typed c → Offered c
+pub typed-offered : (c : Call) → Typed c → Offered c
 typed-offered (reading s t v) h = (omega (arith, h .1), h .2)
 typed-offered (progress s y) h = tt
 typed-offered (moving s) h = tt
@@ -145,6 +150,23 @@ further ds cs seen b c t k =
       bytes = left ∙ ap₂ bytesOf sized (sym m);
       logged = ap₂ (λ (l : List Seen) (y : Reply). l ++ seenIn c y ∷ []) (k .logged) r ∙ sym (log-more cs c (loaded ds));
       made = calls-more seen (seenIn c (reply c b)) ∙ ap (λ (l : List Call). l ++ c ∷ []) (k .made);
+    }
+
+-- the same point, in a longer buffer
+longer : (ds : List Declared) (cs : List Call) (seen : List Seen) (b t : List ℕ) → widenReply b t .number ≡ 0 → Kept ds cs seen b → Kept ds cs seen (widenReply b t .buffer)
+longer ds cs seen b t z k =
+    let M = final ds cs in
+    let more : capacity (length b) ≤ capacity longLength = rw long-room (capacity-few (length b)) in
+    let ok = sound-more (capacity (length b)) (capacity longLength) M more (k .sound) in
+    let left : widenReply b t .buffer ≡ bytesOf longLength M = widen-done b t z .buffer ∙ ap (bytesOf longLength) (bytes-in (length b) M b (k .sound) (k .bytes)) in
+    let sized : longLength ≡ length (widenReply b t .buffer) = sym (ap length left ∙ bytes-length longLength M ok) in
+    record {
+      rules = subst (λ (n : ℕ). KeepsRules (capacity n) ds) sized (rules-more (capacity (length b)) (capacity longLength) more ds (k .rules));
+      typed = k .typed;
+      sound = subst (λ (n : ℕ). Sound (capacity n) M) sized ok;
+      bytes = left ∙ ap (λ (n : ℕ). bytesOf n M) sized;
+      logged = k .logged;
+      made = k .made;
     }
 
 -- what is seen of calls made one after the other
@@ -202,6 +224,15 @@ kept-act (make c) past p t h k = by (p .course) k
     by (some x) k = (k .0 ++ c ∷ [], further (x .plan) (k .0) (x .seen) (p .bytes) c t (k .1), k .2)
 kept-act (askText b) past p t h k = k
 kept-act (askMissing i) past p t h k = k
+kept-act (widen b) past p t h k = by (eqb (widenReply (p .bytes) b .number) 0) refl
+  where
+    moved : widenReply (p .bytes) b .number ≡ 0 → (o : Option Course) → KeptIn o (p .bytes) → KeptIn o (widenReply (p .bytes) b .buffer)
+    moved z none k = tt
+    moved z (some x) k = (k .0, longer (x .plan) (k .0) (x .seen) (p .bytes) b z (k .1), k .2)
+
+    by : (x : Bool) → eqb (widenReply (p .bytes) b .number) 0 ≡ x → KeptAt (cond x (record { bytes = widenReply (p .bytes) b .buffer; course = p .course }) p)
+    by true e = moved (eqb-true (widenReply (p .bytes) b .number) 0 e) (p .course) k
+    by false e = k
 kept-act (writeTo b at x) past p t h k = by (starts b at x) refl (p .course) k
   where
     by : (q : Bool) → starts b at x ≡ q → (o : Option Course) → KeptIn o (p .bytes)

@@ -1,5 +1,5 @@
 -- Believe: the page to read, demands 1 to 3 of any history of a lent buffer, told by what the exported calls return
--- (`loadReply`, `reply`, `planText`, `missingReply`, `write` and `line`, to which each is promised equal). It is read with the meaning
+-- (`loadReply`, `reply`, `planText`, `missingReply`, `widenReply`, `write` and `line`, to which each is promised equal). It is read with the meaning
 -- of a plan (crates/meaning: Plan, Events, Table, Missing), with what a caller sees and demand 3 itself (crates/runs: Seen, Demand3),
 -- with the registers where they are written to (crates/block, crates/registers), and without machine or layout, but for where a
 -- stream's bound lies (`boundIn`).
@@ -29,6 +29,7 @@ use Rattle.plan.specs.Taken.{KeepsRules}
 use Rattle.calls.specs.Reply.{Reply, reply, leftBy}
 use Rattle.writing.specs.Text.{given, planText}
 use Rattle.counts.specs.Missing.{missingReply}
+use Rattle.widen.specs.Widen.{widenReply}
 use Rattle.block.specs.Block.{valueIn, replyStampIn, line}
 use Rattle.registers.specs.Write.{Written, callIn, write, starts}
 use Rattle.engine.specs.Load.{loadReply}
@@ -49,6 +50,8 @@ pub record Refusals : Type 0 where
   pub ofText : (s b : List ℕ) → (planText s b .number ≡ 0 → ⊥) → (planText s b .length ≡ 0) × (planText s b .buffer ≡ b)
   -- "A call reads the two counts of a stream.": of a refusal both are 0. The state is lent for reading alone
   pub ofMissing : (i : ℕ) (s : List ℕ) → (missingReply i s .number ≡ 0 → ⊥) → (missingReply i s .outside ≡ 0) × (missingReply i s .divisors ≡ 0)
+  -- "a call copies one into a 20,480-byte buffer": of a refusal that buffer stays. The state is lent for reading alone
+  pub ofWiden : (s t : List ℕ) → (widenReply s t .number ≡ 0 → ⊥) → widenReply s t .buffer ≡ t
   -- a register write may change its block; how is in crates/registers/specs/Laws.antt
   pub ofWrite : (s b : List ℕ) (at x : ℕ) → Bytes s → (write s b at x .number ≡ 0 → ⊥) → write s b at x .state ≡ s
   pub ofLine : (b : List ℕ) → (line b .number ≡ 0 → ⊥) → line b .up ≡ 0
@@ -65,13 +68,15 @@ pub record Taking : Type 0 where
 
 -- ## A history
 
--- a load of a plan text, one of the other calls, the plan's text written into a buffer, a stream's counts read, the write of a byte at
--- a place of a block, which may hold anything, as the buffer may, or a copy put back: the bytes that the state had after so many acts
+-- a load of a plan text, one of the other calls, the plan's text written into a buffer, a stream's counts read, a copy into a longer
+-- buffer, with which it then goes on, the write of a byte at a place of a block, or a copy put back: the bytes that the state had after
+-- so many acts. Block and buffers may hold anything before.
 pub data Act : Type 0 where
   load : List ℕ → Act
   make : Call → Act
   askText : (b : List ℕ) → Act
   askMissing : (i : ℕ) → Act
+  widen : (t : List ℕ) → Act
   writeTo : (b : List ℕ) (at x : ℕ) → Act
   putBack : ℕ → Act
 
@@ -110,6 +115,7 @@ abbrev pub courseOfWrite : List ℕ → ℕ → ℕ → Reply → Written → Op
 courseOfWrite b at x r w o = cond (starts b at x) (courseOfCall (callIn b x) (shownIn x r w) o) o
 
 -- one act at the point p; `past` are the points before it, the first one first.
+-- A longer buffer "goes on from the same point", with the list so far; so does the shorter one, which nothing is done to.
 -- "a state put back has had the calls made up to its copy, and what was accepted or handed out after the copy doesn't count
 -- for it"
 unfoldable pub acted : Act → List Point → Point → Point
@@ -117,6 +123,7 @@ acted (load text) past p = let r = loadReply text (p .bytes) in record { bytes =
 acted (make c) past p = let r = reply c (p .bytes) in record { bytes = r .buffer; course = courseOfCall c r (p .course) }
 acted (askText b) past p = p  -- the state is lent for reading alone
 acted (askMissing i) past p = p
+acted (widen t) past p = let r = widenReply (p .bytes) t in cond (eqb (r .number) 0) (record { bytes = r .buffer; course = p .course }) p
 acted (writeTo b at x) past p = let w = write (p .bytes) b at x in record { bytes = w .state; course = courseOfWrite b at x (reply (callIn b x) (p .bytes)) w (p .course) }
 acted (putBack k) past p = getD past k p
 
@@ -134,6 +141,7 @@ TypedAct (load text) = Unit {0}
 TypedAct (make c) = Typed c
 TypedAct (askText b) = Unit {0}
 TypedAct (askMissing i) = Unit {0}
+TypedAct (widen t) = Unit {0}
 TypedAct (writeTo b at x) = Bytes b
 TypedAct (putBack k) = Unit {0}
 

@@ -2,3 +2,4 @@ pub mod Demands
 pub mod Inside
 pub mod NoPlan
 pub mod ReadsBack
+pub mod Widening

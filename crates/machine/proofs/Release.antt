@@ -14,7 +14,7 @@ use Rattle.meaning.specs.Arguments.{reads, Each}
 use Rattle.meaning.specs.Events.{Event, horizon}
 use Rattle.meaning.proofs.Tests.{Is, yes!, no!, look, true-is, T-or, T-or-l, T-or-r}
 use Rattle.machine.specs.State.{Cell, State, absent, cellAt, withHeld}
-use Rattle.machine.specs.Step.{readsIt, leastReader, leastWaiting, dropBelow, release, releases}
+use Rattle.machine.specs.Step.{anyFrom, anyOf, readsIt, leastReader, leastWaiting, dropBelow, release, releases}
 use Rattle.machine.proofs.Cells.{beyond, eqb-ne}
 use Rattle.machine.proofs.Rising.{drop-nil, drop-again}
 
@@ -60,6 +60,26 @@ read-among s (last a b) h = pair-among s a b h
 read-among s (delay a b) h = pair-among s a b h
 read-among s (signal c a b) h = pair-among s a b h
 read-among s (window f k a) h = T-or-l (eqb s a) false (flip a s h)
+
+-- and what is among them it reads
+any-of : (s : ℕ) (l : List ℕ) → T (among s l) → T (anyOf s l)
+any-of s [] h = h
+any-of s (a ∷ l) h = go (T-or (eqb s a) (among s l) h) (any-of s l)
+  where
+    here : (l : List ℕ) → T (eqb a s) → T (anyFrom s a l)
+    here [] x = x
+    here (b ∷ l) x = T-or-l (eqb a s) (anyFrom s b l) x
+
+    later : (l : List ℕ) → T (anyOf s l) → T (anyFrom s a l)
+    later [] x = absurd x
+    later (b ∷ l) x = T-or-r (eqb a s) (anyFrom s b l) x
+
+    go : T (eqb s a) ⊎ T (among s l) → (T (among s l) → T (anyOf s l)) → T (anyFrom s a l)
+    go (inl x) ih = here l (flip s a x)
+    go (inr x) ih = later l (ih x)
+
+pub among-read : (s : ℕ) (e : Eqn) → T (among s (reads e)) → T (readsIt s e)
+among-read s e = any-of s (reads e)
 
 -- ---- the least reader
 

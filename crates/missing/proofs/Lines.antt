@@ -5,7 +5,7 @@ use mathlib.Core.List.{List, [], _++_}
 use native.Mathlib.Omega.{arith}
 use borrow.Author.Tests.{eq-eqb, ne-eqb}
 use lib.ListN.{length, length-append}
-use Rattle.operators.specs.Limits.{streamLimit}
+use Rattle.operators.specs.Limits.{mostStreams}
 use Rattle.decimal.specs.Decimal.{decimal, mostDigits}
 use Rattle.decimal.specs.Put.{Put}
 use Rattle.decimal.proofs.Puts.{put-none, put-then, digits-most}
@@ -48,21 +48,21 @@ listing-over i state = refl
 
 -- what is left to do: with the lines of the streams from i on put at a position of the buffer, the whole listing is put
 abbrev pub Left : List ℕ → List ℕ → List ℕ → ℕ → ℕ → Type 0
-Left l₀ state l end i = (r : ℕ) (m : List ℕ) → Put l end (listing (streamLimit - i) i state) r m → Put l₀ 0 (listing streamLimit 0 state) r m
+Left l₀ state l end i = (r : ℕ) (m : List ℕ) → Put l end (listing (mostStreams - i) i state) r m → Put l₀ 0 (listing mostStreams 0 state) r m
 
 module _ (l₀ state l : List ℕ) (end i : ℕ) (x : Left l₀ state l end i) where
-  pub left-more : i < streamLimit → missingReply i state .number ≡ 0 → (m : List ℕ) (next : ℕ) → Put l end (lineOf i state) next m → Left l₀ state m next (i + 1)
+  pub left-more : i < mostStreams → missingReply i state .number ≡ 0 → (m : List ℕ) (next : ℕ) → Put l end (lineOf i state) next m → Left l₀ state m next (i + 1)
   left-more h e m next y r n z =
-      let k : streamLimit - i ≡ suc (streamLimit - (i + 1)) = omega arith in
+      let k : mostStreams - i ≡ suc (mostStreams - (i + 1)) = omega arith in
       let j : suc i ≡ i + 1 = omega arith in
-      x r n (rw (k, listing-more (streamLimit - (i + 1)) i state e, j) (put-then y z))
+      x r n (rw (k, listing-more (mostStreams - (i + 1)) i state e, j) (put-then y z))
 
-  pub left-none : i < streamLimit → (missingReply i state .number ≡ 0 → ⊥) → Put l₀ 0 (listing streamLimit 0 state) end l
+  pub left-none : i < mostStreams → (missingReply i state .number ≡ 0 → ⊥) → Put l₀ 0 (listing mostStreams 0 state) end l
   left-none h e =
-      let k : streamLimit - i ≡ suc (streamLimit - (i + 1)) = omega arith in
-      x end l (rw (k, listing-none (streamLimit - (i + 1)) i state e) (put-none l end))
+      let k : mostStreams - i ≡ suc (mostStreams - (i + 1)) = omega arith in
+      x end l (rw (k, listing-none (mostStreams - (i + 1)) i state e) (put-none l end))
 
-  pub left-over : streamLimit ≤ i → Put l₀ 0 (listing streamLimit 0 state) end l
+  pub left-over : mostStreams ≤ i → Put l₀ 0 (listing mostStreams 0 state) end l
   left-over h =
-      let k : streamLimit - i ≡ 0 = omega arith in
+      let k : mostStreams - i ≡ 0 = omega arith in
       x end l (rw (k, listing-over i state) (put-none l end))

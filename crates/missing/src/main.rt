@@ -6,7 +6,7 @@ ghost use Prim.Native.Nat.{_+_, _*_, _≤_};
 ghost use mathlib.Core.Path.{_≡_};
 ghost use lib.ListN.{length};
 ghost use Rattle.io.specs.Counts.{Counts};
-ghost use Rattle.operators.specs.Limits.{streamLimit};
+ghost use Rattle.operators.specs.Limits.{mostStreams};
 ghost use Rattle.decimal.specs.Put.{Put};
 ghost use Rattle.counts.specs.Missing.{missingReply};
 ghost use Rattle.missing.specs.Listing.{field, countsText, countsRoom, listing};
@@ -62,13 +62,13 @@ fn put_counts(out: &mut [u8], at: usize, stream: u32, outside: u32, zero: u32) -
 
 // Puts the lines of all streams of a state.
 fn put_all(out: &mut [u8], state: &[u8]) -> usize
-    requires { ⌜ streamLimit * countsRoom ≤ length (now out) ⌝ }
-    ensures listing { λ r. ⌜ Put (now (out .entry)) 0 (listing streamLimit 0 (now (state .entry))) r (now (out .exit)) ⌝ }
+    requires { ⌜ mostStreams * countsRoom ≤ length (now out) ⌝ }
+    ensures listing { λ r. ⌜ Put (now (out .entry)) 0 (listing mostStreams 0 (now (state .entry))) r (now (out .exit)) ⌝ }
     ensures inside { λ r. ⌜ Counts r (now (out .exit)) ⌝ }
 {
     let mut end: usize = 0;
     let mut stream: u32 = 0;
-    while stream < Plan::STREAMS as u32 {
+    while stream < Plan::MOST as u32 {
         let answer = ask(state, stream);
         if answer.number != 0 {
             return end;
@@ -81,7 +81,7 @@ fn put_all(out: &mut [u8], state: &[u8]) -> usize
 
 // Prints the lines of all streams of a state.
 fn tell(state: &[u8]) {
-    let mut text = [0u8; Plan::STREAMS * ROOM];
+    let mut text = [0u8; Plan::MOST * ROOM];
     let end = put_all(&mut text, state);
     io::write_all(STDOUT_FILENO, &text[..end]);
 }
@@ -89,7 +89,8 @@ fn tell(state: &[u8]) {
 // Of a saved state.
 fn tell_saved() {
     let mut room = [0u8; saved::ROOM];
-    let end = saved::read(STDIN_FILENO, &mut room);
+    let n = io::read_full(STDIN_FILENO, &mut room);
+    let end = saved::length_of(&room, n);
     let first = ask(&room[..end], 0);
     if first.number == 15 {
         saved::refuse(first.number);
@@ -99,9 +100,9 @@ fn tell_saved() {
 
 // Of a replay, whose own lines go nowhere.
 fn tell_replayed() {
-    let mut state = [0u8; Plan::STATE];
+    let mut state = [0u8; Plan::LONG];
     let nowhere = os::open_overwrite(b"/dev/null");
-    playing::replay(&mut state, Plan::STREAMS as u32, nowhere);
+    playing::replay(&mut state, Plan::MOST as u32, nowhere);
     libc::close(nowhere);
     tell(&state);
 }

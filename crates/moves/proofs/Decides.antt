@@ -1,4 +1,4 @@
--- Whether a stream can move.
+-- What a stream finds, and whether it can move.
 use Prim.Native.Nat.{ℕ, suc, _≤_, _<_, min, max}
 use mathlib.Core.Path.{_≡_, refl, sym, ap, _∙_}
 use mathlib.Core.Bool.{Bool, true, false, not, cond, _&&_, true≢false}
@@ -19,11 +19,15 @@ use Rattle.meaning.specs.Arguments.{argA, argB}
 use Rattle.operators.specs.Operators.{valueOf}
 use Rattle.operators.specs.Windows.{isWindowEqn}
 use Rattle.layout.specs.Record.{Raws, num, rowAt, countF, boundF}
-use Rattle.streams.specs.Look.{ownCell}
+use Rattle.streams.specs.declared.Op.{Op}
+use Rattle.streams.specs.Look.{equation, plain, ownCell}
 use Rattle.streams.proofs.Laws.{look-bound}
 use Rattle.decide.proofs.Searches.{decide-stays}
 use Rattle.sliding.specs.Slide.{widthIn, wordsIn, fitRow}
-use Rattle.moves.specs.Move.{argIn, ownIn, otherIn, foldOf, limitRaw, foundRaw, aheadRaw, boundRaw, canRaw}
+use Rattle.passing.specs.Pass.{argIn, ownIn, otherIn, foldOf}
+use Rattle.making.specs.Make.{boundRaw}
+use Rattle.moves.specs.Move.{limitRaw, foundRaw, aheadRaw, canRaw}
+use Rattle.passing.proofs.Arms.{Other, no-window, plain-is}
 
 and-false : (p : Bool) → (p && false) ≡ false
 and-false true = refl
@@ -81,6 +85,11 @@ limit-own (last _ _) o a b k = refl
 limit-own (delay _ _) o a b k = refl
 limit-own (signal c _ _) o a b k = refl
 limit-own (window f n _) o a b k = refl
+
+-- an operator that is no window
+pub found-other : (n i : ℕ) (o : Op) (c : Cell) (st : Raws) → Other o → decide (plain o) c (otherIn n (argA (equation o)) st) (otherIn n (argB (equation o)) st) ≡ foundRaw n i (equation o) c st
+found-other n i o c st h =
+    ap (λ (e : Eqn). decide e c (otherIn n (argA (equation o)) st) (otherIn n (argB (equation o)) st)) (plain-is o h) ∙ sym (rw (no-window o h))
 
 -- ---- an argument that is not ahead: its bound x and the stream's bound y as they are stored
 

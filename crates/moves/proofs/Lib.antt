@@ -1,5 +1,2 @@
-pub mod Arms
 pub mod Decides
-pub mod Fits
-pub mod Counts
 pub mod Steps

@@ -12,6 +12,7 @@ use Rattle.meaning.specs.Plan.{Unary, time, neg, set, plus, Calc, add, sub, mul
 use Rattle.meaning.specs.Arguments.{arguments, argA, argB}
 use Rattle.meaning.specs.Missing.{canLack}
 use Rattle.operators.specs.Operators.{Operator, noOperator, operators, operatorCount, calcs, calcPlace, folds, foldPlace, unaryNumber, binaryNumber, groupOf, eqnOf, numberOf, valueOf, lacksAt, isPresent, isIn, isLast, isDelay, isSignal, isWindow, takesFirst, takesSecond, isOperator, usesA, usesB, usesK, argumentsOf, eqnGroup}
+use Rattle.operators.specs.Keepers.{isKeeper}
 use Rattle.operators.specs.declared.Group.{Group}
 use Rattle.operators.specs.declared.Group.the-variants.{Absent, One, Two, Signal, Window}
 use Rattle.operators.proofs.Tests.{left, right}
@@ -259,6 +260,10 @@ hasOne g = takesFirst g && not (takesSecond g)
 pub window-range : (n : ℕ) → isWindow (groupOf n) ≡ (leb 28 n && leb n 30)
 unfolding groupOf
 window-range = by-range (λ o. isWindow (o .group)) 28 30 (lit≤ tt) refl refl
+
+pub keeper-range : (n : ℕ) → isKeeper (groupOf n) ≡ (leb 18 n && leb n 27)
+unfolding groupOf
+keeper-range = by-range (λ o. isKeeper (o .group)) 18 27 (lit≤ tt) refl refl
 
 -- set and plus, and the windows
 pub value-range : (n : ℕ) → (usesK n && not (isWindow (groupOf n))) ≡ (leb 5 n && leb n 6)

@@ -2,8 +2,9 @@
 ghost use mathlib.Core.Path.{_≡_};
 ghost use mathlib.Core.Bool.{_&&_};
 ghost use lib.Dec.{eqb, ltb};
-ghost use Rattle.operators.specs.Limits.{stateLength, streamLimit, mostStreams, widthLimit, windowLimit, textLimit, capacity, countFits};
+ghost use Rattle.operators.specs.Limits.{stateLength, longLength, streamLimit, mostStreams, widthLimit, windowLimit, textLimit, capacity, countFits};
 ghost use Rattle.operators.specs.Operators.{groupOf, usesK, lacksAt, isPresent, isIn, isWindow, takesFirst, takesSecond, delaysFirst};
+ghost use Rattle.operators.specs.Keepers.{isKeeper};
 ghost use Rattle.operators.specs.Rules.{valueOk, fieldsOk};
 ghost use Rattle.operators.specs.Windows.{widthOk};
 
@@ -57,6 +58,16 @@ pub fn is_window(number: u64) -> bool
 {
     match number {
         28..=30 => true,
+        _ => false,
+    }
+}
+
+// last, delay, and the signal forms
+pub fn is_keeper(number: u64) -> bool
+    ensures { λ r. ⌜ r ≡ isKeeper (groupOf number) ⌝ }
+{
+    match number {
+        18..=27 => true,
         _ => false,
     }
 }
@@ -249,18 +260,20 @@ pub struct Plan {
 }
 
 impl Plan {
-    // The bytes of a state.
+    // The bytes of a state, and of a longer one.
     pub const STATE: usize = 12288;
-    // The most streams a plan of such a state has.
+
+    pub const LONG: usize = 20480;
+    // The most streams a plan of a state has, and of a longer one.
     pub const STREAMS: usize = 32;
-    // The most streams a plan of any state has.
-    pub const MOST: usize = Self::STREAMS;
+
+    pub const MOST: usize = 64;
     // The greatest width of a window, and the most windows a plan has.
     pub const WIDTH: u64 = 64;
 
     pub const WINDOWS: u64 = 8;
     // The most bytes a plan's text has.
-    pub const TEXT: usize = 2048;
+    pub const TEXT: usize = 4096;
 
     pub fn new(streams: usize) -> Self
         ensures { λ r. ⌜ r .streams ≡ streams ⌝ }
@@ -274,6 +287,8 @@ impl Plan {
     {
         if size == Self::STATE {
             Self::STREAMS
+        } else if size == Self::LONG {
+            Self::MOST
         } else {
             0
         }
@@ -289,7 +304,7 @@ impl Plan {
     // The limits are those of the definitions.
     pub fn limit() -> Self
         ensures { λ r. do ⌜ (r .streams ≡ mostStreams) × ((← ⟦Plan::STATE⟧ .entry) ≡ stateLength) × ((← ⟦Plan::STREAMS⟧ .entry) ≡ streamLimit) × ((← ⟦Plan::MOST⟧ .entry) ≡ mostStreams) × ((← ⟦Plan::TEXT⟧ .entry) ≡ textLimit) ⌝ }
-        ensures { λ r. do ⌜ ((← ⟦Plan::WIDTH⟧ .entry) ≡ widthLimit) × ((← ⟦Plan::WINDOWS⟧ .entry) ≡ windowLimit) ⌝ }
+        ensures { λ r. do ⌜ ((← ⟦Plan::LONG⟧ .entry) ≡ longLength) × ((← ⟦Plan::WIDTH⟧ .entry) ≡ widthLimit) × ((← ⟦Plan::WINDOWS⟧ .entry) ≡ windowLimit) ⌝ }
     {
         Self::new(Self::MOST)
     }

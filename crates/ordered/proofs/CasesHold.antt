@@ -1,11 +1,11 @@
 -- The premises are met: what `./order` printed of some readings is the trace of the definition, and its replay loses nothing.
-use Prim.Native.Nat.{ℕ, zero, suc}
+use Prim.Native.Nat.{ℕ, zero, suc, _<_}
 use mathlib.Core.Path.{_≡_, refl, sym, ap, _∙_, subst}
 use mathlib.Core.List.{List, []}
 use native.Mathlib.Omega.{arith}
 use lib.ListN.{length}
 use Rattle.meaning.specs.CycleTest.{acyclic}
-use Rattle.operators.specs.Limits.{stateLength, capacity}
+use Rattle.operators.specs.Limits.{capacity}
 use Rattle.operators.specs.Operators.{groupOf, usesK, eqnOf}
 use Rattle.operators.specs.Rules.{fieldsOk}
 use Rattle.lines.specs.Form.{skip, field, ended, whole, scan, valueLine, signed, outLine}
@@ -15,6 +15,7 @@ use Rattle.plan.specs.Rules.{allKeep, streams, planFrom, numberAfter, number, d
 use Rattle.machine.specs.State.{Declared}
 use Rattle.runs.specs.Demand3.{IsInput}
 use Rattle.engine.specs.Load.{loadReply}
+use Rattle.histories.proofs.Taking.{taken-anywhere}
 use Rattle.trace.specs.declared.Record.{Record}
 use Rattle.trace.specs.Trace.{valueAfter, stampAfter, boundAfter, inputAfter, line}
 use Rattle.replaying.specs.Whole.{Lines, none, more, Printed}
@@ -74,17 +75,14 @@ case-order : orderOf Cases.streams Cases.readings 10 10 ≡ Cases.records
 unfolding traceTo
 case-order = refl
 
--- on a buffer with room for 32 streams its replay loses nothing
-pub case-lossless : (s : List ℕ) → length s ≡ stateLength → {w t : List ℕ} → Printed Cases.plan Cases.trace s w t → Lossless Cases.streams Cases.readings 10 10 w
+-- on a buffer of any length that states have its replay loses nothing
+pub case-lossless : (s : List ℕ) → 0 < capacity (length s) → {w t : List ℕ} → Printed Cases.plan Cases.trace s w t → Lossless Cases.streams Cases.readings 10 10 w
 case-lossless s size {w} p =
     subst (λ (ds : List Declared). Lossless ds Cases.readings 10 10 w) is
     (order-lossless loads Cases.readings 10 10 (omega arith) (omega arith) (subst (λ (rs : List Record). Lines Cases.trace rs []) (sym case-order ∙ ap (λ (ds : List Declared). orderOf ds Cases.readings 10 10) (sym is)) case-lines) p)
   where
-    room-32 : capacity (length s) ≡ 32
-    room-32 = unfold capacity in rw size
-
     loads : loadReply Cases.plan s .number ≡ 0
-    loads = unfold loadReply in rw room-32 case-number
+    loads = taken-anywhere Cases.plan s size case-number .0
 
     is : declared (capacity (length s)) Cases.plan ≡ Cases.streams
-    is = ap (λ (n : ℕ). declared n Cases.plan) room-32 ∙ case-declared
+    is = taken-anywhere Cases.plan s size case-number .1 ∙ case-declared

@@ -5,6 +5,7 @@ pub mod Noted
 pub mod Decide
 pub mod Rendered
 pub mod Taken
+pub mod More
 pub mod Second
 pub mod Worked
 pub mod Empty

@@ -104,12 +104,12 @@ pub rows-numbered : map (λ r. number 32 (bytes (r .text))) rows ≡ map (λ r. 
 unfolding rows number numberAfter streams allKeep allWidths windowsOk widthOk windows planFrom acyclic head stream opLine named nameAt numberNamed place fieldsAfter field whole scan ended signed valueLine outLine skip fieldsOk groupOf usesK eqnOf
 rows-numbered = refl
 
--- 1 text longer than 2,048 bytes, whatever is in it
-pub too-long : number 32 (replicate 2049 120) ≡ 1
+-- 1 text longer than 4,096 bytes, whatever is in it and whatever the room
+pub too-long : number 32 (replicate 4097 120) ≡ 1
 unfolding number
 too-long = refl
 
-pub just-short : number 32 (replicate 2048 120) ≡ 2
+pub just-short : number 32 (replicate 4096 120) ≡ 2
 unfolding number head skip
 just-short = refl
 
@@ -219,3 +219,30 @@ takens-taken = refl
 pub takens-declared : map (λ r. declared 32 (bytes (r .text))) takens ≡ map (λ r. r .streams) takens
 unfolding takens declared streams head stream opLine named nameAt numberNamed place fieldsAfter field whole scan ended signed valueLine outLine skip eqnOf
 takens-declared = refl
+
+-- ---- with room for 64 streams
+
+abbrev opens : String → String
+opens n = "plan=1\nstreams=" ++ (n ++ "\n")
+
+-- a chain of as many streams as there can be, and a ring of 40
+abbrev numbers : List String
+numbers = "0" ∷ "1" ∷ "2" ∷ "3" ∷ "4" ∷ "5" ∷ "6" ∷ "7" ∷ "8" ∷ "9" ∷ "10" ∷ "11" ∷ "12" ∷ "13" ∷ "14" ∷ "15" ∷ "16" ∷ "17" ∷ "18" ∷ "19" ∷ "20" ∷ "21" ∷ "22" ∷ "23" ∷ "24" ∷ "25" ∷ "26" ∷ "27" ∷ "28" ∷ "29" ∷ "30" ∷ "31" ∷ "32" ∷ "33" ∷ "34" ∷ "35" ∷ "36" ∷ "37" ∷ "38" ∷ "39" ∷ "40" ∷ "41" ∷ "42" ∷ "43" ∷ "44" ∷ "45" ∷ "46" ∷ "47" ∷ "48" ∷ "49" ∷ "50" ∷ "51" ∷ "52" ∷ "53" ∷ "54" ∷ "55" ∷ "56" ∷ "57" ∷ "58" ∷ "59" ∷ "60" ∷ "61" ∷ "62" ∷ []
+
+unfoldable pub longer : List Row
+longer =
+    row (opens "64") 2
+    ∷ row (opens "65") 3
+    ∷ row (opens "0") 3
+    ∷ row (opens "64" ++ (input-line ++ joined (map negates numbers))) 0
+    ∷ row (opens "40" ++ (negates "39" ++ joined (map negates ("0" ∷ "1" ∷ "2" ∷ "3" ∷ "4" ∷ "5" ∷ "6" ∷ "7" ∷ "8" ∷ "9" ∷ "10" ∷ "11" ∷ "12" ∷ "13" ∷ "14" ∷ "15" ∷ "16" ∷ "17" ∷ "18" ∷ "19" ∷ "20" ∷ "21" ∷ "22" ∷ "23" ∷ "24" ∷ "25" ∷ "26" ∷ "27" ∷ "28" ∷ "29" ∷ "30" ∷ "31" ∷ "32" ∷ "33" ∷ "34" ∷ "35" ∷ "36" ∷ "37" ∷ "38" ∷ [])))) 6
+    ∷ []
+
+pub longer-numbered : map (λ r. number 64 (bytes (r .text))) longer ≡ map (λ r. r .number) longer
+unfolding longer number numberAfter streams allKeep allWidths windowsOk widthOk windows planFrom acyclic head stream opLine named nameAt numberNamed place fieldsAfter field whole scan ended signed valueLine outLine skip fieldsOk groupOf usesK eqnOf
+longer-numbered = refl
+
+-- the same text of 33 streams by room
+pub by-room : (number 32 (bytes (opens "33")) ≡ 3) × (number 64 (bytes (opens "33")) ≡ 2)
+unfolding number numberAfter streams head stream opLine named nameAt numberNamed place fieldsAfter field whole scan ended signed valueLine outLine skip
+by-room = (refl, refl)

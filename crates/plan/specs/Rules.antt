@@ -82,7 +82,8 @@ abbrev pub numberOfHead : ℕ → List ℕ → Head → ℕ
 numberOfHead cap s (Head.Streams n at) = numberAfter cap s n (streams s at n)
 numberOfHead cap s (Head.Refused r) = r
 
--- "1 text longer than 2,048 bytes; then the first faulty line decides", for a state with room for so many streams
+-- "the text limit becomes 4,096 bytes": 1 for a longer text, "then the first faulty line decides", for a state with room for so many
+-- streams
 unfoldable pub number : ℕ → List ℕ → ℕ
 number cap s = cond (ltb textLimit (length s)) 1 (numberOfHead cap s (head cap s))
 

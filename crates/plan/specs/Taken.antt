@@ -30,7 +30,7 @@ Each n (d ∷ ds) = StreamKeeps n d × Each n ds
 
 -- the plan of a state with room for so many streams
 pub record KeepsRules (cap : ℕ) (ds : List Declared) : Type 0 where
-  -- "1 to 32", 32 being the capacity, or none: "An empty plan text now means a plan of no streams"
+  -- from 1 to the capacity, or none: "An empty plan text now means a plan of no streams"
   pub few : length ds ≤ cap
   pub each : Each (length ds) ds
   -- no "ninth window"

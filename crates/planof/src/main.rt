@@ -22,6 +22,7 @@ fn tell(state: &[u8]) {
 
 fn main() {
     let mut room = [0u8; saved::ROOM];
-    let end = saved::read(STDIN_FILENO, &mut room);
+    let n = io::read_full(STDIN_FILENO, &mut room);
+    let end = saved::length_of(&room, n);
     tell(&room[..end]);
 }

@@ -18,7 +18,7 @@ use Rattle.encoding.specs.View.{countsWord, ofCell}
 use Rattle.encoding.specs.Sound.{IsCount}
 use Rattle.streams.specs.Look.{ownCell}
 use Rattle.counting.specs.Tally.{countedRow}
-use Rattle.moves.specs.Move.{foldOf, summedFor}
+use Rattle.passing.specs.Pass.{foldOf, summedFor}
 
 -- ---- a cell's record with other counts
 

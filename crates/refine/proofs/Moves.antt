@@ -44,7 +44,9 @@ use Rattle.queue.specs.Queue.{pushed}
 use Rattle.readers.specs.Step.{toldRow, releasedRow}
 use Rattle.sliding.specs.Slide.{widthIn, fitRow, missingRow, slidRow}
 use Rattle.counting.specs.Tally.{countedRow}
-use Rattle.moves.specs.Move.{argIn, ownIn, otherIn, foldOf, foundRaw, aheadRaw, boundRaw, canRaw, slidRaw, summedFor, missedRaw, countedRaw, passedRaw, keptRaw, absorbedRaw, releasedArgs, releasedAll, silentRaw, eventRaw, stepRaw, movedRaw}
+use Rattle.passing.specs.Pass.{argIn, ownIn, otherIn, foldOf, slidRaw, summedFor, missedRaw, countedRaw, passedRaw}
+use Rattle.making.specs.Make.{boundRaw, keptRaw, absorbedRaw, releasedArgs, releasedAll, silentRaw, eventRaw, stepRaw}
+use Rattle.moves.specs.Move.{foundRaw, aheadRaw, canRaw, movedRaw}
 use Rattle.refine.proofs.Queues.{bound-of, silent-is, push-of}
 use Rattle.refine.proofs.Whole.{row-of, change-of, tell-of, release-row-of}
 use Rattle.refine.proofs.Slides.{Fine, fine, rises, decide-plain, decide-window, pass-plain, pass-window, fit-of, missing-of, slid-of}

@@ -28,7 +28,7 @@ use Rattle.encoding.specs.View.{windowsOf, wordsOf, keptNums, countsWord, rawOf
 use Rattle.encoding.specs.Sound.{Rising, AllValues, IsPassed}
 use Rattle.roundtrip.proofs.Windows.{words-small, values-back}
 use Rattle.sliding.specs.Slide.{widthIn, windowsBefore, placeOf, fillOf, wordsIn, fitRow, missingRow, slidWords, slidRow}
-use Rattle.moves.specs.Move.{foldOf}
+use Rattle.passing.specs.Pass.{foldOf}
 use Rattle.refine.proofs.Whole.{row-of, set-of}
 use Rattle.refine.proofs.Windows.{window-words, window-over, window-at, window-put, rank, rank-of, rank-below, rank-few, rank-window, windows-set, fill-of}
 

@@ -4,6 +4,6 @@ use libc::STDOUT_FILENO;
 use operators::Plan;
 
 fn main() {
-    let mut state = [0u8; Plan::STATE];
-    playing::replay(&mut state, Plan::STREAMS as u32, STDOUT_FILENO);
+    let mut state = [0u8; Plan::LONG];
+    playing::replay(&mut state, Plan::MOST as u32, STDOUT_FILENO);
 }

@@ -32,7 +32,7 @@ openings =
     ∷ opening "\n" (Head.Refused 2)
     ∷ opening "plan=1\nstreams=1\n" (Head.Streams 1 17)
     ∷ opening "plan=1\nstreams=32\nop=nil\n" (Head.Streams 32 18)
-    -- 3 streams 0 or above 32, whatever comes after it
+    -- 3 streams 0 or above the capacity, whatever comes after it
     ∷ opening "plan=1\nstreams=0\n" (Head.Refused 3)
     ∷ opening "plan=1\nstreams=33\n" (Head.Refused 3)
     ∷ opening "plan=1\nstreams=999\nop=Nil" (Head.Refused 3)

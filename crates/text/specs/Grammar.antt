@@ -111,7 +111,7 @@ stream s at = streamAfter s (opLine s at)
 
 -- ## The first two lines: `plan=1`, `streams=N`
 
--- "3 streams 0 or above 32", 32 being the capacity
+-- 3 streams 0 or above the capacity: "Load gives 3 where the count is above the limit of the buffer lent"
 abbrev pub counts : ℕ → Numeral → Head
 counts cap (Number n p) = cond (countFits cap n) (Head.Streams n p) (Head.Refused 3)
 counts cap Fault = Head.Refused 2

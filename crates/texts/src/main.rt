@@ -35,7 +35,7 @@ fn one(table: &[u8], from: usize) -> usize
     let next = find(table, b'#', start);
     io::print_decimal(
         STDOUT_FILENO,
-        plan::number(&table[start..next], Plan::STREAMS) as u64,
+        plan::number(&table[start..next], Plan::MOST) as u64,
     );
     io::write_all(STDOUT_FILENO, b" ");
     io::write_all(STDOUT_FILENO, &table[from..start]);

@@ -22,5 +22,5 @@ fn tell(fault: Fault) {
 fn main() {
     let mut text = [0u8; ROOM];
     let n = io::read_full(STDIN_FILENO, &mut text);
-    tell(faults::find(&text[..n], Plan::STREAMS));
+    tell(faults::find(&text[..n], Plan::MOST));
 }

@@ -1,7 +1,7 @@
 -- Document 01's whole example prints what the document says. The states are bytes and the stamps go to the horizon, so nothing is
 -- run here: the plan's text and the trace are computed; that the offers are accepted, and which events have been handed out at
 -- rest, follows from demands 2 and 3.
-use Prim.Native.Nat.{ℕ, zero, suc, _≤_}
+use Prim.Native.Nat.{ℕ, zero, suc, _≤_, _<_}
 use mathlib.Core.Path.{_≡_, refl, sym, ap, ap₂, _∙_, subst}
 use mathlib.Core.Logic.{inl}
 use mathlib.Core.Bool.{Bool, true, false}
@@ -15,7 +15,8 @@ use Rattle.le.specs.Bytes.{Bytes}
 use Rattle.meaning.specs.Plan.{isInput}
 use Rattle.meaning.specs.Events.{Event, ev, Streams, found, events}
 use Rattle.meaning.specs.CycleTest.{acyclic}
-use Rattle.operators.specs.Limits.{stateLength, capacity}
+use Rattle.operators.specs.Limits.{capacity}
+use Rattle.operators.proofs.Sizes.{capacity-few}
 use Rattle.operators.specs.Operators.{groupOf, usesK, eqnOf}
 use Rattle.operators.specs.Rules.{fieldsOk}
 use Rattle.lines.specs.Form.{skip, field, ended, whole, scan, valueLine, signed, outLine}
@@ -37,6 +38,7 @@ use Rattle.engine.specs.Load.{loadReply}
 use Rattle.histories.specs.Demands.{seenIn}
 use Rattle.histories.specs.Inside.{Inside}
 use Rattle.engine.proofs.Loads.{load-length}
+use Rattle.histories.proofs.Taking.{capacity-least, taken-anywhere}
 use Rattle.histories.proofs.Whole.{rules-keep, seenBy, load-then}
 use Rattle.decimal.specs.Decimal.{digits}
 use Rattle.trace.specs.declared.Record.the-variants.{Reading}
@@ -89,7 +91,7 @@ between {a} {b} (r, e) (q, f) =
     empty [] z = refl
     empty (x ∷ l) z = absurd (omega arith)
 
--- ## On a buffer that has room for 32 streams
+-- ## On a buffer of any length that states have
 
 -- the inputs and outputs of the plan
 only-output : (i : ℕ) → IsOutput Visits.streams i → i ≡ 5
@@ -119,17 +121,15 @@ offer-done t v M i h = rw (i, le-ltb t (cellAt M 0 .bound) h) (by (leb room (len
     by true n = absurd (n refl)
     by false n = refl
 
-module _ (s : List ℕ) (size : length s ≡ stateLength) where
-  room-32 : capacity (length s) ≡ 32
-  unfolding capacity
-  room-32 = rw size
+module _ (s : List ℕ) (size : 0 < capacity (length s)) where
+  abbrev cap : ℕ
+  cap = capacity (length s)
 
   taken : loadReply visits s .number ≡ 0
-  unfolding loadReply
-  taken = rw (room-32) visits-taken
+  taken = taken-anywhere visits s size visits-taken .0
 
   plan-is : plan visits s taken ≡ Visits.streams
-  plan-is = ap (λ (l : ℕ). declared (capacity l) visits) (load-length visits s) ∙ ap (λ (n : ℕ). declared n visits) room-32 ∙ visits-declared
+  plan-is = ap (λ (l : ℕ). declared (capacity l) visits) (load-length visits s) ∙ taken-anywhere visits s size visits-taken .1 ∙ visits-declared
 
   -- demands 2 and 3 of any calls on the loaded state
   holds : (cs : List Call) → AllTyped cs → Inside Visits.streams cs (seenBy (loadReply visits s .buffer) cs) (leftBy (loadReply visits s .buffer) cs)
@@ -173,9 +173,9 @@ module _ (s : List ℕ) (size : length s ≡ stateLength) where
   begun = record { calls = []; typed = tt; buffer = refl; knowing = refl; accepting = refl; plain = tt; lines = refl }
 
   -- "runs to rest, collects all outputs"
-  settled : {b : List ℕ} {y : ℕ} {got : List Event} {w v t : List ℕ} → Begun b y got w → Fine b → Prints 32 start b v Rest t → Begun t y got (w ++ v) × Still 32 t
+  settled : {b : List ℕ} {y : ℕ} {got : List Event} {w v t : List ℕ} → Begun b y got w → Fine b → Prints cap start b v Rest t → Begun t y got (w ++ v) × Still cap t
   settled {b} {y} {got} x f p =
-      let m = prints-made (omega arith) p f tt in
+      let m = prints-made (let h = capacity-few (length s) in omega arith) p f tt in
       let f0 = loadReply visits s .buffer in
       let made = m .0 in
       let same = seen-append f0 (x .calls) (made .calls) in (
@@ -193,14 +193,14 @@ module _ (s : List ℕ) (size : length s ≡ stateLength) where
         m .1,
       )
 
-  at-rest : {b : List ℕ} {y : ℕ} {got : List Event} {w : List ℕ} (x : Begun b y got w) → Still 32 b → AtRest Visits.streams (nextNumber Visits.streams (x .calls))
-  at-rest x q = still-rest 32 Visits.streams (x .calls) (omega arith) (holds (x .calls) (x .typed)) (x .typed) (subst (Still 32) (x .buffer) q)
+  at-rest : {b : List ℕ} {y : ℕ} {got : List Event} {w : List ℕ} (x : Begun b y got w) → Still cap b → AtRest Visits.streams (nextNumber Visits.streams (x .calls))
+  at-rest x q = still-rest cap Visits.streams (x .calls) (let h = capacity-least (length s) size in omega arith) (holds (x .calls) (x .typed)) (x .typed) (subst (Still cap) (x .buffer) q)
 
   behind : (cs : List Call) → FurthestBehind Visits.streams (seen Visits.streams cs) 0
   behind cs = record { isInput = (omega arith, tt); least = λ j h. rw (only-input j h) (omega arith) }
 
   -- a reading that comes no earlier than the input is known to is accepted
-  offers : {b : List ℕ} {y : ℕ} {got : List Event} {w : List ℕ} → Begun b y got w → Still 32 b → (t : ℕ) (v : ℤ) → y ≤ t → Typed (reading 0 t v)
+  offers : {b : List ℕ} {y : ℕ} {got : List Event} {w : List ℕ} → Begun b y got w → Still cap b → (t : ℕ) (v : ℤ) → y ≤ t → Typed (reading 0 t v)
       → (reply (reading 0 t v) b .number ≡ 0) × Begun (reply (reading 0 t v) b .buffer) (suc t) (got ++ ev t v ∷ []) w
   offers {b} {y} {got} {w} x q t v h k = (number-0, after-offer)
     where
@@ -242,7 +242,7 @@ module _ (s : List ℕ) (size : length s ≡ stateLength) where
           nothing-printed = printed-last (seenBy f0 (x .calls)) (seenIn (reading 0 t v) (reply (reading 0 t v) b)) (rw number-0)
 
   -- at rest after both visits all counts have been handed out
-  counted : {b w : List ℕ} → Begun b 6 Visits.visits w → Still 32 b → w ≡ linesOf 5 Visits.counts
+  counted : {b w : List ℕ} → Begun b 6 Visits.visits w → Still cap b → w ≡ linesOf 5 Visits.counts
   counted {b} {w} x q = x .lines ∙ printed-handed 5 (seenBy f0 (x .calls)) (x .plain) ∙ ap (λ (l : List Seen). linesOf 5 (handed 5 l)) (H .logged) ∙ ap (linesOf 5) all-handed
     where
       f0 : List ℕ
@@ -283,7 +283,7 @@ visits-lines : Lines trace (Reading 0 3 (pos 7) ∷ Reading 0 5 (pos 7) ∷ []) 
 unfolding line inputAfter stampAfter boundAfter valueAfter signed whole scan skip
 visits-lines = more refl (more refl none)
 
-replayed : (s : List ℕ) → length s ≡ stateLength → {w t : List ℕ} → Replays 32 (loadReply visits s .buffer) (Reading 0 3 (pos 7) ∷ Reading 0 5 (pos 7) ∷ []) w t → w ≡ linesOf 5 Visits.counts
+replayed : (s : List ℕ) → 0 < capacity (length s) → {w t : List ℕ} → Replays (capacity (length s)) (loadReply visits s .buffer) (Reading 0 3 (pos 7) ∷ Reading 0 5 (pos 7) ∷ []) w t → w ≡ linesOf 5 Visits.counts
 replayed s size (goes {w = w₀} {t = t₀} x₀ (goes {w = w₁} {t = t₁} x₁ (ends {w = w₂} x₂))) =
     let a = settled s size (begun s size) (inl (fresh-fine s size)) x₀ in
     let b = offers s size (a .0) (a .1) 3 (pos 7) (omega arith) (omega arith, omega arith, omega arith) in
@@ -292,18 +292,18 @@ replayed s size (goes {w = w₀} {t = t₀} x₀ (goes {w = w₁} {t = t₁} x�
     let e = settled s size (d .1) (reply-fine (reading 0 5 (pos 7)) t₁) x₂ in
     rw (b .0, d .0, append-nil w₀, append-nil w₁) (sym (append-assoc w₀ w₁ w₂) ∙ counted s size (e .0) (e .1))
 
-pub example-prints : (s : List ℕ) → length s ≡ stateLength → {w t : List ℕ} → Printed visits trace s w t → w ≡ printed
+pub example-prints : (s : List ℕ) → 0 < capacity (length s) → {w t : List ℕ} → Printed visits trace s w t → w ≡ printed
 example-prints s size (refused e) = let z = taken s size in let q : _≡_ {A = ℕ} 0 1 = cc in absurd (omega arith)
 example-prints s size (played {rs} {w = w} {t = t} {v = v} e l x m) =
     let o = lines-once l m visits-lines end in
-    let y : Replays 32 (loadReply visits s .buffer) (Reading 0 3 (pos 7) ∷ Reading 0 5 (pos 7) ∷ []) w t = rw (room-32 s size, o .0) at x in
+    let y : Replays (capacity (length s)) (loadReply visits s .buffer) (Reading 0 3 (pos 7) ∷ Reading 0 5 (pos 7) ∷ []) w t = rw (o .0) at x in
     ap₂ _++_ (replayed s size y) (o .1) ∙ shown
   where
     shown : linesOf 5 Visits.counts ++ [] ≡ printed
     shown = unfold linesOf eventText digits in refl
 
 -- the document's bytes are what is printed
-pub example-printed : (s : List ℕ) → length s ≡ stateLength → (t : List ℕ) × Printed visits trace s printed t
+pub example-printed : (s : List ℕ) → 0 < capacity (length s) → (t : List ℕ) × Printed visits trace s printed t
 example-printed s size =
     let x = printed-exists visits trace s in
     (x .1, subst (λ (w : List ℕ). Printed visits trace s w (x .1)) (example-prints s size (x .2)) (x .2))

@@ -1,6 +1,10 @@
 //! A safe wrapper around the C interface, the same for both engines: a table of functions over a lent state, and a lent block or text.
 
+use crate::layout::Size;
+
+/// The two lengths of a state, for 32 streams and for 64.
 pub const STATE_LENGTH: usize = 12_288;
+pub const LONG_STATE_LENGTH: usize = 20_480;
 pub const BLOCK_LENGTH: usize = 24;
 
 type Load = unsafe extern "C" fn(*mut u8, u64, *const u8, u64) -> u32;
@@ -11,6 +15,7 @@ type Run = unsafe extern "C" fn(*mut u8, u64, u32, *mut u32) -> u32;
 type Collect = unsafe extern "C" fn(*mut u8, u64, u32, *mut u32, *mut i64) -> u32;
 type PlanText = unsafe extern "C" fn(*const u8, u64, *mut u8, u64, *mut u64) -> u32;
 type ReadMissing = unsafe extern "C" fn(*const u8, u64, u32, *mut u32, *mut u32) -> u32;
+type Widen = unsafe extern "C" fn(*const u8, u64, *mut u8, u64) -> u32;
 type RegisterWrite = unsafe extern "C" fn(*mut u8, u64, *mut u8, u64, u32, u8) -> u32;
 type RegisterLine = unsafe extern "C" fn(*const u8, u64, *mut u32) -> u32;
 
@@ -23,6 +28,7 @@ extern "C" {
     fn ref_collect(state: *mut u8, state_length: u64, stream: u32, stamp: *mut u32, value: *mut i64) -> u32;
     fn ref_plan_text(state: *const u8, state_length: u64, text: *mut u8, text_length: u64, length: *mut u64) -> u32;
     fn ref_missing(state: *const u8, state_length: u64, stream: u32, outside: *mut u32, zero: *mut u32) -> u32;
+    fn ref_widen(from: *const u8, from_length: u64, to: *mut u8, to_length: u64) -> u32;
     fn ref_register_write(state: *mut u8, state_length: u64, block: *mut u8, block_length: u64, at: u32, byte: u8) -> u32;
     fn ref_register_line(block: *const u8, block_length: u64, up: *mut u32) -> u32;
 
@@ -34,6 +40,7 @@ extern "C" {
     fn tessla_collect(state: *mut u8, state_length: u64, stream: u32, stamp: *mut u32, value: *mut i64) -> u32;
     fn tessla_plan_text(state: *const u8, state_length: u64, text: *mut u8, text_length: u64, length: *mut u64) -> u32;
     fn tessla_missing(state: *const u8, state_length: u64, stream: u32, outside: *mut u32, zero: *mut u32) -> u32;
+    fn tessla_widen(from: *const u8, from_length: u64, to: *mut u8, to_length: u64) -> u32;
     fn tessla_register_write(state: *mut u8, state_length: u64, block: *mut u8, block_length: u64, at: u32, byte: u8) -> u32;
     fn tessla_register_line(block: *const u8, block_length: u64, up: *mut u32) -> u32;
 }
@@ -49,6 +56,7 @@ pub struct Engine {
     collect: Collect,
     plan_text: PlanText,
     read_missing: ReadMissing,
+    widen: Widen,
     register_write: RegisterWrite,
     register_line: RegisterLine,
 }
@@ -64,6 +72,7 @@ pub const REFERENCE: Engine = Engine {
     collect: ref_collect,
     plan_text: ref_plan_text,
     read_missing: ref_missing,
+    widen: ref_widen,
     register_write: ref_register_write,
     register_line: ref_register_line,
 };
@@ -79,6 +88,7 @@ pub const LIBRARY: Engine = Engine {
     collect: tessla_collect,
     plan_text: tessla_plan_text,
     read_missing: tessla_missing,
+    widen: tessla_widen,
     register_write: tessla_register_write,
     register_line: tessla_register_line,
 };
@@ -116,6 +126,11 @@ pub enum Call {
 /// What the results hold before a call, so that a result left alone is seen.
 const STALE: Answer = Answer { number: 0, moves: 0xDEAD_BEEF, stamp: 0xDEAD_BEEF, value: -0x0123_4567_89AB_CDEF };
 const STALE_LENGTH: u64 = 0xDEAD_BEEF_0123_4567;
+
+/// Whether a state may have this length.
+fn is_length(length: u64) -> bool {
+    usize::try_from(length).is_ok_and(|length| Size::of(length).is_some())
+}
 
 impl Engine {
     pub fn load(&self, state: &mut [u8], text: &[u8]) -> u32 {
@@ -165,7 +180,7 @@ impl Engine {
     /// The same with other lengths said: of a state one that is refused, of the buffer more than it has. Of that nothing behind the
     /// plan's text may be touched.
     pub fn plan_text_claiming(&self, state: &mut [u8], text: &mut [u8], lengths: (u64, u64)) -> (u32, u64) {
-        assert!(lengths.0 == state.len() as u64 || lengths.0 != STATE_LENGTH as u64);
+        assert!(lengths.0 == state.len() as u64 || !is_length(lengths.0));
         assert!(lengths.1 >= text.len() as u64);
         let mut length = STALE_LENGTH;
         // SAFETY: both slices are borrowed for writing and do not overlap; a length that is not the state's own is refused, and one
@@ -190,12 +205,28 @@ impl Engine {
 
     /// The same with another length said of the state: nothing behind such a pointer may be touched.
     pub fn missing_claiming(&self, state: &mut [u8], length: u64, stream: u32) -> (u32, Missing) {
-        assert!(length == state.len() as u64 || length != STATE_LENGTH as u64);
+        assert!(length == state.len() as u64 || !is_length(length));
         let mut results = [STALE.moves, !STALE.moves];
         let [outside, zero] = &mut results;
         // SAFETY: as above; the results are locals.
         let number = unsafe { (self.read_missing)(state.as_mut_ptr(), length, stream, outside, zero) };
         (number, Missing { outside: results[0], zero: results[1] })
+    }
+
+    /// A state copied into a longer buffer: the number. Both are borrowed for writing, so that a byte of the source that is written can
+    /// be seen.
+    pub fn widen(&self, from: &mut [u8], to: &mut [u8]) -> u32 {
+        let lengths = (from.len() as u64, to.len() as u64);
+        self.widen_claiming(from, to, lengths)
+    }
+
+    /// The same with other lengths said: one that no state has, or the other's, so that the call is refused. Nothing behind the pointers may
+    /// be touched then, but of a source that has the length that is said.
+    pub fn widen_claiming(&self, from: &mut [u8], to: &mut [u8], lengths: (u64, u64)) -> u32 {
+        let own = lengths == (from.len() as u64, to.len() as u64);
+        assert!(own || lengths.0 != STATE_LENGTH as u64 || (lengths.0 == from.len() as u64 && lengths.1 != LONG_STATE_LENGTH as u64));
+        // SAFETY: both slices are borrowed for writing and do not overlap; lengths that are not their own are refused.
+        unsafe { (self.widen)(from.as_mut_ptr(), lengths.0, to.as_mut_ptr(), lengths.1) }
     }
 
     /// One byte written to the block, and the number that comes back.
@@ -206,8 +237,8 @@ impl Engine {
 
     /// The same with other lengths said of state and block: nothing behind such a pointer may be touched.
     pub fn write_claiming(&self, state: &mut [u8], block: &mut [u8], lengths: (u64, u64), at: u32, byte: u8) -> u32 {
-        let own = |said: u64, slice: &[u8], right: usize| said == slice.len() as u64 || said != right as u64;
-        assert!(own(lengths.0, state, STATE_LENGTH) && own(lengths.1, block, BLOCK_LENGTH));
+        assert!(lengths.0 == state.len() as u64 || !is_length(lengths.0));
+        assert!(lengths.1 == block.len() as u64 || lengths.1 != BLOCK_LENGTH as u64);
         // SAFETY: both slices are borrowed for writing and do not overlap; a length that is not a slice's own is refused.
         unsafe { (self.register_write)(state.as_mut_ptr(), lengths.0, block.as_mut_ptr(), lengths.1, at, byte) }
     }

@@ -2,9 +2,9 @@
 //! reach below y counts as y". Written from documents 01 and 02, docs/LAYOUT.md and docs/DECISIONS.md. Slow and plain: it
 //! searches where the engines step.
 
-use crate::engine::{Answer, Call, Missing, STATE_LENGTH};
+use crate::engine::{Answer, Call, Missing};
 use crate::evaluator::{Events, Why, HORIZON};
-use crate::layout;
+use crate::layout::{self, Size};
 use crate::missing::absent;
 use crate::model::{at_one_stamp, at_window, Division};
 use crate::plan::{keeps_cycle_rule, keeps_window_rule, windows, Op, Plan, Stream, OPERATORS};
@@ -35,6 +35,8 @@ pub struct Record {
 pub struct Found {
     pub plan: Plan,
     pub records: Vec<Record>,
+    /// in how many bytes it lies
+    pub size: Size,
     /// not of the bytes: by which rule the calls divide
     pub division: Division,
 }
@@ -135,16 +137,18 @@ fn read_windows(bytes: &[u8], plan: &Plan, records: &mut [Record]) -> Option<()>
 impl Found {
     /// The state that load leaves: all bounds 0.
     pub fn fresh(plan: &Plan) -> Found {
-        Found { plan: plan.clone(), records: vec![Record::default(); plan.len()], ..Found::default() }
+        Found::fresh_in(Size::Short, plan)
+    }
+
+    pub fn fresh_in(size: Size, plan: &Plan) -> Found {
+        Found { plan: plan.clone(), records: vec![Record::default(); plan.len()], size, ..Found::default() }
     }
 
     /// The state that bytes give, or none: 15.
     pub fn read(state: &[u8]) -> Option<Found> {
-        if state.len() != STATE_LENGTH {
-            return None;
-        }
-        let (all, behind) = state.split_at(layout::WINDOWS);
-        let n = all.chunks(256).position(|r| r[0] == 0).unwrap_or(32);
+        let size = Size::of(state.len())?;
+        let (all, behind) = state.split_at(size.windows());
+        let n = all.chunks(256).position(|r| r[0] == 0).unwrap_or(size.cap());
         // with no streams too: all bytes are 0
         if all[256 * n..].iter().any(|&x| x != 0) {
             return None;
@@ -154,12 +158,13 @@ impl Found {
             return None;
         }
         read_windows(behind, &plan, &mut records)?;
-        Some(Found { plan, records, division: Division::Down })
+        Some(Found { plan, records, size, division: Division::Down })
     }
 
     pub fn bytes(&self) -> Vec<u8> {
-        let mut state = vec![0; STATE_LENGTH];
-        for (slot, s) in state[layout::WINDOWS..].chunks_mut(layout::WINDOW).zip(windows(&self.plan)) {
+        assert!(self.plan.len() <= self.size.cap());
+        let mut state = vec![0; self.size.length()];
+        for (slot, s) in state[self.size.windows()..].chunks_mut(layout::WINDOW).zip(windows(&self.plan)) {
             for (at, v) in slot.chunks_mut(8).zip(&self.records[s].window) {
                 at.copy_from_slice(&v.to_le_bytes());
             }

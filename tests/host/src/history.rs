@@ -1,12 +1,13 @@
 //! A list of calls made on every engine at once, directly or by writes to a block of registers, and what document 01's "Whole runs"
-//! says of it, worked out from the numbers and results that the calls returned.
+//! says of it, worked out from the numbers and results that the calls returned. The states may be of either length; or they are short ones
+//! with a widened copy of each, on which all calls are made too, and which is the short one widened after each.
 
 use crate::buffer::Lent;
-use crate::engine::{engines, Answer, Call, Missing, BLOCK_LENGTH, STATE_LENGTH};
+use crate::engine::{engines, Answer, Call, Missing, BLOCK_LENGTH};
 use crate::evaluator::{evaluate, meaning, Events, Meaning, HORIZON};
 use crate::found::Found;
-use crate::layout;
-use crate::plan::{text_of, Op, Plan};
+use crate::layout::{self, widened, Size};
+use crate::plan::{parse_in, text_of, Op, Plan};
 use crate::random::{seed, Random};
 use crate::registers::{line, writes, Act, Board, Direct};
 use crate::saved::Saved;
@@ -20,6 +21,8 @@ const MOST_COUNTED: usize = 3_000;
 pub struct Session {
     pub plan: Plan,
     pub states: Vec<Lent>,
+    /// of each state its widened copy, or none of any
+    pub twins: Vec<Lent>,
     pub blocks: Vec<Lent>,
     pub accepted: Vec<Events>,
     pub known: Vec<u64>,
@@ -35,14 +38,38 @@ impl Session {
         let n = plan.len();
         let blocks = states.iter().map(|_| Lent::of(&[0; BLOCK_LENGTH])).collect();
         Session {
-            plan: plan.clone(), states, blocks, accepted: vec![Events::new(); n], known: vec![0; n], handed: vec![vec![]; n], counted_from: vec![0; n],
+            plan: plan.clone(), states, twins: vec![], blocks, accepted: vec![Events::new(); n], known: vec![0; n], handed: vec![vec![]; n], counted_from: vec![0; n],
             list: vec![],
         }
     }
 
+    /// A plan of at most 32 streams in a state of 12,288 bytes, with a widened copy; one of more in a state of 20,480.
     pub fn load(plan: &Plan) -> Session {
-        let states = engines().iter().map(|_| Lent::of(&vec![0x5A; STATE_LENGTH])).collect();
+        if plan.len() > Size::Short.cap() { Session::load_in(Size::Long, plan) } else { Session::load_in(Size::Short, plan).widened() }
+    }
+
+    pub fn load_in(size: Size, plan: &Plan) -> Session {
+        let states = engines().iter().map(|_| Lent::of(&vec![0x5A; size.length()])).collect();
         Session::load_over(plan, states)
+    }
+
+    /// The session with a widened copy of each state, made by its engine: "a call copies one into a 20,480-byte buffer where it goes on from
+    /// the same point".
+    pub fn widened(mut self) -> Session {
+        self.twins = vec![];
+        for (engine, state) in engines().iter().zip(&mut self.states) {
+            let (before, mut twin) = (state.to_vec(), Lent::of(&vec![0xC3; Size::Long.length()]));
+            assert_eq!(engine.widen(state, &mut twin), 0, "{}: {:?}", engine.name, text_of(&self.plan));
+            assert!(state[..] == before[..] && state.untouched() && twin.untouched(), "{}: written", engine.name);
+            self.twins.push(twin);
+        }
+        self.same();
+        self
+    }
+
+    /// In how many bytes the states lie.
+    pub fn size(&self) -> Size {
+        Size::of(self.state().len()).expect("a state's length")
     }
 
     /// "A load that is done starts a new list". What the buffers held before does not matter: all bounds are 0.
@@ -54,7 +81,7 @@ impl Session {
         }
         let session = Session::begin(plan, states);
         session.same();
-        assert!(session.state() == Found::fresh(plan).bytes(), "not a fresh state\n{}", session.story());
+        assert!(session.state() == Found::fresh_in(session.size(), plan).bytes(), "not a fresh state\n{}", session.story());
         session
     }
 
@@ -65,11 +92,32 @@ impl Session {
             assert_eq!(engine.load(state, text), number, "{}: {:?}", engine.name, String::from_utf8_lossy(text));
             assert!(state[..] == before[..] && state.untouched(), "{} wrote on a refusal", engine.name);
         }
+        // on a copy: there it may be taken, if it is 3 here
+        for (engine, twin) in engines().iter().zip(&self.twins) {
+            let (mut copy, parsed) = (twin.clone(), parse_in(Size::Long, text));
+            let long = parsed.as_ref().err().copied().unwrap_or(0);
+            assert!(engine.load(&mut copy, text) == long && (long == number || number == 3), "{}: {:?}", engine.name, String::from_utf8_lossy(text));
+            let left = parsed.map_or(twin.to_vec(), |plan| Found::fresh_in(Size::Long, &plan).bytes());
+            assert!(copy[..] == left[..] && copy.untouched(), "{}: {:?}", engine.name, String::from_utf8_lossy(text));
+        }
     }
 
-    /// A saved state put back: it has had the calls made up to its copy. "an older state counts from its first move here"
+    /// Another plan over the one that is there, and over its widened copy: both are fresh, and so is the list.
+    pub fn load_both(self, plan: &Plan) -> Session {
+        let text = Lent::of(text_of(plan).as_bytes());
+        let mut session = Session::load_over(plan, self.states);
+        for (engine, mut twin) in engines().iter().zip(self.twins) {
+            assert_eq!(engine.load(&mut twin, &text), 0, "{}: {:?}", engine.name, text_of(plan));
+            session.twins.push(twin);
+        }
+        session.same();
+        session
+    }
+
+    /// A saved state put back, and a widened copy: it has had the calls made up to its copy. "an older state counts from its first move
+    /// here"
     pub fn put_back(saved: &Saved) -> Session {
-        let mut session = Session::begin(&saved.plan, engines().iter().map(|_| Lent::of(&saved.bytes)).collect());
+        let mut session = Session::begin(&saved.plan, engines().iter().map(|_| Lent::of(&saved.bytes)).collect()).widened();
         if saved.before_counts() {
             session.counted_from = (0..saved.plan.len()).map(|s| layout::bound(&saved.bytes, s)).collect();
         }
@@ -102,9 +150,20 @@ impl Session {
     fn same(&self) {
         for state in &self.states[1..] {
             if state[..] != self.states[0][..] {
-                let at = (0..STATE_LENGTH).find(|&i| state[i] != self.states[0][i]).unwrap();
+                let at = (0..state.len()).find(|&i| state[i] != self.states[0][i]).unwrap();
                 panic!("the engines' states differ at byte {} of record {}\n{}", at % 256, at / 256, self.story());
             }
+        }
+        if self.twins.is_empty() {
+            return;
+        }
+        let wanted = widened(&self.states[0]);
+        for (engine, twin) in engines().iter().zip(&self.twins) {
+            if twin[..] != wanted[..] {
+                let at = (0..twin.len()).find(|&i| twin[i] != wanted[i]).unwrap();
+                panic!("{}: the widened state differs at byte {} of record {}\n{}", engine.name, at % 256, at / 256, self.story());
+            }
+            assert!(twin.untouched(), "{}: written outside the widened state\n{}", engine.name, self.story());
         }
     }
 
@@ -114,6 +173,9 @@ impl Session {
         let before = self.states[0].to_vec();
         let answers: Vec<Answer> =
             engines().iter().zip(&mut self.states).map(|(engine, state)| engine.call(state, call)).collect();
+        for (engine, twin) in engines().iter().zip(&mut self.twins) {
+            assert_eq!(engine.call(twin, call), answers[0], "{}: another answer of the widened state, {:?}", engine.name, self.list);
+        }
         for answer in &answers[1..] {
             assert_eq!(answers[0], *answer, "the engines' answers differ\n{}", self.story());
         }
@@ -133,6 +195,7 @@ impl Session {
     pub fn write(&mut self, at: u32, byte: u8) -> u32 {
         self.list.push(Act::Write(at, byte));
         let mut ends = vec![];
+        let before = self.block().to_vec();
         for ((engine, state), block) in engines().into_iter().zip(&mut self.states).zip(&mut self.blocks) {
             let mut board = Board { calls: Direct::on(engine, state), block: block.to_vec() };
             let (wanted, number) = (board.write(at, byte), engine.write(state, block, at, byte));
@@ -142,6 +205,11 @@ impl Session {
             assert_eq!(engine.line(block), line(block), "{}", story());
             assert!(state.untouched() && block.untouched(), "{}: written outside", story());
             ends.push((number, board.calls.made));
+        }
+        for ((engine, twin), block) in engines().iter().zip(&mut self.twins).zip(&self.blocks) {
+            let mut copy = Lent::of(&before);
+            assert_eq!(engine.write(twin, &mut copy, at, byte), ends[0].0, "{}: of the widened state, {byte} at {at}", engine.name);
+            assert!(copy[..] == block[..] && copy.untouched(), "{}: another block of the widened state, {byte} at {at}", engine.name);
         }
         self.same();
         assert_eq!(ends[0], ends[1], "the engines differ\n{}", self.story());
@@ -171,15 +239,17 @@ impl Session {
     pub fn text_back(&mut self, room: usize) -> Given {
         let (before, buffer) = (self.states[0].to_vec(), pattern(room));
         let wanted = given(Some(&self.plan), &buffer);
-        for (engine, state) in engines().iter().zip(&mut self.states) {
+        for (engine, state) in engines().iter().zip(&mut self.states).chain(engines().iter().zip(&mut self.twins)) {
             let mut text = Lent::of(&buffer);
             let (number, length) = engine.plan_text(state, &mut text);
             let end = Given { number, length, buffer: text.to_vec() };
             if end != wanted {
                 panic!("{}: {} bytes of text into {room}, number {number}, wanted {} and {}", engine.name, length, wanted.length, wanted.number);
             }
-            assert!(state[..] == before[..] && state.untouched() && text.untouched(), "{}: written", engine.name);
+            assert!(state.untouched() && text.untouched(), "{}: written outside", engine.name);
         }
+        assert!(self.state() == before, "a text wrote the state");
+        self.same();
         wanted
     }
 
@@ -187,11 +257,13 @@ impl Session {
     pub fn missing(&mut self, stream: u32) -> (u32, Missing) {
         let before = self.states[0].to_vec();
         let mut ends = vec![];
-        for (engine, state) in engines().iter().zip(&mut self.states) {
+        for (engine, state) in engines().iter().zip(&mut self.states).chain(engines().iter().zip(&mut self.twins)) {
             ends.push(engine.missing(state, stream));
-            assert!(state[..] == before[..] && state.untouched(), "{}: written", engine.name);
+            assert!(state.untouched(), "{}: written outside", engine.name);
         }
-        assert_eq!(ends[0], ends[1], "the engines' counts of {stream} differ\n{}", self.story());
+        assert!(self.state() == before, "a reading of the counts wrote the state");
+        self.same();
+        assert!(ends.iter().all(|end| *end == ends[0]), "the counts of {stream} differ, {ends:?}\n{}", self.story());
         ends[0]
     }
 

@@ -1,5 +1,7 @@
 //! A plan and its text, from document 01's "Plan text" and the numbers 1 to 6 of "Load", with document 02's signal forms, its plan
-//! of no streams, and its windows with number 18.
+//! of no streams, its windows with number 18, and its two lengths of a state.
+
+use crate::layout::Size;
 
 #[derive(Clone, Copy, PartialEq, Eq, Debug)]
 pub enum Op {
@@ -193,9 +195,17 @@ impl<'a> Lines<'a> {
     }
 }
 
-/// The plan of a text, or load's number.
+/// "the text limit becomes 4,096 bytes", of a state of either length
+pub const TEXT_LIMIT: usize = 4096;
+
+/// The plan of a text, or load's number on a state of 12,288 bytes.
 pub fn parse(text: &[u8]) -> Result<Plan, u32> {
-    if text.len() > 2048 {
+    parse_in(Size::Short, text)
+}
+
+/// The plan of a text, or load's number on a state of one length or the other.
+pub fn parse_in(size: Size, text: &[u8]) -> Result<Plan, u32> {
+    if text.len() > TEXT_LIMIT {
         return Err(1);
     }
     // "An empty plan text now means a plan of no streams"
@@ -207,7 +217,8 @@ pub fn parse(text: &[u8]) -> Result<Plan, u32> {
         return Err(2);
     }
     let n = lines.after("streams=").and_then(|w| natural(w, 3)).ok_or(2u32)?;
-    if n == 0 || n > 32 {
+    // "Load gives 3 where the count is above the limit of the buffer lent"
+    if n == 0 || n > size.cap() as u64 {
         return Err(3);
     }
     let mut plan = vec![];

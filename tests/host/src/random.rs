@@ -1,9 +1,11 @@
-//! Random numbers from a printed seed, random plans, and random records of a state.
+//! Random numbers from a printed seed, random plans and lengths of a state, and random records of a state.
 
 use crate::engine::Missing;
 use crate::evaluator::HORIZON;
 use crate::found::Record;
+use crate::layout::{Size, SIZES};
 use crate::plan::{keeps_cycle_rule, keeps_window_rule, windows, Op, Plan, Stream, MOST_WINDOWS, OPERATORS, SIGNALS, WINDOWS};
+use std::ops::RangeInclusive;
 
 #[derive(Clone)]
 pub struct Random(u64);
@@ -148,15 +150,41 @@ fn recursion(random: &mut Random, plan: &mut Plan, order: &[usize], place: usize
     plan[third] = Stream { op: Op::Merge, a: second, b: lower(random), k: 0, out: out(random) };
 }
 
+/// Numbers of streams that only the longer state takes.
+pub const WIDE: RangeInclusive<usize> = 33..=64;
+
+/// A length of a state and a number of streams that it takes: in half of the rounds at most `most` in the shorter one; else the longer
+/// one, with 33 to 64 in so many percent and at most `most` in the others.
+pub fn sized(random: &mut Random, most: usize, wide: u64) -> (Size, RangeInclusive<usize>) {
+    let size = random.pick(&SIZES);
+    (size, if size == Size::Long && random.chance(wide) { WIDE } else { 1..=most })
+}
+
+/// A length of a state and a plan that it takes, as above.
+pub fn sized_plan(random: &mut Random, most: usize, wide: u64) -> (Size, Plan) {
+    let (size, range) = sized(random, most, wide);
+    (size, plan_of(random, range))
+}
+
+/// As many streams as lie in the range, often the most.
+fn streams(random: &mut Random, range: RangeInclusive<usize>) -> usize {
+    if random.chance(15) { *range.end() } else { range.start() + random.below((range.end() + 1 - range.start()) as u64) as usize }
+}
+
+/// A plan of at most so many streams.
+pub fn plan(random: &mut Random, most: usize) -> Plan {
+    plan_of(random, 1..=most)
+}
+
 /// A plan that keeps every rule: undelayed arguments go down a random order of the streams, delayed ones go anywhere. One in
 /// twenty-five has no streams, one in twenty many windows, often all eight.
-pub fn plan(random: &mut Random, most: usize) -> Plan {
+pub fn plan_of(random: &mut Random, range: RangeInclusive<usize>) -> Plan {
     if random.chance(4) {
         return vec![];
     }
-    let many = most > MOST_WINDOWS && random.chance(5);
+    let many = *range.end() > MOST_WINDOWS && random.chance(5);
     let least = if many { MOST_WINDOWS } else { 1 };
-    let n = if random.chance(15) { most } else { least + random.below((most + 1 - least) as u64) as usize };
+    let n = streams(random, *range.start().max(&least)..=*range.end());
     let mut order: Vec<usize> = (0..n).collect();
     for i in (1..n).rev() {
         order.swap(i, random.below(i as u64 + 1) as usize);
@@ -237,8 +265,8 @@ pub fn plan(random: &mut Random, most: usize) -> Plan {
 
 /// A plan of which most streams are arithmetic, over one to three inputs: the argument of a last or a delay goes anywhere, the others go
 /// down. The values of its constants are such that results are often missing.
-pub fn arithmetic(random: &mut Random, most: usize) -> Plan {
-    let n = 2 + random.below(most as u64 - 1) as usize;
+pub fn arithmetic(random: &mut Random, range: RangeInclusive<usize>) -> Plan {
+    let n = streams(random, *range.start().max(&2)..=*range.end());
     let inputs = 1 + random.below(3.min(n as u64 - 1)) as usize;
     let counting: Vec<Op> = OPERATORS.iter().map(|(op, _)| *op).filter(|op| op.counts()).collect();
     let mut plan: Plan = vec![];

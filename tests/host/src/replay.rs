@@ -1,8 +1,9 @@
 //! Document 01's replay over an engine: what the replay program prints for a plan and a trace. No bytes stand for a file that
-//! can't be opened.
+//! can't be opened. "The replay program uses the longer state."
 
-use crate::engine::{Call, Engine, STATE_LENGTH};
-use crate::plan::{number, parse, value};
+use crate::engine::{Call, Engine};
+use crate::layout::Size;
+use crate::plan::{number, parse_in, value};
 
 /// The offer of a line without its ending byte; none for a line that could not be read.
 pub fn offer(line: &[u8]) -> Option<Call> {
@@ -24,12 +25,12 @@ pub fn offer(line: &[u8]) -> Option<Call> {
 
 pub fn replay(engine: &Engine, plan: &[u8], trace: &[u8]) -> String {
     let mut printed = String::new();
-    let mut state = vec![0; STATE_LENGTH];
+    let mut state = vec![0; Size::Long.length()];
     let refused = engine.load(&mut state, plan);
     if refused != 0 {
         return format!("refused={refused}\n");
     }
-    let streams = parse(plan).expect("a plan that load takes").len() as u32;
+    let streams = parse_in(Size::Long, plan).expect("a plan that load takes").len() as u32;
     let rounds = |state: &mut Vec<u8>, printed: &mut String| loop {
         let mut idle = true;
         loop {

@@ -1,9 +1,12 @@
 //! What a worked case says of calls on a session: their numbers, the moves of a run, what an output hands out, why events are missing,
 //! bytes of the state; and load's number of a text.
 
-use crate::engine::{engines, Answer, Call, Missing, STATE_LENGTH};
+use crate::buffer::Lent;
+use crate::engine::{engines, Answer, Call, Missing};
+use crate::found::Found;
 use crate::history::Session;
-use crate::plan::parse;
+use crate::layout::{Size, SIZES};
+use crate::plan::parse_in;
 use Call::{Collect, Run};
 
 /// The calls with the numbers that they return.
@@ -47,11 +50,24 @@ pub fn record(session: &Session, stream: usize, from: usize, bytes: &[u8]) {
     holds(session, 256 * stream + from, bytes);
 }
 
-/// Load's number, the same of both engines and by the rules.
+/// Load's number, the same of both engines, by the rules, and on a state of either length.
 pub fn load(text: &str) -> u32 {
-    let number = parse(text.as_bytes()).err().unwrap_or(0);
+    let numbers = SIZES.map(|size| load_in(size, text.as_bytes()));
+    assert_eq!(numbers[0], numbers[1], "the two lengths: {text:?}");
+    numbers[0]
+}
+
+/// Load's number on a state of this length, the same of both engines and by the rules: a refusal writes nothing, and what is taken
+/// leaves a fresh state.
+pub fn load_in(size: Size, text: &[u8]) -> u32 {
+    let parsed = parse_in(size, text);
+    let number = parsed.as_ref().err().copied().unwrap_or(0);
+    let before = vec![0x96; size.length()];
     for engine in engines() {
-        assert_eq!(engine.load(&mut vec![0; STATE_LENGTH], text.as_bytes()), number, "{} against the rules: {text:?}", engine.name);
+        let (mut state, text) = (Lent::of(&before), Lent::of(text));
+        assert_eq!(engine.load(&mut state, &text), number, "{} against the rules: {:?}", engine.name, String::from_utf8_lossy(&text));
+        let after = parsed.as_ref().map_or(before.clone(), |plan| Found::fresh_in(size, plan).bytes());
+        assert!(state[..] == after[..] && state.untouched() && text.untouched(), "{}: {:?}", engine.name, String::from_utf8_lossy(&text));
     }
     number
 }

@@ -7,7 +7,7 @@ use host::found::Found;
 use host::history::{any_acts, any_write, Session};
 use host::model::Model;
 use host::plan::{text_of, Op, Plan};
-use host::random::{plan, rounds, seed, Random};
+use host::random::{rounds, seed, sized_plan, Random};
 use host::registers::{line, readers, started, Act, Block, Board, Calls, Direct, WAITING};
 use Call::{Collect, Progress, Reading, Run};
 
@@ -35,16 +35,17 @@ fn board_write(random: &mut Random, plan: &Plan, block: &[u8], i: u32) -> Act {
 fn case_4_10_random_writes_are_the_same_direct_calls() {
     // commands 1, 2, 3 done, refused; writes refused; others; both flags set by commands
     let (mut done, mut refused, mut others, mut flags) = ([0u64; 3], [0u64; 3], [0u64; 2], [0u64; 2]);
-    let all = rounds(700);
+    let (all, mut wide) = (rounds(700), 0u64);
     for round in 0..all {
         let mut random = Random::of(41, round);
-        let plan = plan(&mut random, 10);
+        let (size, plan) = sized_plan(&mut random, 10, 10);
+        wide += (plan.len() > 32) as u64;
         let block = if random.chance(30) { random.bytes(BLOCK_LENGTH) } else { vec![0; BLOCK_LENGTH] };
-        let loaded = Found::fresh(&plan).bytes();
+        let loaded = Found::fresh_in(size, &plan).bytes();
         let mut boards = readers(&loaded, &block);
         let mut seconds: Vec<Direct> = boards.iter().map(|board| Direct::on(board.engine, &loaded)).collect();
         let mut model = Board { calls: Model::new(&plan), block: block.clone() };
-        let mut found = Board { calls: Some(Found::fresh(&plan)), block };
+        let mut found = Board { calls: Some(Found::fresh_in(size, &plan)), block };
         let mut list = vec![];
         for i in 0..200 {
             let Act::Write(at, byte) = board_write(&mut random, &plan, &model.block, i) else { unreachable!("a write") };
@@ -75,8 +76,9 @@ fn case_4_10_random_writes_are_the_same_direct_calls() {
         }
     }
     println!("seed {}: commands 1, 2, 3 done {done:?}, refused {refused:?}; writes refused {}, others {}; flags set by commands {flags:?}", seed(), others[0], others[1]);
+    println!("seed {}: plans of more than 32 streams {wide}", seed());
     // a run is never refused here
-    let met = [&done[..], &refused[..2], &others, &flags].concat();
+    let met = [&done[..], &refused[..2], &others, &flags, &[20 * wide]].concat();
     assert!(all < 100 || met.iter().all(|&count| count > all / 4), "too few of a kind: {met:?}");
 }
 
@@ -88,8 +90,8 @@ fn a_board_that_only_writes() {
     let all = rounds(250);
     for round in 0..all {
         let mut random = Random::of(42, round);
-        let plan = plan(&mut random, 16);
-        let mut session = Session::load(&plan);
+        let (size, plan) = sized_plan(&mut random, 16, 20);
+        let mut session = Session::load_in(size, &plan);
         session.set_block(&random.bytes(BLOCK_LENGTH));
         let inputs = session.inputs();
         // works off until a run changes nothing and nothing waits
@@ -157,11 +159,11 @@ fn calls_and_writes_on_one_state() {
     let all = rounds(400);
     for round in 0..all {
         let mut random = Random::of(43, round);
-        let plan = plan(&mut random, 8);
-        let mut session = Session::load(&plan);
+        let (size, plan) = sized_plan(&mut random, 8, 15);
+        let mut session = Session::load_in(size, &plan);
         let block = random.bytes(BLOCK_LENGTH);
         session.set_block(&block);
-        let mut board = Board { calls: Found::fresh(&plan), block };
+        let mut board = Board { calls: Found::fresh_in(size, &plan), block };
         for _ in 0..60 {
             let acts = if random.chance(40) { (0..4).map(|_| any_write(&mut random)).collect() } else { any_acts(&mut random, &session) };
             for act in acts {

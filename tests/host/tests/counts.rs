@@ -6,10 +6,10 @@ use host::engine::{engines, Answer, Call, Missing, STATE_LENGTH};
 use host::evaluator::{evaluate, meaning, HORIZON};
 use host::found::{Found, Record};
 use host::history::{any_acts, Session};
-use host::layout;
+use host::layout::{self, Size};
 use host::missing::{as_defined, asked};
 use host::plan::{short, text_of, Op, Plan, Stream, OPERATORS};
-use host::random::{arithmetic, rounds, seed, Random};
+use host::random::{arithmetic, rounds, seed, sized, Random};
 use host::registers::{Act, Board};
 use host::worked::numbers;
 use Call::{Collect, Move, Progress, Reading, Run};
@@ -155,8 +155,14 @@ fn at_every_alignment() {
 
 // ---- number 15
 
-/// Every call answers so to these bytes, in both engines; the model agrees, nothing is written, and the counts are the bytes.
+/// Every call answers so to these bytes, in both engines, and to the same widened; the model agrees, nothing is written, and the counts
+/// are the bytes.
 fn is_state(bytes: &[u8], is: bool, stream: usize, why: &str) {
+    is_state_in(bytes, is, stream, why);
+    is_state_in(&layout::widened(bytes), is, stream, why);
+}
+
+fn is_state_in(bytes: &[u8], is: bool, stream: usize, why: &str) {
     assert_eq!(Found::read(bytes).is_some(), is, "the model: {why}");
     for engine in engines() {
         let mut state = Lent::of(bytes);
@@ -250,6 +256,11 @@ fn knows(bound: u64, held: &[(u32, i64)]) -> Record {
 
 /// The calls with their numbers on every engine and the model; then the third stream's bound and counts.
 fn gives(bytes: &[u8], calls: &[(Call, u32)], bound: u64, outside: u32, zero: u32) {
+    gives_in(bytes, calls, bound, outside, zero);
+    gives_in(&layout::widened(bytes), calls, bound, outside, zero);
+}
+
+fn gives_in(bytes: &[u8], calls: &[(Call, u32)], bound: u64, outside: u32, zero: u32) {
     let (mut states, mut model) = (lent(bytes), Found::read(bytes).expect("a state"));
     for (call, number) in calls {
         assert_eq!(called(&mut states, &mut model, *call).number, *number, "{call:?}");
@@ -324,13 +335,15 @@ fn kept_windows_are_worked_on() {
 /// and other plans loaded in between.
 #[test]
 fn after_any_list_of_calls() {
-    let (mut checked, mut copies, mut loads, mut met) = (0u64, 0u64, 0u64, [0u64; 2]);
+    let (mut checked, mut copies, mut loads, mut wide, mut met) = (0u64, 0u64, 0u64, 0u64, [0u64; 2]);
     // by operator, how many had a count of the one kind and of the other at the end
     let mut by = [[0u64; 2]; OPERATORS.len()];
     let all = rounds(700);
     for round in 0..all {
         let mut random = Random::of(81, round);
-        let mut session = Session::load(&arithmetic(&mut random, 12));
+        let (size, range) = sized(&mut random, 12, 20);
+        let mut session = Session::load_in(size, &arithmetic(&mut random, range.clone()));
+        wide += (session.plan.len() > 32) as u64;
         let mut copy = session.clone();
         for _ in 0..50 + random.below(60) {
             match random.below(40) {
@@ -340,7 +353,7 @@ fn after_any_list_of_calls() {
                     copies += 1;
                 }
                 2 if random.chance(20) => {
-                    session = Session::load_over(&arithmetic(&mut random, 12), session.states);
+                    session = Session::load_over(&arithmetic(&mut random, range.clone()), session.states);
                     copy = session.clone();
                     loads += 1;
                 }
@@ -368,7 +381,7 @@ fn after_any_list_of_calls() {
             }
         }
     }
-    println!("seed {}: {all} lists, {checked} checked on the way, {copies} copies put back, {loads} plans loaded over; missing at rest {met:?}", seed());
+    println!("seed {}: {all} lists, {wide} of more than 32 streams, {checked} checked on the way, {copies} copies put back, {loads} plans loaded over; missing at rest {met:?}", seed());
     for ((op, name), [outside, zero]) in OPERATORS.into_iter().zip(by) {
         if op.counts() {
             println!("seed {}: {name} with counts outside {outside}, zero {zero}", seed());
@@ -379,7 +392,7 @@ fn after_any_list_of_calls() {
         }
         assert!(op.counts() || (outside, zero) == (0, 0), "{name}");
     }
-    assert!(all < 100 || (checked > 2 * all && copies > all / 2 && loads > 0 && met.iter().all(|&count| count > all)), "{met:?}");
+    assert!(all < 100 || (checked > 2 * all && copies > all / 2 && loads > 0 && wide > all / 20 && met.iter().all(|&count| count > all)), "{met:?}");
 }
 
 /// A reading of an input with a value at an edge, at the latest stamp of another if it is not known there, so that both have an event.
@@ -400,12 +413,13 @@ fn the_order_of_calls_does_not_matter() {
     let all = rounds(120);
     for round in 0..all {
         let mut random = Random::of(82, round);
-        let plan = arithmetic(&mut random, 9);
+        let (size, range) = sized(&mut random, 9, 15);
+        let plan = arithmetic(&mut random, range);
         let inputs: Vec<usize> = (0..plan.len()).filter(|&s| plan[s].op == Op::In).collect();
         let script: Vec<Vec<Call>> = inputs.iter().map(|&s| script(&mut random, s as u32)).collect();
         let mut ends: Vec<Session> = vec![];
         for order in 0..ORDERS {
-            let Some(mut session) = in_order(&mut random, &plan, &script, order) else { continue };
+            let Some(mut session) = in_order(&mut random, size, &plan, &script, order) else { continue };
             let Some(sum) = session.check_missing() else { continue };
             assert!(session.check_rest());
             met = [met[0] + sum[0], met[1] + sum[1]];
@@ -435,8 +449,8 @@ fn script(random: &mut Random, input: u32) -> Vec<Call> {
 }
 
 /// The script to rest in some order; none if that takes too many moves. Now and then the counts are looked at.
-fn in_order(random: &mut Random, plan: &Plan, script: &[Vec<Call>], order: usize) -> Option<Session> {
-    let mut session = Session::load(plan);
+fn in_order(random: &mut Random, size: Size, plan: &Plan, script: &[Vec<Call>], order: usize) -> Option<Session> {
+    let mut session = Session::load_in(size, plan);
     let inputs = session.inputs();
     let mut next = vec![0; script.len()];
     let n = plan.len() as u64;
@@ -573,9 +587,10 @@ fn states_that_no_call_leaves() {
     let all = rounds(1500);
     for round in 0..all {
         let mut random = Random::of(84, round);
-        let plan = arithmetic(&mut random, 7);
+        let (size, range) = sized(&mut random, 7, 15);
+        let plan = arithmetic(&mut random, range);
         let records = plan.iter().map(|stream| any_record(&mut random, stream)).collect();
-        let bytes = Found { plan: plan.clone(), records, ..Found::default() }.bytes();
+        let bytes = Found { plan: plan.clone(), records, size, ..Found::default() }.bytes();
         let mut model = Board::new(Found::read(&bytes).unwrap_or_else(|| panic!("seed {} round {round}: no state", seed())));
         let mut states = lent(&bytes);
         for _ in 0..12 {
@@ -619,7 +634,7 @@ fn states_that_no_call_leaves() {
 fn the_definition_by_itself() {
     for round in 0..rounds(300) {
         let mut random = Random::of(85, round);
-        let plan = arithmetic(&mut random, 8);
+        let plan = arithmetic(&mut random, if round % 10 == 0 { 33..=64 } else { 2..=8 });
         let mut readings = vec![std::collections::BTreeMap::new(); plan.len()];
         for s in (0..plan.len()).filter(|&s| plan[s].op == Op::In) {
             readings[s] = (0..20).filter(|_| random.chance(60)).collect::<Vec<u32>>().into_iter().map(|t| (t, random.at_an_edge())).collect();

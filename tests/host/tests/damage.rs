@@ -1,24 +1,27 @@
-//! Texts, states and blocks of registers damaged at random: the library's numbers, results and buffers are those of the plain C
+//! Texts, states of both lengths and blocks of registers damaged at random: the library's numbers, results and buffers are those of the plain C
 //! engine and, on states and blocks, of the model of any state; a refusal writes nothing but what it says of the block, and nothing
 //! outside the lent buffers is touched. A text that is taken all the same comes back byte for byte, and a state that is one gives its
 //! plan's, and says why events are missing.
 
 use host::buffer::Lent;
-use host::engine::{engines, Answer, Call, BLOCK_LENGTH, STATE_LENGTH};
+use host::engine::{engines, Answer, Call, BLOCK_LENGTH};
 use host::evaluator::HORIZON;
 use host::found::Found;
 use host::history::{any_write, Session};
-use host::layout::{self, WINDOW_NUMBERS};
+use host::layout::{self, Size, WINDOW_NUMBERS};
 use host::missing;
 use host::model::Division;
-use host::plan::{parse, text_of, Stream, OPERATORS, WINDOWS};
-use host::random::{plan, rounds, seed, Random};
+use host::plan::{parse_in, text_of, Stream, OPERATORS, WINDOWS};
+use host::random::{plan_of, rounds, seed, sized, sized_plan, Random};
 use host::registers::{line, started, writes, Act, Board};
 use host::texts::{as_defined, asked, pattern, Given};
 use std::ops::RangeInclusive;
 
-fn damaged_text(random: &mut Random) -> Vec<u8> {
-    let mut streams = plan(random, 32);
+/// For a state of one length or the other; now and then of a plan that only the longer one takes, or neither.
+fn damaged_text(random: &mut Random) -> (Size, Vec<u8>) {
+    let (size, range) = sized(random, 32, 50);
+    let range = if random.chance(2) { random.pick(&[33, 64, 65])..=66 } else { range };
+    let mut streams = plan_of(random, range);
     if random.chance(5) {
         // about as many windows as are taken
         for stream in streams.iter_mut().filter(|stream| stream.op.uses_a()).take(7 + random.below(4) as usize) {
@@ -53,7 +56,7 @@ fn damaged_text(random: &mut Random) -> Vec<u8> {
                     let i = random.below(all.len() as u64) as usize;
                     let key: Vec<u8> = all[i].iter().take_while(|&&c| c != b'=').copied().collect();
                     let value = random.pick(&[
-                        "0", "1", "2", "31", "32", "33", "64", "65", "100", "999", "1000", "-1", "-0", "00", "in", "nil", "unit", "last", "delay", "merge",
+                        "0", "1", "2", "31", "32", "33", "63", "64", "65", "100", "999", "1000", "-1", "-0", "00", "in", "nil", "unit", "last", "delay", "merge",
                         "add", "neg", "plus", "sadd", "sdiv", "seq", "wsum", "wmin", "wmax", "sneg", "sadds", "wsums", "zz", "abcdef", "", "9223372036854775807",
                         "9223372036854775808", "-9223372036854775808", "-9223372036854775809", "18446744073709551617",
                     ]);
@@ -64,33 +67,37 @@ fn damaged_text(random: &mut Random) -> Vec<u8> {
         }
     }
     if random.chance(2) {
-        text.resize(2040 + random.below(20) as usize, b'x');
+        text.resize((random.pick(&[2040, 4088, 4088]) + random.below(20)) as usize, b'x');
     }
-    text
+    (size, text)
 }
 
 #[test]
 fn damaged_texts() {
     // by number: 0 to 6 and 18, of which some by a ninth window
     let (mut met, mut empty, mut ninth) = ([0u64; 19], 0u64, 0u64);
+    // taken with more than 32 streams, refused 3 by the shorter state alone
+    let (mut wide, mut too_many) = (0u64, 0u64);
     let mut random = Random::of(10, 0);
     for _ in 0..rounds(40_000) {
-        let text = damaged_text(&mut random);
-        let parsed = parse(&text);
+        let (size, text) = damaged_text(&mut random);
+        let parsed = parse_in(size, &text);
         let number = parsed.as_ref().err().copied().unwrap_or(0);
         met[number as usize] += 1;
         empty += text.is_empty() as u64;
+        wide += parsed.as_ref().is_ok_and(|plan| plan.len() > 32) as u64;
+        too_many += (number == 3 && parse_in(Size::Long, &text).is_ok()) as u64;
         ninth += (number == 18 && String::from_utf8_lossy(&text).matches("op=w").count() > 8) as u64;
         let text = Lent::of(&text);
         let mut ends = vec![];
         for engine in engines() {
-            let before = [0x96; STATE_LENGTH];
+            let before = vec![0x96; size.length()];
             let mut state = Lent::of(&before);
             let answer = engine.load(&mut state, &text);
             assert_eq!(answer, number, "seed {}: {} against the rules\n{}", seed(), engine.name, String::from_utf8_lossy(&text));
             match &parsed {
-                Ok(plan) => assert!(state[..] == Found::fresh(plan).bytes()[..], "seed {}: {} leaves no fresh state\n{}", seed(), engine.name, String::from_utf8_lossy(&text)),
-                Err(_) => assert!(state[..] == before, "seed {}: {} wrote on a refusal", seed(), engine.name),
+                Ok(plan) => assert!(state[..] == Found::fresh_in(size, plan).bytes()[..], "seed {}: {} leaves no fresh state\n{}", seed(), engine.name, String::from_utf8_lossy(&text)),
+                Err(_) => assert!(state[..] == before[..], "seed {}: {} wrote on a refusal", seed(), engine.name),
             }
             assert!(state.untouched() && text.untouched());
             ends.push(state);
@@ -102,8 +109,9 @@ fn damaged_texts() {
         }
     }
     println!("seed {}: numbers 0 to 6 met {:?} times, 18 {} times, {ninth} of them with more than eight windows; the text of no bytes {empty} times", seed(), &met[..7], met[18]);
+    println!("seed {}: taken with more than 32 streams {wide}, refused 3 by the shorter state alone {too_many}", seed());
     assert!(met[7..18].iter().all(|&count| count == 0));
-    let reached = [&met[..7], &[met[18], ninth]].concat();
+    let reached = [&met[..7], &[met[18], ninth, wide / 1000, too_many]].concat();
     assert!((reached.iter().all(|&count| count > 0) && empty > 100) || rounds(40_000) < 40_000, "a number was never met: {reached:?}, {empty}");
 }
 
@@ -118,7 +126,8 @@ fn damage(random: &mut Random, state: &mut [u8], streams: usize) {
     let count = state[record + 4] as usize;
     match random.below(20) {
         0 => {
-            let at = random.below(STATE_LENGTH as u64) as usize;
+            // anywhere, or where the windows of the shorter state lie
+            let at = if random.chance(70) { random.below(state.len() as u64) } else { 8192 + random.below(4096) } as usize;
             state[at] = random.next() as u8;
         }
         1 => {
@@ -201,9 +210,9 @@ fn damage(random: &mut Random, state: &mut [u8], streams: usize) {
         }
         // a byte where windows lie: of one that is there, or of any
         16 => {
-            let window = if random.chance(50) { layout::window_at(state, record / 256) } else { 8192 + 512 * random.below(8) as usize };
+            let window = if random.chance(50) { layout::window_at(state, record / 256) } else { layout::windows_from(state) + 512 * random.below(8) as usize };
             let at = window + if random.chance(50) { random.below(32) } else { random.below(512) } as usize;
-            state[at.min(STATE_LENGTH - 1)] = random.next() as u8;
+            state[at.min(state.len() - 1)] = random.next() as u8;
         }
         // counts of any kind, mostly of a stream that has them
         17..=18 => {
@@ -274,7 +283,7 @@ fn width(random: &mut Random) -> i64 {
 fn fill(random: &mut Random, state: &mut [u8], stream: usize) {
     let at = layout::window_at(state, stream);
     let width = (state[256 * stream + 8] as u64).min(64);
-    if at + 512 > STATE_LENGTH {
+    if at + 512 > state.len() {
         return;
     }
     let fill = match random.below(20) {
@@ -299,7 +308,7 @@ fn damage_zeros(random: &mut Random, state: &mut [u8]) {
     if random.chance(25) {
         state[0] = 1 + random.below(33) as u8;
     } else {
-        let near = if random.chance(50) { 256 } else { STATE_LENGTH as u64 - 1 };
+        let near = if random.chance(50) { 256 } else { state.len() as u64 - 1 };
         let at = 1 + random.below(near) as usize;
         state[at] = if random.chance(50) { 1 << random.below(8) } else { 1 + random.below(255) as u8 };
     }
@@ -358,7 +367,7 @@ fn anywhere(random: &mut Random, state: &mut [u8], streams: usize) {
     if bound == 0 {
         // a ninth one has no place
         let at = layout::window_at(state, s);
-        if at < STATE_LENGTH {
+        if at < state.len() {
             put(state, at, &vec![0; 8 * state[record + 5].min(64) as usize]);
         }
         state[record + 5] = 0;
@@ -387,7 +396,7 @@ const UNMEANT: [&str; 7] = ["width", "fill", "bound 0", "unused", "behind the fi
 
 fn unmeant_windows(state: &[u8], streams: usize) -> [bool; 7] {
     let windows: Vec<usize> = (0..streams).filter(|s| WINDOW_NUMBERS.contains(&state[256 * s])).collect();
-    let mut met = [false; 7];
+    let (mut met, from) = ([false; 7], layout::windows_from(state));
     for (rank, s) in windows.iter().enumerate() {
         let record = &state[256 * s..256 * (s + 1)];
         let (width, fill) = (i64::from_le_bytes(record[8..16].try_into().unwrap()), record[5] as usize);
@@ -395,9 +404,9 @@ fn unmeant_windows(state: &[u8], streams: usize) -> [bool; 7] {
         met[1] |= (1..=64).contains(&width) && fill as i64 > width;
         met[2] |= fill > 0 && layout::bound(state, *s) == 0;
         met[3] |= record[6] != 0 || record[32..56].iter().any(|&x| x != 0);
-        met[4] |= rank < 8 && fill < 64 && state[8192 + 512 * rank + 8 * fill..8704 + 512 * rank].iter().any(|&x| x != 0);
+        met[4] |= rank < 8 && fill < 64 && state[from + 512 * rank + 8 * fill..from + 512 * (rank + 1)].iter().any(|&x| x != 0);
     }
-    met[5] = windows.len() < 8 && state[8192 + 512 * windows.len()..].iter().any(|&x| x != 0);
+    met[5] = windows.len() < 8 && state[from + 512 * windows.len()..].iter().any(|&x| x != 0);
     met[6] = windows.len() > 8;
     met
 }
@@ -481,14 +490,18 @@ fn damaged_states() {
     let mut texts = [0u64; 3];
     // counts: read, refused 11, refused 15; without meaning; moves and runs that made one greater, or took one to the limit
     let (mut read, mut unmeant_count, mut counted, mut stopped) = ([0u64; 3], 0u64, 0u64, 0u64);
+    // states of both lengths, and plans of more than 32 streams
+    let (mut sizes, mut wide) = ([0u64; 2], 0u64);
     let (mut good, mut bad, mut moves, mut done) = (0u64, 0u64, 0u64, [0u64; 5]);
     let mut blocks = [Lent::of(&[0; BLOCK_LENGTH]), Lent::of(&[0; BLOCK_LENGTH])];
     for round in 0..rounds(15_000) {
         let mut random = Random::of(11, round);
-        let plan = plan(&mut random, 12);
+        let (size, plan) = sized_plan(&mut random, 12, 8);
+        sizes[size as usize] += 1;
+        wide += (plan.len() > 32) as u64;
         // the records that are looked at: the first one of a plan of no streams too
         let records = plan.len().max(1);
-        let mut session = Session::load(&plan);
+        let mut session = Session::load_in(size, &plan);
         for _ in 0..random.below(60) {
             let s = random.below(records as u64) as u32;
             let known = session.known.get(s as usize).copied().unwrap_or(0);
@@ -524,7 +537,7 @@ fn damaged_states() {
             }
             if random.chance(20) {
                 // as long as a text of these streams is, or somewhat longer or shorter
-                let room = if random.chance(50) { 2048 } else { 17 + random.below(30 * records as u64 + 30) as usize };
+                let room = if random.chance(50) { 4096 } else { 17 + random.below(30 * records as u64 + 30) as usize };
                 texts[match as_defined(&bytes, room).number {
                     0 => 0,
                     19 => 1,
@@ -726,15 +739,17 @@ fn damaged_states() {
     println!("seed {}: texts of the plan given {}, refused 19 {}, refused 15 {}", seed(), texts[0], texts[1], texts[2]);
     println!("seed {}: counts read {}, refused 11 {}, refused 15 {}; without meaning {unmeant_count}, greater after a call {counted}, at the limit then {stopped}", seed(), read[0], read[1], read[2]);
     println!("seed {}: calls on zeros {zeros}, on a first stream alone in them {alone}, on bytes behind a first byte that is 0 {headless}", seed());
+    println!("seed {}: states of 12,288 and 20,480 bytes {sizes:?}, with more than 32 streams {wide}", seed());
     assert!(good > bad && moves > 0 && done.iter().all(|&count| count > 0));
     let reached = [below, at, above, edge, lower, before_since, untold, from_kept, unmeant, down, zeros, alone, headless];
-    let reached = [&reached[..], &written, &texts, &read, &[waited, window_untold, taken_in, several, below_its, unmeant_count, counted, stopped], &unmeant_by].concat();
+    let reached = [&reached[..], &written, &texts, &read, &sizes, &[wide / 100, waited, window_untold, taken_in, several, below_its, unmeant_count, counted, stopped], &unmeant_by].concat();
     assert!(reached.iter().all(|&count| count > 0) || rounds(15_000) < 15_000, "a kind of state was never met: {reached:?}");
     assert!((counted > 1000 && stopped > 50) || rounds(15_000) < 15_000, "too few counts: {counted} {stopped}");
 }
 
 /// The records of a state, for a message.
 fn shown(state: &[u8], streams: usize) -> String {
+    let from = layout::windows_from(state);
     (0..streams)
         .map(|s| {
             let r = &state[256 * s..256 * (s + 1)];
@@ -746,7 +761,7 @@ fn shown(state: &[u8], streams: usize) -> String {
             )
         })
         .chain((0..8).map(|j| {
-            let window = &state[8192 + 512 * j..8704 + 512 * j];
+            let window = &state[from + 512 * j..from + 512 * (j + 1)];
             let used = window.iter().rposition(|&x| x != 0).map_or(0, |at| at / 8 + 1);
             let values = window.chunks(8).take(used).map(|v| i64::from_le_bytes(v.try_into().unwrap())).collect::<Vec<_>>();
             if used == 0 { String::new() } else { format!("window {j}: {values:?}\n") }

@@ -2,10 +2,11 @@
 //! the exported calls and the replay; then every call on a buffer of zeros, other lengths, and each byte of it.
 
 use host::buffer::Lent;
-use host::engine::{engines, Answer, Call, Missing, STATE_LENGTH};
+use host::engine::{engines, Answer, Call, Missing, LONG_STATE_LENGTH, STATE_LENGTH};
 use host::evaluator::{evaluate, HORIZON};
 use host::found::Found;
 use host::history::Session;
+use host::layout::{widened, Size};
 use host::plan::{parse, short, text_of, windows, OPERATORS};
 use host::random::rounds;
 use host::replay::replay;
@@ -29,7 +30,7 @@ fn lent(bytes: &[u8]) -> Vec<Lent> {
 
 /// A buffer of zeros that was never loaded, as a list of no calls on the plan of no streams.
 fn never_loaded() -> Session {
-    Session::begin(&vec![], lent(&zeros()))
+    Session::begin(&vec![], lent(&zeros())).widened()
 }
 
 fn stays_zero(session: &Session) {
@@ -54,6 +55,7 @@ fn loaded(before: &[u8], text: &[u8]) -> (u32, Vec<u8>) {
 #[test]
 fn case_3_1_load_of_no_bytes_leaves_zeros() {
     assert!(loaded(&[165; STATE_LENGTH], b"") == (0, zeros()));
+    assert!(loaded(&[165; LONG_STATE_LENGTH], b"") == (0, vec![0; LONG_STATE_LENGTH]));
 }
 
 /// Only the text of no bytes: what else has no whole plan is refused as before, and the buffer stays.
@@ -128,7 +130,7 @@ fn case_3_8_a_refused_load_leaves_the_zeros() {
     stays_zero(&session);
     // and so with each number
     let texts: [(&[u8], u32); 5] = [
-        (&[b'x'; 2049], 1), (b"plan=1\n", 2), (b"plan=1\nstreams=1\nop=no\na=0\nb=0\nk=0\nout=0\n", 4),
+        (&[b'x'; 4097], 1), (b"plan=1\n", 2), (b"plan=1\nstreams=1\nop=no\na=0\nb=0\nk=0\nout=0\n", 4),
         (b"plan=1\nstreams=1\nop=in\na=1\nb=0\nk=0\nout=0\n", 5), (b"plan=1\nstreams=1\nop=time\na=0\nb=0\nk=0\nout=0\n", 6),
     ];
     for (text, number) in texts {
@@ -213,9 +215,11 @@ fn the_text_of_no_streams() {
 #[test]
 fn no_text_behind_the_pointer() {
     for engine in engines() {
-        let mut state = Lent::of(&[165; STATE_LENGTH]);
-        assert_eq!(engine.load_from_nowhere(&mut state), 0, "{}", engine.name);
-        assert!(state[..] == zeros()[..] && state.untouched(), "{}", engine.name);
+        for length in [STATE_LENGTH, LONG_STATE_LENGTH] {
+            let mut state = Lent::of(&vec![165; length]);
+            assert_eq!(engine.load_from_nowhere(&mut state), 0, "{}", engine.name);
+            assert!(state.iter().all(|&x| x == 0) && state.untouched(), "{}", engine.name);
+        }
     }
 }
 
@@ -291,15 +295,15 @@ const CALLS: [(Call, u32); 5] = [(Reading(0, 0, 0), 7), (Progress(0, 0), 7), (Mo
 /// Zeros of any other length are refused, and so is the text of no bytes there; the buffer stays.
 #[test]
 fn other_lengths() {
-    let near = STATE_LENGTH - 300..STATE_LENGTH + 300;
-    let far = (0..300).chain((0..=80).map(|i| 256 * i)).chain([2 * STATE_LENGTH, 20_480, 49_152]);
+    let near = (STATE_LENGTH - 300..STATE_LENGTH + 300).chain(LONG_STATE_LENGTH - 150..LONG_STATE_LENGTH + 150);
+    let far = (0..300).chain((0..=90).map(|i| 256 * i)).chain([2 * STATE_LENGTH, 32_768, 2 * LONG_STATE_LENGTH, 49_152]);
     let mut met = 0;
-    for length in near.chain(far).filter(|&length| length != STATE_LENGTH) {
+    for length in near.chain(far).filter(|&length| Size::of(length).is_none()) {
         for engine in engines() {
             for byte in [0, 165] {
                 let before = vec![byte; length];
                 let mut state = Lent::of(&before);
-                for text in [&b""[..], b"plan=1\n", b"plan=1\nstreams=0\n", &[b'x'; 2049]] {
+                for text in [&b""[..], b"plan=1\n", b"plan=1\nstreams=0\n", &[b'x'; 4097]] {
                     assert_eq!(engine.load(&mut state, text), 15, "{}: {length}", engine.name);
                 }
                 for (call, _) in CALLS {
@@ -310,11 +314,17 @@ fn other_lengths() {
         }
         met += 1;
     }
-    assert!(met > 900);
+    assert!(met > 1200);
 }
 
-/// A call on these bytes by both engines: the number is the wanted one, or 15 where it is no state; then everything stays.
-fn asked(bytes: &[u8], (call, wanted): (Call, u32), is: bool, why: &str) {
+/// A call on these bytes by both engines, and on the same widened: the number is the wanted one, or 15 where it is no state; then
+/// everything stays.
+fn asked(bytes: &[u8], call: (Call, u32), is: bool, why: &str) {
+    asked_in(bytes, call, is, why);
+    asked_in(&widened(bytes), call, is, why);
+}
+
+fn asked_in(bytes: &[u8], (call, wanted): (Call, u32), is: bool, why: &str) {
     assert_eq!(Found::read(bytes).is_some(), is, "the model: {why}");
     for engine in engines() {
         let mut state = Lent::of(bytes);
@@ -343,6 +353,16 @@ fn one_byte_set_in_zeros() {
             bytes[at] = byte;
             asked(&bytes, CALLS[(at + i) % 5], false, &format!("byte {at} is {byte}"));
         }
+        bytes[at] = 0;
+    }
+    // and in the longer state, also where the shorter one has no byte
+    let mut bytes = vec![0; LONG_STATE_LENGTH];
+    for call in CALLS {
+        asked_in(&bytes, call, true, "all bytes 0");
+    }
+    for at in (1..LONG_STATE_LENGTH).step_by(step).chain([8191, 8192, 16_383, 16_384, 20_479]) {
+        bytes[at] = 1 << (at % 8);
+        asked_in(&bytes, CALLS[at % 5], false, &format!("byte {at}"));
         bytes[at] = 0;
     }
 }

@@ -1,10 +1,11 @@
 //! States that no call leaves, each worked out by hand from documents 01 and 02 and docs/DECISIONS.md: a delay ahead of its
 //! second argument, or with events of its own; a signal form or a window ahead of an argument. Streams 0 and 1 are the inputs a and
-//! b, stream 2 is the delay, the form or the window, an output.
+//! b, stream 2 is the delay, the form or the window, an output. Each in 12,288 bytes and, widened, in 20,480.
 
 use host::buffer::Lent;
-use host::engine::{engines, Answer, Call, Missing, STATE_LENGTH};
+use host::engine::{engines, Answer, Call, Missing};
 use host::found::{Found, Record};
+use host::layout::widened;
 use host::plan::{short, text_of};
 
 const DELAY: &str = "in; in; delay 0 1 out";
@@ -29,6 +30,11 @@ fn event(stamp: u32) -> Answer {
 
 /// Every call but load refuses the state, and load fills it.
 fn refused(state: &[u8]) {
+    refused_in(state);
+    refused_in(&widened(state));
+}
+
+fn refused_in(state: &[u8]) {
     assert_eq!(Found::read(state), None);
     let text = text_of(&short(DELAY));
     for engine in engines() {
@@ -37,7 +43,7 @@ fn refused(state: &[u8]) {
             assert_eq!(engine.call(&mut lent, call), number(15), "{}: {call:?}", engine.name);
             assert!(lent[..] == *state && lent.untouched());
         }
-        let (mut lent, mut fresh) = (Lent::of(state), Lent::of(&vec![0; STATE_LENGTH]));
+        let (mut lent, mut fresh) = (Lent::of(state), Lent::of(&vec![0; state.len()]));
         assert_eq!(engine.load(&mut lent, text.as_bytes()), 0);
         assert_eq!(engine.load(&mut fresh, text.as_bytes()), 0);
         assert!(lent[..] == fresh[..]);
@@ -46,18 +52,23 @@ fn refused(state: &[u8]) {
 
 /// The calls with their answers, on both engines and the model; then the third record.
 fn gives(state: &[u8], calls: &[(Call, Answer)], third: Record) {
+    gives_in(state, calls, &third);
+    gives_in(&widened(state), calls, &third);
+}
+
+fn gives_in(state: &[u8], calls: &[(Call, Answer)], third: &Record) {
     let mut model = Found::read(state).expect("a state");
     for (call, answer) in calls {
         assert_eq!(model.call(*call), *answer, "the model: {call:?}");
     }
-    assert_eq!(model.records[2], third, "the model");
+    assert_eq!(model.records[2], *third, "the model");
     for engine in engines() {
         let mut lent = Lent::of(state);
         for (call, answer) in calls {
             assert_eq!(engine.call(&mut lent, *call), *answer, "{}: {call:?}", engine.name);
         }
         assert!(lent[..] == model.bytes()[..], "{}: another state than the model's", engine.name);
-        assert_eq!(Found::read(&lent).expect("a state").records[2], third, "{}", engine.name);
+        assert_eq!(Found::read(&lent).expect("a state").records[2], *third, "{}", engine.name);
         assert!(lent.untouched());
     }
 }

@@ -1,14 +1,15 @@
 //! Random plans and random lists of calls, some of them by writes to a block of registers: what document 01's "Whole runs" says, a
-//! model on whole histories, copies put back, the order of inputs, and full streams. Both engines make every call, and now and then
-//! between two they give the plan's text back and say why events are missing, which counts as no call.
+//! model on whole histories, copies put back, the order of inputs, and full streams. Each round takes a state of one length or the other,
+//! with up to 64 streams. Both engines make every call, and now and then between two they give the plan's text back and say why events
+//! are missing, which counts as no call.
 
 use host::engine::{Call, Missing};
 use host::evaluator::{evaluate, rounded, HORIZON};
 use host::history::{any_acts, Session};
-use host::layout;
+use host::layout::{self, Size, SIZES};
 use host::model::Model;
-use host::plan::{short, text_of, windows, Op};
-use host::random::{plan, rounds, seed, Random};
+use host::plan::{parse_in, short, text_of, windows, Op};
+use host::random::{plan, plan_of, rounds, seed, sized, sized_plan, Random};
 use host::registers::{Act, Board};
 
 /// Arguments lead from one stream to the other.
@@ -57,12 +58,16 @@ fn numbers_and_states_are_those_of_the_model_on_whole_histories() {
     let mut written = [0u64; 4];
     // texts that came back, and buffers too short
     let mut texts = [0u64; 2];
-    let all = rounds(5000);
+    // states of both lengths, and plans of more than 32 streams
+    let (mut sizes, mut wide) = ([0u64; 2], 0u64);
+    let all = rounds(4000);
     for round in 0..all {
         let mut random = Random::of(2, round);
-        let plan = plan(&mut random, 12);
-        let mut session = Session::load(&plan);
+        let (size, plan) = sized_plan(&mut random, 12, 6);
+        let mut session = Session::load_in(size, &plan);
         let mut board = Board::new(Model::new(&plan));
+        sizes[size as usize] += 1;
+        wide += (plan.len() > 32) as u64;
         for _ in 0..50 + random.below(70) {
             for act in any_acts(&mut random, &session) {
                 let answer = session.act(act);
@@ -113,12 +118,14 @@ fn numbers_and_states_are_those_of_the_model_on_whole_histories() {
     }
     println!("seed {}: {calls} calls, {done} done, full streams met {full} times, signal forms that keep both values {kept}, divisions that go down {down}, plans of no streams {empty}", seed());
     println!("seed {}: commands done and refused, writes refused, others {written:?}; texts back and refused {texts:?}", seed());
+    println!("seed {}: states of 12,288 and 20,480 bytes {sizes:?}, plans of more than 32 streams {wide}", seed());
     println!("seed {}: full windows met {filled} times, plans with eight windows {eight}; results out of range {outside}, of them sums {sums}, divisors of 0 {zero}", seed());
     assert!(filled > all && (all < 1000 || (eight > all / 250 && sums > all / 10)), "too few windows: {filled}, {eight}, {sums}");
     assert!(all < 1000 || (outside > all / 5 && zero > all / 10), "too few missing: {outside}, {zero}");
     assert!(written.iter().all(|&count| count > all / 2), "too few writes of a kind: {written:?}");
     assert!(all < 1000 || texts.iter().all(|&count| count > all / 10), "too few texts: {texts:?}");
     assert!(all < 1000 || empty > all / 50, "too few plans of no streams: {empty}");
+    assert!(all < 1000 || (sizes.iter().all(|&count| count > all / 3) && wide > all / 100), "too few of a length: {sizes:?}, {wide}");
     assert!(done * 3 > calls && full > 0 && kept > 0, "too many calls refused: {done} of {calls}");
     assert!(all < 1000 || down > all / 250, "too few divisions that go down: {down}");
 }
@@ -132,11 +139,14 @@ fn handed_out_is_a_beginning_and_complete_at_rest() {
     let (mut firings, mut lasts, mut signals, mut windowed, mut recursive) = (0u64, 0u64, 0u64, 0u64, 0u64);
     // and divisions an inexact quotient below zero; lists whose counts were compared, and what they were
     let (mut down, mut counted, mut missing) = (0u64, 0u64, [0u64; 2]);
-    let all = rounds(6000);
+    // plans of more than 32 streams, and how many of their lists were at rest
+    let (mut wide, mut wide_rested) = (0u64, 0u64);
+    let all = rounds(3600);
     for round in 0..all {
         let mut random = Random::of(3, round);
-        let plan = plan(&mut random, 32);
-        let mut session = Session::load(&plan);
+        let (size, plan) = sized_plan(&mut random, 32, 50);
+        let mut session = Session::load_in(size, &plan);
+        wide += (plan.len() > 32) as u64;
         let mut copy = session.clone();
         for _ in 0..40 + random.below(160) {
             match random.below(60) {
@@ -161,7 +171,8 @@ fn handed_out_is_a_beginning_and_complete_at_rest() {
         counted += session.check_missing().is_some() as u64;
         if session.rest(4_000) {
             session.check_beginning();
-            rested += session.check_rest() as u64;
+            let at_rest = session.check_rest();
+            (rested, wide_rested) = (rested + at_rest as u64, wide_rested + (at_rest && plan.len() > 32) as u64);
             let sum = session.check_missing().unwrap_or_default();
             missing = [missing[0] + sum[0], missing[1] + sum[1]];
         }
@@ -183,19 +194,22 @@ fn handed_out_is_a_beginning_and_complete_at_rest() {
         }
     }
     println!("seed {}: {all} lists, {checked} checked, {rested} at rest, {events} events handed out, {copies} copies put back", seed());
+    println!("seed {}: {wide} plans of more than 32 streams, {wide_rested} at rest", seed());
     println!("seed {}: counts compared in {counted} lists, missing at rest {missing:?}", seed());
     println!("seed {}: {firings} firings, {lasts} events of last, {recursive} of these streams in a cycle, {signals} events of signal forms, {windowed} of windows, {down} divisions that go down", seed());
     assert!(checked * 10 > all * 9 && rested * 2 > all && events > 5 * all && copies > 0);
     assert!(firings > all / 2 && lasts > all && recursive > all / 10 && signals > all / 2 && windowed > all / 2);
+    assert!(all < 1000 || (wide > all / 5 && wide_rested * 2 > wide), "too few wide plans: {wide}, {wide_rested}");
     assert!(counted * 10 > all * 9 && (all < 1000 || (missing[0] > all / 4 && missing[1] > all / 8)), "{counted}, {missing:?}");
     assert!(all < 1000 || down > all / 250, "too few divisions that go down: {down}");
 }
 
-/// Texts that load refuses, with their numbers.
-const REFUSED: [(&[u8], u32); 9] = [
-    (&[b'x'; 2049], 1), (b"\n", 2), (b"plan=1\n", 2), (b"plan=1\nstreams=0\n", 3), (b"plan=1\nstreams=33\n", 3),
-    (b"plan=1\nstreams=1\nop=no\na=0\nb=0\nk=0\nout=0\n", 4), (b"plan=1\nstreams=1\nop=in\na=0\nb=0\nk=0\nout=1\n", 5),
-    (b"plan=1\nstreams=1\nop=wsum\na=0\nb=0\nk=0\nout=0\n", 18), (b"plan=1\nstreams=1\nop=neg\na=0\nb=0\nk=0\nout=0\n", 6),
+/// Texts that load refuses, with their numbers on a state of 12,288 bytes and one of 20,480.
+const REFUSED: [(&[u8], [u32; 2]); 11] = [
+    (&[b'x'; 4097], [1, 1]), (&[b'x'; 2049], [2, 2]), (b"\n", [2, 2]), (b"plan=1\n", [2, 2]), (b"plan=1\nstreams=0\n", [3, 3]),
+    (b"plan=1\nstreams=33\n", [3, 2]), (b"plan=1\nstreams=65\n", [3, 3]),
+    (b"plan=1\nstreams=1\nop=no\na=0\nb=0\nk=0\nout=0\n", [4, 4]), (b"plan=1\nstreams=1\nop=in\na=0\nb=0\nk=0\nout=1\n", [5, 5]),
+    (b"plan=1\nstreams=1\nop=wsum\na=0\nb=0\nk=0\nout=0\n", [18, 18]), (b"plan=1\nstreams=1\nop=neg\na=0\nb=0\nk=0\nout=0\n", [6, 6]),
 ];
 
 /// One load after the other into the same buffers: one that is done starts a new list, with streams or without, and nothing of
@@ -207,7 +221,8 @@ fn loads_over_one_another() {
     let all = rounds(600);
     for round in 0..all {
         let mut random = Random::of(8, round);
-        let mut session = Session::load(&plan(&mut random, 12));
+        let (size, range) = sized(&mut random, 12, 15);
+        let mut session = Session::load_in(size, &plan_of(&mut random, range.clone()));
         for _ in 0..5 {
             let mut board = Board::new(Model::new(&session.plan));
             for _ in 0..random.below(50) {
@@ -215,8 +230,8 @@ fn loads_over_one_another() {
                     assert_eq!(session.act(act), board.act(act), "the model's answer to {act:?}\n{}", session.story());
                 }
                 if random.chance(10) {
-                    let (text, number) = random.pick(&REFUSED);
-                    session.load_refused(text, number);
+                    let (text, numbers) = random.pick(&REFUSED);
+                    session.load_refused(text, numbers[size as usize]);
                     refused += 1;
                     // that of the plan before
                     session.text_back(any_room(&mut random, &session.plan));
@@ -228,7 +243,8 @@ fn loads_over_one_another() {
                 session.check_rest();
             }
             session.check_missing();
-            let next = if random.chance(40) { vec![] } else { plan(&mut random, 12) };
+            let within = if random.chance(50) { range.clone() } else { 1..=12 };
+            let next = if random.chance(40) { vec![] } else { plan_of(&mut random, within) };
             met[session.plan.is_empty() as usize][next.is_empty() as usize] += 1;
             session = Session::load_over(&next, session.states);
         }
@@ -245,7 +261,7 @@ fn the_order_of_inputs_does_not_matter() {
     let all = rounds(1500);
     for round in 0..all {
         let mut random = Random::of(4, round);
-        let mut plan = plan(&mut random, 24);
+        let (size, mut plan) = sized_plan(&mut random, 24, 20);
         if plan.iter().filter(|s| s.op == Op::In).count() < 2 {
             // two inputs at least: nil has no arguments either
             for stream in plan.iter_mut().filter(|s| matches!(s.op, Op::Nil | Op::Unit)) {
@@ -264,7 +280,7 @@ fn the_order_of_inputs_does_not_matter() {
         }
         let mut ends: Vec<Session> = vec![];
         for _ in 0..3 {
-            let mut session = Session::load(&plan);
+            let mut session = Session::load_in(size, &plan);
             let mut next = vec![0; script.len()];
             let mut stuck = 0;
             while (0..script.len()).any(|i| next[i] < script[i].1.len()) && stuck < 50 {
@@ -342,7 +358,7 @@ fn a_full_stream_keeps_the_next_event_waiting() {
             parts[end] += " out";
         }
         let plan = short(&parts.join("; "));
-        let mut session = Session::load(&plan);
+        let mut session = Session::load_in(random.pick(&SIZES), &plan);
         let mut model = Model::new(&plan);
         let (mut fast, mut slow) = (0u32, 0u32);
         while slow < 60 {
@@ -403,8 +419,8 @@ fn lists_that_start_near_the_horizon() {
     let all = rounds(500);
     for round in 0..all {
         let mut random = Random::of(6, round);
-        let plan = plan(&mut random, 10);
-        let mut session = Session::load(&plan);
+        let (size, plan) = sized_plan(&mut random, 10, 20);
+        let mut session = Session::load_in(size, &plan);
         // past unit's event at 0 first, so that timers set there are due long before
         session.call(Call::Run(50));
         for s in session.inputs() {
@@ -437,12 +453,19 @@ fn lists_that_start_near_the_horizon() {
 /// A plan text that is rendered is taken by load, and the longest fits well within the limit.
 #[test]
 fn rendered_plans_are_short() {
-    let longest: Vec<String> = (0..32).map(|i| if i == 0 { "in".into() } else { "merge 31 31 out".to_string() }).collect();
-    let text = text_of(&short(&longest.join("; ")));
-    assert!(text.len() < 2048, "{}", text.len());
-    for round in 0..rounds(500) {
-        let mut random = Random::of(7, round);
-        let plan = plan(&mut random, 32);
-        assert_eq!(host::plan::parse(text_of(&plan).as_bytes()), Ok(plan));
+    for size in SIZES {
+        let last = size.cap() - 1;
+        let longest: Vec<String> = (0..=last).map(|i| if i == 0 { "in".into() } else { format!("merge {last} {last} out") }).collect();
+        let text = text_of(&short(&longest.join("; ")));
+        assert!(text.len() < 3072, "{}", text.len());
+        for round in 0..rounds(500) {
+            let mut random = Random::of(7, round);
+            let plan = plan(&mut random, size.cap());
+            // what the shorter state takes the longer one takes too
+            for taken in SIZES.into_iter().filter(|taken| plan.len() <= taken.cap()) {
+                assert_eq!(parse_in(taken, text_of(&plan).as_bytes()), Ok(plan.clone()));
+            }
+            assert!(plan.len() <= 32 || parse_in(Size::Short, text_of(&plan).as_bytes()) == Err(3));
+        }
     }
 }

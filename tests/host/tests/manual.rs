@@ -3,6 +3,7 @@
 
 use host::engine::{engines, Call, Engine, BLOCK_LENGTH, STATE_LENGTH};
 use host::evaluator::HORIZON;
+use host::layout::SIZES;
 use host::plan::{short, text_of, Op, OPERATORS};
 use std::collections::BTreeSet;
 
@@ -21,11 +22,12 @@ fn events(text: &str) -> Events {
         .collect()
 }
 
-/// What each engine hands out of the last stream, all inputs known to the horizon.
+/// What each engine hands out of the last stream, all inputs known to the horizon, in a state of either length that takes the plan.
 fn check(plan: &str, inputs: &[Events], wanted: &Events) {
     let plan = short(plan);
-    for engine in engines() {
-        let mut state = vec![0; STATE_LENGTH];
+    let both = || SIZES.into_iter().filter(|size| plan.len() <= size.cap());
+    for (engine, size) in engines().into_iter().flat_map(|engine| both().map(move |size| (engine, size))) {
+        let mut state = vec![0; size.length()];
         assert_eq!(engine.load(&mut state, text_of(&plan).as_bytes()), 0);
         let numbers: Vec<u32> = (0..plan.len() as u32).filter(|&s| plan[s as usize].op == Op::In).collect();
         assert!(inputs.len() <= numbers.len());
@@ -221,9 +223,9 @@ fn the_plans_that_are_written_out() {
     let short_form: Vec<&str> = page[from..].split('`').skip(1).step_by(2).take(5).map(stream_of).collect();
     check(&format!("in; unit; {}", short_form.join("; ")), &visits(), &events("0@0 1@60 1@95 2@130 2@131 3@301"));
 
-    // five rings of six streams fit, and six of five; one more does not
-    for (streams, rings) in [(6, 5), (5, 6)] {
-        assert!(2 + streams * rings <= 32 && 32 < 2 + streams * (rings + 1));
+    // five rings of six streams fit, and six of five; in the longer state ten and twelve; one more does not
+    for (streams, rings, cap) in [(6, 5, 32), (5, 6, 32), (6, 10, 64), (5, 12, 64)] {
+        assert!(2 + streams * rings <= cap && cap < 2 + streams * (rings + 1));
     }
 }
 

@@ -3,10 +3,10 @@
 //! bytes and random plans are in counts.rs.
 
 use host::buffer::Lent;
-use host::engine::{engines, Call, Missing, STATE_LENGTH};
+use host::engine::{engines, Call, Missing, LONG_STATE_LENGTH, STATE_LENGTH};
 use host::evaluator::HORIZON;
 use host::history::Session;
-use host::layout;
+use host::layout::{self, SIZES};
 use host::missing::asked;
 use host::plan::{short, text_of, Op, OPERATORS, SIGNALS};
 use host::random::{rounds, seed, Random};
@@ -156,22 +156,22 @@ fn case_8_10_15_comes_before_11() {
     offered(&mut session, 0, &[(1, 6)]);
     offered(&mut session, 1, &[(1, 0)]);
     runs(&mut session, 9, 1);
-    let state = session.state().to_vec();
-    for length in [0, 1, 24, 56, 64, 256, 768, 8192, STATE_LENGTH - 1] {
+    let state = session.twins[0].to_vec();
+    for length in [0, 1, 24, 56, 64, 256, 768, 8192, STATE_LENGTH - 1, STATE_LENGTH + 1, 16_384, LONG_STATE_LENGTH - 1] {
         for stream in [0, 2, 3, 32, u32::MAX] {
             assert_eq!(asked(&state[..length], stream), (15, Missing::default()), "{length} bytes, stream {stream}");
         }
     }
     assert_eq!(asked(&[&state[..], &[0]].concat(), 2), (15, Missing::default()));
     // and so by its contents
-    for byte in [1, 165, 255] {
-        let mut bytes = state.clone();
-        bytes[STATE_LENGTH - 1] = byte;
-        for stream in [0, 2, 3, 32, u32::MAX] {
+    for (byte, size) in [1, 165, 255].into_iter().flat_map(|byte| SIZES.map(|size| (byte, size))) {
+        let mut bytes = state[..size.length()].to_vec();
+        assert_eq!(asked(&bytes, 2), (0, Missing { outside: 0, zero: 1 }));
+        bytes[size.length() - 1] = byte;
+        for stream in [0, 2, 3, 32, 64, u32::MAX] {
             assert_eq!(asked(&bytes, stream), (15, Missing::default()), "stream {stream}");
         }
     }
-    assert_eq!(asked(&state, 2), (0, Missing { outside: 0, zero: 1 }));
 }
 
 // ---- each operator
@@ -601,8 +601,8 @@ fn a_form_counts_as_the_last_of_its_five_streams() {
 
 #[test]
 fn every_stream_number() {
-    let many: Vec<String> = (0..32).map(|i| if i == 0 { "in".into() } else { format!("plus 0 k{i}") }).collect();
-    for n in [1, 2, 3, 31, 32] {
+    let many: Vec<String> = (0..64).map(|i| if i == 0 { "in".into() } else { format!("plus 0 k{i}") }).collect();
+    for n in [1, 2, 3, 31, 32, 33, 63, 64] {
         let mut session = loaded(&many[..n].join("; "));
         // plus k is out of range from the greatest less k − 1 on: of 16 readings k, at most 16
         offered(&mut session, 0, &(0..16).map(|i| (i, GREATEST - i as i64)).collect::<Vec<_>>());
@@ -610,7 +610,7 @@ fn every_stream_number() {
         for stream in 0..n as u32 {
             missing(&mut session, stream, stream.min(16), 0);
         }
-        for stream in (n as u32..70).chain([255, 256, 256 + n as u32 - 1, 65_536, 1 << 24, 1 << 31, (1 << 31) + 1, u32::MAX - 1, u32::MAX]) {
+        for stream in (n as u32..70).chain([80, 255, 256, 256 + n as u32 - 1, 65_536, 1 << 24, 1 << 31, (1 << 31) + 1, u32::MAX - 1, u32::MAX]) {
             assert_eq!(session.missing(stream), (11, Missing::default()), "stream {stream} of {n}");
         }
     }
@@ -620,8 +620,8 @@ fn every_stream_number() {
 #[test]
 fn the_empty_plan() {
     let session = Session::load(&vec![]);
-    for state in [session.state(), &[0; STATE_LENGTH]] {
-        for stream in (0..40).chain([255, 256, u32::MAX]) {
+    for state in [session.state(), &[0; STATE_LENGTH], &session.twins[0], &[0; LONG_STATE_LENGTH]] {
+        for stream in (0..70).chain([255, 256, u32::MAX]) {
             assert_eq!(asked(state, stream), (11, Missing::default()));
         }
     }
@@ -630,11 +630,11 @@ fn the_empty_plan() {
 /// Lengths are compared as 64 bits, and nothing is read through the pointer of a state of another length.
 #[test]
 fn lengths_above_32_bits() {
-    let right = STATE_LENGTH as u64;
-    for engine in engines() {
+    for (engine, size) in engines().into_iter().flat_map(|engine| SIZES.map(|size| (engine, size))) {
+        let right = size.length() as u64;
         let mut state = Lent::of(&[]);
         for length in [0, 1, right - 1, right + 1, 1 << 32, (1 << 32) + right, (1 << 56) + right, (1 << 63) + right, right << 32, u64::MAX] {
-            for stream in [0, 31, 32, u32::MAX] {
+            for stream in [0, 31, 32, 63, 64, u32::MAX] {
                 assert_eq!(engine.missing_claiming(&mut state, length, stream), (15, Missing::default()), "{}: {length}", engine.name);
             }
         }
@@ -725,6 +725,7 @@ fn a_copy_put_back() {
     // put back at another place, byte for byte
     let mut back = session.clone();
     back.states = engines().iter().map(|_| Lent::of(copy.state())).collect();
+    let mut back = back.widened();
     missing(&mut back, 2, 2, 3);
 }
 

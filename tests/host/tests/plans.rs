@@ -4,7 +4,8 @@
 use host::engine::{engines, Missing};
 use host::evaluator::{evaluate, Events, HORIZON};
 use host::history::Session;
-use host::plan::{number, parse, value, Op};
+use host::layout::Size;
+use host::plan::{number, parse_in, value, Op};
 use host::replay::{offer, replay};
 use std::fs;
 use std::path::PathBuf;
@@ -64,7 +65,7 @@ fn accepted(plan: &host::plan::Plan, trace: &str) -> (Vec<Events>, Vec<u64>) {
 #[test]
 fn the_events_printed_are_those_of_the_definition() {
     for folder in folders() {
-        let plan = parse(&read(&folder, "plan.txt")).unwrap();
+        let plan = parse_in(Size::Long, &read(&folder, "plan.txt")).unwrap();
         let (readings, known) = accepted(&plan, &String::from_utf8(read(&folder, "trace.txt")).unwrap());
         let least = (0..plan.len()).filter(|&s| plan[s].op == Op::In).map(|s| known[s]).min().unwrap_or(HORIZON);
         let expected = String::from_utf8(read(&folder, "expected.txt")).unwrap();
@@ -92,7 +93,7 @@ fn why_events_of_the_plans_are_missing() {
     let mut met = 0;
     for folder in folders() {
         let name = folder.file_name().unwrap().to_string_lossy().into_owned();
-        let mut session = Session::load(&parse(&read(&folder, "plan.txt")).unwrap());
+        let mut session = Session::load(&parse_in(Size::Long, &read(&folder, "plan.txt")).unwrap());
         for call in read(&folder, "trace.txt").split(|&c| c == b'\n').map_while(offer) {
             session.call(call);
             assert!(session.rest(100_000), "{name}");
@@ -140,7 +141,12 @@ fn the_edges_of_the_replay() {
         // no bytes are the plan of no streams; any other text without a whole plan is refused
         assert_eq!(replay(&engine, b"", b"s=0 t=1 v=1\n"), "refused=7\n");
         assert_eq!(replay(&engine, b"\n", b"s=0 t=1 v=1\n"), "refused=2\n");
-        assert_eq!(replay(&engine, &[b'x'; 2049], b""), "refused=1\n");
+        // case 9.13, and the number of streams
+        assert_eq!(replay(&engine, &[b'x'; 4096], b""), "refused=2\n");
+        assert_eq!(replay(&engine, &[b'x'; 4097], b""), "refused=1\n");
+        let many = |n: usize| host::plan::text_of(&host::plan::short(&format!("in{}", "; neg 0 out".repeat(n - 1))));
+        assert_eq!(replay(&engine, many(64).as_bytes(), b"s=0 t=3 v=7\n"), (1..64).map(|s| format!("s={s} t=3 v=-7\n")).collect::<String>());
+        assert_eq!(replay(&engine, many(65).as_bytes(), b"s=0 t=3 v=7\n"), "refused=3\n");
     }
 }
 

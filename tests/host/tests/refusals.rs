@@ -1,24 +1,23 @@
-//! Each number 1 to 15 and 18 with cases by hand, on both engines.
+//! Each number 1 to 15 and 18 with cases by hand, on both engines, and on states of both lengths.
 
 use host::buffer::Lent;
-use host::engine::{engines, Answer, Call, Missing, STATE_LENGTH};
+use host::engine::{engines, Answer, Call, Missing, LONG_STATE_LENGTH, STATE_LENGTH};
 use host::history::Session;
-use host::plan::{parse, short, text_of, SIGNALS, WINDOWS};
+use host::layout::{Size, SIZES};
+use host::plan::{short, text_of, SIGNALS, WINDOWS};
+use host::random::rounds;
+use host::worked::load_in;
 
+/// Load's number, the same on a state of either length.
 fn load(text: &[u8]) -> u32 {
-    let number = match parse(text) {
-        Ok(_) => 0,
-        Err(number) => number,
-    };
-    for engine in engines() {
-        let before = vec![0xC3; STATE_LENGTH];
-        let (mut state, text) = (Lent::of(&before), Lent::of(text));
-        let answer = engine.load(&mut state, &text);
-        assert_eq!(answer, number, "{} against the rules: {:?}", engine.name, String::from_utf8_lossy(&text));
-        assert!(number == 0 || state[..] == before[..], "{} wrote on a refusal", engine.name);
-        assert!(state.untouched() && text.untouched());
-    }
-    number
+    let numbers = both(text);
+    assert_eq!(numbers[0], numbers[1], "the two lengths: {:?}", String::from_utf8_lossy(text));
+    numbers[0]
+}
+
+/// Load's number on a state of 12,288 bytes, and on one of 20,480.
+fn both(text: &[u8]) -> [u32; 2] {
+    SIZES.map(|size| load_in(size, text))
 }
 
 fn refused(text: &str) -> u32 {
@@ -53,13 +52,23 @@ fn a_plan_is_taken() {
 
 #[test]
 fn number_1_the_text_is_too_long() {
-    assert_eq!(load(&[b'x'; 2048]), 2);
-    assert_eq!(load(&[b'x'; 2049]), 1);
+    // up to version 1.8 the limit was 2,048
+    for length in [1, 2048, 2049, 4095, 4096] {
+        assert_eq!(load(&vec![b'x'; length]), 2, "{length}");
+    }
+    for length in [4097, 4098, 8192, 65_536 + 171] {
+        assert_eq!(load(&vec![b'x'; length]), 1, "{length}");
+    }
     let mut long = plan_of(&[IN]).into_bytes();
-    long.resize(2048, b'\n');
+    long.resize(4096, b'\n');
     assert_eq!(load(&long), 2);
     long.push(b'\n');
     assert_eq!(load(&long), 1);
+    // before 3: the count of streams is not looked at
+    let mut many = plan_of(&[IN; 65]).into_bytes();
+    assert_eq!(load(&many), 3);
+    many.resize(4097, b'\n');
+    assert_eq!(load(&many), 1);
 }
 
 #[test]
@@ -101,12 +110,32 @@ fn the_greatest_and_least_k_are_taken() {
 
 #[test]
 fn number_3_streams() {
-    for n in ["0", "33", "999", "100"] {
+    for n in ["0", "65", "66", "128", "999", "100"] {
         assert_eq!(refused(&format!("plan=1\nstreams={n}\n")), 3, "streams={n}");
         assert_eq!(refused(&format!("plan=1\nstreams={n}\nop=zz")), 3, "streams={n}");
     }
-    assert_eq!(refused(&plan_of(&[IN; 32])), 0);
-    assert_eq!(refused(&plan_of(&[IN; 33])), 3);
+    // every count, by the state's length
+    for n in 1..=70 {
+        let wanted = [32, 64].map(|cap| if n <= cap { 0 } else { 3 });
+        assert_eq!(both(plan_of(&vec![IN; n]).as_bytes()), wanted, "{n} streams");
+        // and where the first line of a stream is missing, or is no operator's
+        let cut = |line: &str| both(format!("plan=1\nstreams={n}\n{line}").as_bytes());
+        assert_eq!(cut(""), wanted.map(|number| if number == 0 { 2 } else { 3 }), "{n} streams");
+        assert_eq!(cut("op=zz\n"), wanted.map(|number| if number == 0 { 4 } else { 3 }), "{n} streams");
+    }
+    // at the place where it stands: after the form of its line and of the one before, before all that comes behind
+    for n in [33, 64] {
+        assert_eq!(both(format!("plan=2\nstreams={n}\n").as_bytes()), [2, 2]);
+        assert_eq!(both(format!("plan=1\nstreams=0{n}\n").as_bytes()), [2, 2]);
+        assert_eq!(both(format!("plan=1\nstreams={n}").as_bytes()), [2, 2]);
+        let field = plan_of(&vec![IN; n]).replace("out=0", "out=1");
+        assert_eq!(both(field.as_bytes()), [3, 5]);
+        let wide = plan_of(&vec!["op=wsum\na=0\nb=0\nk=65\nout=0\n"; n]);
+        assert_eq!(both(wide.as_bytes()), [3, 18]);
+        let ring = plan_of(&vec!["op=neg\na=0\nb=0\nk=0\nout=0\n"; n]);
+        assert_eq!(both(ring.as_bytes()), [3, 6]);
+        assert_eq!(both((plan_of(&vec![IN; n]) + "x").as_bytes()), [3, 2]);
+    }
 }
 
 #[test]
@@ -184,6 +213,56 @@ fn number_6_cycles() {
     // every stream reads the next one twice: found in a few steps, or never in two to the power of 31
     let wide: Vec<String> = (0..32).map(|i| if i == 31 { "in".into() } else { format!("add {} {}", i + 1, i + 1) }).collect();
     assert_eq!(number(&wide.join("; ")), 0);
+}
+
+/// Rings of 33 to 64 streams, and ways as deep, in the longer state; the shorter one has 3.
+#[test]
+fn number_6_cycles_64_deep() {
+    let number = |plan: &[String]| {
+        let [shorter, longer] = both(text_of(&short(&plan.join("; "))).as_bytes());
+        assert_eq!(shorter, 3);
+        longer
+    };
+    // stream s reads by(s), but for the last: this
+    let plan = |n: usize, by: &dyn Fn(usize) -> String, last: &str| -> Vec<String> { (0..n).map(|s| if s + 1 == n { last.to_string() } else { by(s) }).collect() };
+    // a short run looks at some of them only
+    for n in (33..=64).step_by(if rounds(100) < 100 { 31 } else { 1 }) {
+        let up = |s: usize| format!("neg {}", s + 1);
+        assert_eq!(number(&plan(n, &up, "in")), 0, "{n} deep");
+        assert_eq!(number(&plan(n, &up, "neg 0")), 6, "a ring of {n}");
+        // the same downwards, where the ways begin at the deep end
+        let down = |s: usize| if s == 0 { "in".into() } else { format!("neg {}", s - 1) };
+        assert_eq!(number(&plan(n, &down, &format!("neg {}", n - 2))), 0, "{n} deep");
+        assert_eq!(number(&plan(n, &|s| if s == 0 { format!("neg {}", n - 1) } else { down(s) }, &format!("neg {}", n - 2))), 6, "a ring of {n}");
+        // a first argument of a last or a delay in the ring, wherever it stands; its second one does not open it
+        for at in [0, 1, n / 2, n - 2] {
+            for op in ["last", "delay"] {
+                // stream n − 1 is an input beside the ring of the others
+                let ring = |open: bool| -> Vec<String> {
+                    let (input, next) = (n - 1, |s: usize| (s + 1) % (n - 1));
+                    let stream = |s: usize| match s {
+                        _ if s == input => "in".into(),
+                        _ if s != at => format!("plus {} k1", next(s)),
+                        _ if open => format!("{op} {} {input}", next(s)),
+                        _ => format!("{op} {input} {}", next(s)),
+                    };
+                    (0..n).map(stream).collect()
+                };
+                assert_eq!((number(&ring(true)), number(&ring(false))), (0, 6), "{op} at {at} in a ring of {}", n - 1);
+            }
+        }
+        // the ring's last two: found only at the end of a long way
+        assert_eq!(number(&plan(n, &up, &format!("neg {}", n - 2))), 6);
+        assert_eq!(number(&plan(n, &up, &format!("neg {}", n - 1))), 6);
+        // every stream reads the next one twice, with a ring at the end or without
+        let twice = |s: usize| format!("add {} {}", s + 1, s + 1);
+        assert_eq!(number(&plan(n, &twice, "unit")), 0, "{n} deep, twice");
+        assert_eq!(number(&plan(n, &twice, &format!("merge {} {}", n - 1, n - 2))), 6);
+        // every stream reads two that come later
+        let two = |s: usize| format!("add {} {}", s + 1, (s + 2).min(n - 1));
+        assert_eq!(number(&plan(n, &two, "nil")), 0);
+        assert_eq!(number(&plan(n, &two, "neg 31")), 6);
+    }
 }
 
 #[test]
@@ -325,12 +404,13 @@ fn number_15_lengths() {
     for engine in engines() {
         let mut good = vec![0; STATE_LENGTH];
         assert_eq!(engine.load(&mut good, text.as_bytes()), 0);
-        for length in [0, 1, 255, 256, 4096, STATE_LENGTH - 1, STATE_LENGTH + 1, 2 * STATE_LENGTH] {
+        let near = [STATE_LENGTH - 1, STATE_LENGTH + 1, 2 * STATE_LENGTH, 16_384, LONG_STATE_LENGTH - 1, LONG_STATE_LENGTH + 1, 32_768, 2 * LONG_STATE_LENGTH];
+        for length in [0, 1, 255, 256, 4096, 8192].into_iter().chain(near) {
             let mut bytes = good.clone();
             bytes.resize(length, 0);
             let mut state = Lent::of(&bytes);
             // load's 15 comes before its other numbers
-            for text in [text.as_bytes(), b"", &[b'x'; 3000]] {
+            for text in [text.as_bytes(), b"", &[b'x'; 3000], &[b'x'; 5000]] {
                 assert_eq!(engine.load(&mut state, text), 15);
             }
             for call in [Call::Reading(0, 1, 1), Call::Progress(0, 1), Call::Move(1), Call::Run(5), Call::Collect(1)] {
@@ -346,9 +426,16 @@ fn number_15_lengths() {
 
 #[test]
 fn number_15_contents() {
+    for size in SIZES {
+        contents(size);
+    }
+}
+
+fn contents(size: Size) {
     let text = text_of(&short("in; neg 0 out; last 0 1; delay 0 2; sadd 0 1; wsum 0 k5"));
-    let mut good = vec![0; STATE_LENGTH];
+    let mut good = vec![0; size.length()];
     assert_eq!(engines()[1].load(&mut good, text.as_bytes()), 0);
+    let (windows, end) = (size.windows(), size.length());
     // (byte, what it is set to): each one alone makes a state that load and the calls cannot leave
     let bad: &[(usize, u8, &str)] = &[
         (0, 0, "no stream here, but streams after it"), (0, 31, "no operator"), (1, 1, "in has no a"), (2, 1, "in has no b"), (3, 1, "in is no output"),
@@ -367,8 +454,9 @@ fn number_15_contents() {
         (1280 + 5, 1, "kept with bound 0"), (1280 + 6, 1, "unused"), (1280 + 8, 0, "a width of 0"), (1280 + 8, 65, "a width above 64"), (1280 + 8, 255, "a width above 64"),
         (1280 + 9, 1, "a width above 64"), (1280 + 12, 1, "a width above 64"), (1280 + 15, 255, "a width below 0"), (1280 + 32, 1, "unused"), (1280 + 40, 1, "unused"),
         (1280 + 55, 1, "unused"), (1280 + 56, 1, "counted with bound 0"), (1280, 31, "no operator"), (1280, 7, "neg has no k"), (1280, 0, "no stream here, but bytes after it"),
-        (1536, 31, "no operator"), (1537, 1, "behind the streams"), (8191, 1, "behind the streams"), (8192, 1, "behind the fill of window 0"),
-        (8703, 1, "behind the fill of window 0"), (8704, 1, "a window that no stream has"), (12_287, 1, "a window that no stream has"),
+        (1536, 31, "no operator"), (1537, 1, "behind the streams"), (8191, 1, "behind the streams"), (8192, 1, "behind the streams, or the fill of window 0"),
+        (12_287, 1, "behind the streams, or a window that no stream has"), (windows - 1, 1, "behind the streams"), (windows, 1, "behind the fill of window 0"),
+        (windows + 511, 1, "behind the fill of window 0"), (windows + 512, 1, "a window that no stream has"), (end - 1, 1, "a window that no stream has"),
     ];
     for engine in engines() {
         assert_eq!(engine.call(&mut good.clone(), Call::Run(0)).number, 0);
@@ -383,7 +471,7 @@ fn number_15_contents() {
             }
         }
         // without streams all bytes are 0, and it is a state; with a byte left of what was loaded it is none
-        let mut bytes = vec![0; STATE_LENGTH];
+        let mut bytes = vec![0; size.length()];
         assert_eq!(engine.call(&mut bytes, Call::Run(0)).number, 0);
         for at in (1..1536).filter(|&at| good[at] != 0) {
             bytes[at] = good[at];
@@ -413,11 +501,11 @@ fn a_refused_load_leaves_the_list_and_a_done_one_starts_anew() {
 #[test]
 fn a_state_at_every_alignment_between_guard_bytes() {
     let text = text_of(&short("in; unit; set 1 k0; last 5 0; plus 3 k1; merge 4 2 out"));
-    for engine in engines() {
+    for (engine, size) in engines().into_iter().flat_map(|engine| SIZES.map(|size| (engine, size))) {
         let mut ends = vec![];
         for shift in 0..8 {
-            let mut block = vec![0x77; STATE_LENGTH + 64];
-            let range = 16 + shift..16 + shift + STATE_LENGTH;
+            let mut block = vec![0x77; size.length() + 64];
+            let range = 16 + shift..16 + shift + size.length();
             let state = &mut block[range.clone()];
             assert_eq!(engine.load(state, text.as_bytes()), 0);
             for call in [Call::Run(50), Call::Reading(0, 3, 7), Call::Run(50), Call::Collect(5), Call::Collect(5), Call::Progress(0, 99), Call::Run(9)] {

@@ -5,6 +5,7 @@ use host::buffer::Lent;
 use host::engine::{engines, Answer, Call, BLOCK_LENGTH, STATE_LENGTH};
 use host::found::Found;
 use host::history::Session;
+use host::layout::{widened, SIZES};
 use host::plan::{short, text_of};
 use host::random::{rounds, Random};
 use host::registers::{readers, Block, REFUSED, WAITING};
@@ -85,7 +86,14 @@ fn no_states() -> Vec<Vec<u8>> {
     last[STATE_LENGTH - 1] = 1;
     first[0] = 0;
     let longer = [&good[..], &[0]].concat();
-    vec![vec![], good[..1].to_vec(), good[..STATE_LENGTH - 1].to_vec(), longer, good[..8192].to_vec(), last, first, vec![0xFF; STATE_LENGTH], vec![0; 256]]
+    // and of the longer length
+    let long = widened(&good);
+    let (mut between, cut, more) = (long.clone(), long[..long.len() - 1].to_vec(), [&long[..], &[0]].concat());
+    between[8192] = 1;
+    vec![
+        vec![], good[..1].to_vec(), good[..STATE_LENGTH - 1].to_vec(), longer, good[..8192].to_vec(), last, first, vec![0xFF; STATE_LENGTH], vec![0; 256], between, cut, more,
+        vec![0xFF; long.len()],
+    ]
 }
 
 /// Blocks of zeros and of other contents.
@@ -343,12 +351,12 @@ fn lengths_above_32_bits() {
     }
 }
 
-/// A state whose length is not 12,288 as 64 bits: nothing is read or written through its pointer, plain writes are done, commands are
+/// A state whose length is neither 12,288 nor 20,480 as 64 bits: nothing is read or written through its pointer, plain writes are done, commands are
 /// refused 15, and what is no command 17.
 #[test]
 fn state_lengths_above_32_bits() {
-    let right = STATE_LENGTH as u64;
-    for engine in engines() {
+    for (engine, size) in engines().into_iter().flat_map(|engine| SIZES.map(|size| (engine, size))) {
+        let right = size.length() as u64;
         let (mut state, mut block) = (Lent::of(&[]), Lent::of(&ZEROS));
         for length in [(1 << 32) + right, (1 << 56) + right, (1 << 63) + right, u64::MAX, 1 << 32, right << 32, right + 1, right - 1, 0] {
             for (at, byte, number) in [(5, 7, 0), (19, 3, 0), (16, 1, 15), (16, 2, 15), (16, 3, 15), (16, 4, 17), (17, 1, 17), (18, 255, 0), (99, 1, 17)] {
@@ -457,17 +465,19 @@ fn flag_1_is_of_the_state_after_the_command() {
     assert_eq!((session.command(Collect(1)), ended(&session)), (14, (14, REFUSED)));
 }
 
-/// Flag 1 is of any output, not of the stream in the block, and of any place: the last of 32 streams.
+/// Flag 1 is of any output, not of the stream in the block, and of any place: the last of 32 streams, of 33 and of 64.
 #[test]
 fn any_output_that_waits() {
-    let wide: Vec<String> = (0..32).map(|s| if s == 0 { "in".into() } else if s == 31 { "plus 0 k1 out".into() } else { format!("neg {} out", s - 1) }).collect();
-    let mut session = with_block(&wide.join("; "), &ZEROS);
-    session.call(Reading(0, 1, 1));
-    assert_eq!(session.call(Call::Move(31)).number, 0);
-    assert_eq!((session.command(Collect(5)), ended(&session)), (14, (14, REFUSED | WAITING)));
-    wrote(&mut session, 18, 255, 0, &[(18, 0)]);
-    assert_eq!((session.command(Collect(31)), ended(&session)), (0, (0, 0)));
-    assert_eq!((session.command(Run(64)), ended(&session)), (0, (0, WAITING)));
+    for last in [31, 32, 63] {
+        let wide: Vec<String> = (0..=last).map(|s| if s == 0 { "in".into() } else if s == last { "plus 0 k1 out".into() } else { format!("neg {} out", s - 1) }).collect();
+        let mut session = with_block(&wide.join("; "), &ZEROS);
+        session.call(Reading(0, 1, 1));
+        assert_eq!(session.call(Call::Move(last)).number, 0);
+        assert_eq!((session.command(Collect(5)), ended(&session)), (14, (14, REFUSED | WAITING)));
+        wrote(&mut session, 18, 255, 0, &[(18, 0)]);
+        assert_eq!((session.command(Collect(last)), ended(&session)), (0, (0, 0)));
+        assert_eq!((session.command(Run(64)), ended(&session)), (0, (0, WAITING)));
+    }
 }
 
 /// After number 15 flag 0 is set and flag 1 not, though the bytes are those of a state in which an output waits but for one.

@@ -4,9 +4,9 @@
 use host::engine::{Answer, Call};
 use host::evaluator::{evaluate, HORIZON};
 use host::history::Session;
-use host::layout;
+use host::layout::{self, Size, SIZES};
 use host::plan::{short, text_of, Op, Plan, Stream, SIGNALS};
-use host::random::{plan, rounds, seed, Random};
+use host::random::{plan_of, rounds, seed, Random};
 use host::worked::{as_defined, collected, load, numbers, record, runs};
 use Call::{Collect, Move, Progress, Reading, Run};
 
@@ -224,16 +224,19 @@ fn case_1_13_the_same_events_as_the_five_streams() {
 /// rest the two known equally far.
 #[test]
 fn a_form_and_its_five_streams_in_any_order_of_calls() {
-    let (mut rested, mut events, mut ahead) = (0u64, 0u64, 0u64);
+    let (mut rested, mut events, mut ahead, mut wide) = (0u64, 0u64, 0u64, 0u64);
     let all = rounds(3000);
     for round in 0..all {
         let mut random = Random::of(21, round);
-        let base = plan(&mut random, 20);
+        let size = random.pick(&SIZES);
+        let most = if size == Size::Long && random.chance(20) { 27..=58 } else { 1..=20 };
+        let base = plan_of(&mut random, most);
         let base = if base.is_empty() || random.chance(30) { short("in; in") } else { base };
         let n = base.len() as u64;
         let (a, b) = if n == 2 { (0, 1) } else { (random.below(n) as usize, random.below(n) as usize) };
         let (plan, form, spelled) = with_both(base, random.below(8) as usize, a, b);
-        let mut session = Session::load(&plan);
+        wide += (plan.len() > 32) as u64;
+        let mut session = Session::load_in(size, &plan);
         let inputs = session.inputs();
         for _ in 0..60 + random.below(120) {
             let stream = if random.chance(40) { random.pick(&[form, spelled]) } else { random.below(plan.len() as u64) as usize } as u32;
@@ -256,6 +259,6 @@ fn a_form_and_its_five_streams_in_any_order_of_calls() {
             events += session.handed[form].len() as u64;
         }
     }
-    println!("seed {}: {rested} of {all} lists at rest, {events} events of the form, one ahead of the other after {ahead} calls", seed());
-    assert!(rested * 2 > all && events > all && ahead > all);
+    println!("seed {}: {rested} of {all} lists at rest, {events} events of the form, one ahead of the other after {ahead} calls; plans of more than 32 streams {wide}", seed());
+    assert!(rested * 2 > all && events > all && ahead > all && (all < 1000 || wide > all / 30));
 }

@@ -6,17 +6,17 @@ use host::engine::{engines, Answer, Call};
 use host::evaluator::HORIZON;
 use host::found::{Found, Record};
 use host::history::Session;
-use host::layout;
+use host::layout::{self, Size, SIZES};
 use host::plan::{short, text_of, Op, Plan, Stream};
 use host::random::{rounds, Random};
 use host::worked::{as_defined, collected, numbers, record, runs};
 use Call::{Move, Progress, Reading, Run};
 
 /// A state with these bounds, in which stream 0, an input, holds these events; nothing else is held or kept.
-fn state(plan: &Plan, bounds: &[u64], held: &[(u32, i64)]) -> Vec<u8> {
+fn state(size: Size, plan: &Plan, bounds: &[u64], held: &[(u32, i64)]) -> Vec<u8> {
     let mut records: Vec<Record> = bounds.iter().map(|&bound| Record { bound, ..Record::default() }).collect();
     records[0].held = held.iter().copied().collect();
-    Found { plan: plan.clone(), records, ..Found::default() }.bytes()
+    Found { plan: plan.clone(), records, size, ..Found::default() }.bytes()
 }
 
 /// A reading of stream 0 in both engines and the model, all with the same bytes after it: what stream 0 then holds.
@@ -35,8 +35,9 @@ fn after_reading(state: &[u8], t: u32) -> Vec<(u32, i64)> {
 fn waits(bounds: &[u64], t: u32) -> bool {
     let plan: Plan = std::iter::once(Op::In).chain(bounds.iter().map(|_| Op::Neg)).map(Stream::new).collect();
     let all: Vec<u64> = std::iter::once(0).chain(bounds.iter().copied()).collect();
-    let held = after_reading(&state(&plan, &all, &[]), t);
-    assert!(held == [] || held == [(t, 7)], "{held:?}");
+    let ends = SIZES.map(|size| after_reading(&state(size, &plan, &all, &[]), t));
+    let held = &ends[0];
+    assert!(ends[0] == ends[1] && (*held == [] || *held == [(t, 7)]), "{ends:?}");
     !held.is_empty()
 }
 
@@ -135,6 +136,29 @@ fn case_6_8_as_before_after_every_call() {
     assert_eq!(one_by_one(&format!("in; in; {}", ["keep 0 1"; 30].join("; "))), (30, KEEPS));
 }
 
+/// The same with 63 readers in the longer state: after each call the first 32 records are those of the same calls on 31.
+#[test]
+fn case_6_8_with_63_readers() {
+    let plan = |n: usize| short(&format!("in; {}", vec!["neg 0"; n].join("; ")));
+    let (mut few, mut many) = (Session::load(&plan(31)), Session::load(&plan(63)));
+    for t in 0..16 {
+        numbers(&mut few, &[(Reading(0, 3 * t, 5 - t as i64), 0)]);
+        numbers(&mut many, &[(Reading(0, 3 * t, 5 - t as i64), 0), (Move(0), 11)]);
+    }
+    // the 31 of the one, then the other 32; the readings go one by one as the last reader passes them
+    runs(&mut few, 31 * 16, 31 * 16);
+    runs(&mut many, 31 * 16, 31 * 16);
+    assert!(few.state()[256..8192] == many.state()[256..8192]);
+    assert_eq!((layout::held(few.state(), 0).len(), layout::held(many.state(), 0).len()), (0, 16));
+    runs(&mut many, 31 * 16, 31 * 16);
+    for left in (0..16).rev() {
+        runs(&mut many, 1, 1);
+        assert_eq!(layout::held(many.state(), 0).len(), left);
+    }
+    runs(&mut many, 9, 0);
+    as_defined(&mut many);
+}
+
 const NEGS: u64 = 10_052_264_997_629_545_187;
 const KEEPS: u64 = 8_708_994_515_386_552_028;
 
@@ -159,7 +183,8 @@ fn held_until_every_readers_bound_is_above() {
     let all = rounds(3000);
     for round in 0..all {
         let mut random = Random::of(60, round);
-        let n = 2 + random.below(31) as usize;
+        let size = random.pick(&SIZES);
+        let n = 2 + random.below(size.cap() as u64 - 1) as usize;
         let mut plan: Plan = vec![Stream::new(Op::In), Stream::new(Op::In)];
         let mut windows = 0;
         while plan.len() < n {
@@ -186,7 +211,7 @@ fn held_until_every_readers_bound_is_above() {
         let waited = |t: u32| readers.iter().any(|&bound| bound <= t as u64);
         let before: Vec<(u32, i64)> = held.iter().copied().chain([(t, 7)]).collect();
         let expected: Vec<(u32, i64)> = before.iter().copied().filter(|(t, _)| waited(*t)).collect();
-        let found = after_reading(&state(&plan, &bounds, &held), t);
+        let found = after_reading(&state(size, &plan, &bounds, &held), t);
         assert_eq!(found, expected, "{}\nbounds {bounds:?}", text_of(&plan));
         match expected.len() {
             0 => gone += 1,

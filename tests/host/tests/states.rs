@@ -5,7 +5,7 @@ use host::engine::{Answer, Call, Missing, LIBRARY, STATE_LENGTH};
 use host::evaluator::HORIZON;
 use host::found::{Found, Record};
 use host::history::{any_acts, Session};
-use host::layout;
+use host::layout::{self, Size};
 use host::model::Division;
 use host::plan::{text_of, windows};
 use host::random::{rounds, seed, Random};
@@ -26,7 +26,7 @@ fn files() -> Vec<PathBuf> {
 fn states() -> Vec<(String, Saved)> {
     let name = |path: &PathBuf| path.file_name().unwrap().to_string_lossy().into_owned();
     let states: Vec<(String, Saved)> = files().iter().map(|path| (name(path), read(&fs::read_to_string(path).unwrap()))).collect();
-    assert!(states.len() >= 22, "only {} saved states", states.len());
+    assert!(states.len() >= 25, "only {} saved states", states.len());
     states
 }
 
@@ -53,7 +53,7 @@ fn each_gives_its_plan_back() {
         let text = text_of(&saved.plan);
         let mut session = Session::put_back(&saved);
         for turn in 0..2 {
-            for room in [text.len(), text.len() + 7, 2048] {
+            for room in [text.len(), text.len() + 7, 4096] {
                 let end = session.text_back(room);
                 assert_eq!((end.number, end.length as usize, &end.buffer[..text.len()]), (0, text.len(), text.as_bytes()), "{name}");
                 assert!(end.buffer[text.len()..] == pattern(room)[text.len()..], "{name}");
@@ -350,7 +350,7 @@ fn a_full_input_goes_on_by_registers() {
 fn behind_the_records_of_an_earlier_state_all_is_0() {
     for (name, saved) in states() {
         let earlier = ["1.1-", "1.2-", "1.3-", "1.4-", "1.5-"].iter().any(|version| name.starts_with(version));
-        assert!(earlier || name.starts_with("1.6-") || name.starts_with("1.7-"), "{name}: of which version?");
+        assert!(earlier || ["1.6-", "1.7-", "1.8-"].iter().any(|version| name.starts_with(version)), "{name}: of which version?");
         assert!(!earlier || (saved.bytes[8192..].iter().all(|&x| x == 0) && windows(&saved.plan).is_empty()), "{name}");
     }
 }
@@ -574,6 +574,84 @@ fn a_full_output_counts_from_the_first_move() {
     runs(&mut session, 9, 1);
     counts(&mut session, &[(2, 0, 1)]);
     assert!(session.rest(99) && session.check_beginning() && session.check_rest() && session.check_missing().is_some());
+}
+
+// ---- states saved before the longer state: each goes on where it is and, by put_back, widened; here also in the longer state alone
+
+/// Put back, and its widened copy alone in a buffer of the longer length.
+fn in_both(name: &str) -> [Session; 2] {
+    let session = Session::put_back(&named(name));
+    let mut long = session.clone();
+    long.states = std::mem::take(&mut long.twins);
+    assert_eq!((session.size(), long.size()), (Size::Short, Size::Long));
+    [session, long]
+}
+
+/// What was counted before the copy stays, and what is missing after it is added.
+#[test]
+fn counts_go_on() {
+    for mut session in in_both("1.8-counts.txt") {
+        // div: the least by −1 at 1 and 6 by 0 at 2. wsum: 6 and the greatest at 3. smul: the least by −1 at 1. neg has not moved
+        counts(&mut session, &[(2, 1, 1), (3, 1, 0), (4, 1, 0), (5, 0, 0)]);
+        // div: 1 by 0 at 4, the greatest by 3 at 5. wsum: out of range at 4 and 5. smul: the greatest twice at 3, 1 by 0 at 4 is 0, three
+        // times the greatest at 5. neg: none of the least at 1, then four
+        runs(&mut session, 99, 1 + 1 + 2 + 4);
+        counts(&mut session, &[(2, 1, 2), (3, 3, 0), (4, 3, 0), (5, 1, 0)]);
+        collected(&mut session, 2, &[(5, 3_074_457_345_618_258_602)]);
+        collected(&mut session, 3, &[(1, i64::MIN), (2, i64::MIN + 6)]);
+        assert!(session.rest(99) && session.check_beginning() && session.check_rest() && session.check_missing().is_some());
+    }
+}
+
+/// Windows that were not full: what they keep lies behind 32 records or behind 64, and goes on from there.
+#[test]
+fn half_full_windows_go_on() {
+    for mut session in in_both("1.8-windows.txt") {
+        let window = |session: &Session, stream: usize| layout::window(session.state(), stream);
+        assert_eq!(layout::window_at(session.state(), 5), session.size().windows() + 3 * 512);
+        assert_eq!([1, 2, 3, 5].map(|stream| window(&session, stream)), [vec![5, -3, 8], vec![5, -3], vec![5, -3, 8, 2], vec![100]]);
+        // 5 − 3 + 8 + 2; the least of 5, −3 and 8, then of −3, 8 and 2; 100 − 100
+        runs(&mut session, 99, 1 + 2 + 1);
+        collected(&mut session, 1, &[(2, 2), (3, 10), (4, 12)]);
+        collected(&mut session, 2, &[(1, 5), (2, -3), (3, -3), (4, -3)]);
+        collected(&mut session, 3, &[(2, 5), (3, 8), (4, 8)]);
+        assert_eq!([1, 2, 3, 5].map(|stream| window(&session, stream)), [vec![5, -3, 8, 2], vec![-3, 8, 2], vec![5, -3, 8, 2], vec![100, -100]]);
+        numbers(&mut session, &[(Call::Reading(0, 5, -9), 0)]);
+        runs(&mut session, 99, 3);
+        collected(&mut session, 1, &[(5, 3)]);
+        collected(&mut session, 2, &[(5, -9)]);
+        collected(&mut session, 3, &[(5, 8)]);
+        assert!(session.rest(99) && session.check_beginning() && session.check_rest());
+    }
+}
+
+/// Nothing is held: what the delays keep decides. Set at 1 to ring 10 later; input 0 had 6 at 4, just below their bound.
+#[test]
+fn what_delays_keep_goes_on() {
+    let records = Found::read(&named("1.8-delays.txt").bytes).expect("a state").records;
+    for delay in [&records[2], &records[5]] {
+        assert_eq!((delay.bound, delay.since, delay.value, delay.prior), (5, 2, Some(10), Some(6)));
+    }
+    assert!(records.iter().all(|record| record.held.is_empty()));
+    // the second timer is set anew by the first one's ringing, to 5 later
+    let ways: [(&[Call], &[(u32, i64)], &[(u32, i64)]); 3] = [
+        (&[], &[(11, 0)], &[(11, 0), (16, 0)]),
+        // input 1 at 4, where input 0 had 6
+        (&[Call::Reading(1, 4, 1)], &[(10, 0)], &[(10, 0), (15, 0)]),
+        // and at 5, where it has nothing
+        (&[Call::Reading(1, 5, 1)], &[], &[]),
+    ];
+    for (calls, first, second) in ways {
+        for mut session in in_both("1.8-delays.txt") {
+            for call in calls {
+                numbers(&mut session, &[(*call, 0)]);
+            }
+            numbers(&mut session, &[(Call::Progress(0, 30), 0), (Call::Progress(1, 30), 0), (Call::Run(99), 0)]);
+            collected(&mut session, 2, first);
+            collected(&mut session, 5, second);
+            assert!(session.rest(99) && session.check_beginning() && session.check_rest());
+        }
+    }
 }
 
 /// No test: to save a state with the library of today, write a file with the two lines of head, the plan and the calls, and

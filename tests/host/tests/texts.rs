@@ -5,10 +5,12 @@ use host::buffer::Lent;
 use host::engine::{engines, Answer, Call, STATE_LENGTH};
 use host::found::Found;
 use host::history::{any_acts, Session};
-use host::plan::{parse, short, text_of, Op, Plan, Stream, OPERATORS};
-use host::random::{plan, record, rounds, seed, Random};
+use host::layout::{widened, Size, SIZES};
+use host::plan::{parse, parse_in, short, text_of, Op, Plan, Stream, OPERATORS};
+use host::random::{plan_of, record, rounds, seed, sized, Random};
 use host::texts::{as_defined, asked, given, pattern, Given};
 use std::fs;
+use std::ops::RangeInclusive;
 use Call::{Collect, Reading, Run};
 
 /// `in; unit; set 1 k0; last 5 0; plus 3 k1; merge 4 2 out`, written by hand: 171 bytes.
@@ -38,8 +40,12 @@ fn loaded_over(before: &[u8], text: &str) -> Vec<u8> {
     ends.swap_remove(0)
 }
 
+fn loaded_in(size: Size, text: &str) -> Vec<u8> {
+    loaded_over(&vec![165; size.length()], text)
+}
+
 fn loaded(text: &str) -> Vec<u8> {
-    loaded_over(&[165; STATE_LENGTH], text)
+    loaded_in(Size::Short, text)
 }
 
 /// The call on these bytes with a buffer of so many: done with this text, behind which so many bytes stay.
@@ -65,14 +71,16 @@ fn step(short: usize) -> usize {
 fn cases_7_1_to_7_3_longer_just_long_enough_and_shorter() {
     assert_eq!(COUNT.len(), 171);
     let state = loaded(COUNT);
-    gives(&state, 2048, COUNT, 1877);
-    gives(&state, 171, COUNT, 0);
-    refuses(&state, 170, 19);
+    for state in [state.clone(), widened(&state), loaded_in(Size::Long, COUNT)] {
+        gives(&state, 2048, COUNT, 1877);
+        gives(&state, 171, COUNT, 0);
+        refuses(&state, 170, 19);
+    }
 }
 
 #[test]
 fn cases_7_4_and_7_5_no_bytes_for_no_streams() {
-    for state in [loaded(""), vec![0; STATE_LENGTH]] {
+    for state in [loaded(""), vec![0; STATE_LENGTH], loaded_in(Size::Long, ""), vec![0; Size::Long.length()]] {
         gives(&state, 0, "", 0);
         gives(&state, 5, "", 5);
     }
@@ -91,18 +99,21 @@ fn case_7_7_no_buffer_for_a_plan() {
 
 #[test]
 fn case_7_8_15_comes_before_19() {
-    let state = loaded(COUNT);
-    for length in [0, 1, 171, 256, 1536, 8192, STATE_LENGTH - 1] {
+    let state = loaded_in(Size::Long, COUNT);
+    for length in [0, 1, 171, 256, 1536, 8192, STATE_LENGTH - 1, STATE_LENGTH + 1, 16_384, Size::Long.length() - 1] {
         refuses(&state[..length], 0, 15);
         refuses(&state[..length], 2048, 15);
     }
     refuses(&[&state[..], &[0]].concat(), 0, 15);
     // and so by its contents
     for byte in [1, 165, 255] {
-        let mut bytes = state.clone();
-        bytes[STATE_LENGTH - 1] = byte;
-        for room in [0, 170, 171, 2048] {
-            refuses(&bytes, room, 15);
+        for size in SIZES {
+            let mut bytes = state[..size.length()].to_vec();
+            gives(&bytes, 171, COUNT, 0);
+            bytes[size.length() - 1] = byte;
+            for room in [0, 170, 171, 2048] {
+                refuses(&bytes, room, 15);
+            }
         }
     }
 }
@@ -134,13 +145,17 @@ fn case_7_10_loaded_into_a_second_buffer() {
 
 // ---- every field
 
-/// A plan is taken, and its text comes back: into a buffer just long enough, one byte short, and longer.
+/// A plan is taken by the longer state, and by the shorter one if it has at most 32 streams, and its text comes back: into a buffer just
+/// long enough, one byte short, and longer.
 fn comes_back(text: &str) {
-    let state = loaded(text);
-    gives(&state, text.len(), text, 0);
-    gives(&state, text.len() + 3, text, 3);
-    if !text.is_empty() {
-        refuses(&state, text.len() - 1, 19);
+    let streams = parse_in(Size::Long, text.as_bytes()).expect("a plan").len();
+    for size in SIZES.into_iter().filter(|size| streams <= size.cap()) {
+        let state = loaded_in(size, text);
+        gives(&state, text.len(), text, 0);
+        gives(&state, text.len() + 3, text, 3);
+        if !text.is_empty() {
+            refuses(&state, text.len() - 1, 19);
+        }
     }
 }
 
@@ -185,8 +200,16 @@ fn every_length_of_k() {
 /// Every number of streams, and every argument in both places.
 #[test]
 fn every_number_of_streams_and_every_argument() {
-    for n in 1..=32 {
+    for n in 1..=64 {
         comes_back(&format!("plan=1\nstreams={n}\n{}", IN.repeat(n)));
+    }
+    for a in 0..63 {
+        for (first, second) in [(a, 62 - a), (a, a), (a, 0)] {
+            comes_back(&format!("plan=1\nstreams=64\n{}{}", IN.repeat(63), line("ssub", first, second, "0", 1)));
+        }
+    }
+    for (first, second) in [(63, 63), (63, 1), (9, 63), (32, 31)] {
+        comes_back(&format!("plan=1\nstreams=64\n{}{}", line("keep", first, second, "0", 1), IN.repeat(63)));
     }
     for a in 0..31 {
         for (first, second) in [(a, 30 - a), (a, a), (a, 0)] {
@@ -213,7 +236,7 @@ fn the_plans_of_the_folder() {
     assert!(met >= 15, "only {met} plans");
 }
 
-/// The longest line of a plan of 32 streams that an operator has.
+/// The longest line of a plan of 32 to 64 streams that an operator has.
 fn longest_line(op: Op, name: &str) -> usize {
     let two_digits = |used: bool| if used { 31 } else { 0 };
     let k = if op.is_window() { "64" } else if op.uses_k() { "-9223372036854775808" } else { "0" };
@@ -222,34 +245,48 @@ fn longest_line(op: Op, name: &str) -> usize {
 
 /// `plan=1` and `streams=32` are 18 bytes with their ends. The longest line is plus's with an argument of two digits and a k of 20: 8 + 5
 /// + 4 + 23 + 6 = 46. Not all 32 may be so: some stream has no undelayed argument, or they would be a cycle, and the longest line of
-/// such a one is unit's, 8 + 4 + 4 + 4 + 6 = 26. So 18 + 31 · 46 + 26 = 1,470.
+/// such a one is unit's, 8 + 4 + 4 + 4 + 6 = 26. So 18 + 31 · 46 + 26 = 1,470, and of 64 streams 18 + 63 · 46 + 26 = 2,942.
 #[test]
 fn the_longest_text() {
     assert_eq!(OPERATORS.map(|(op, name)| longest_line(op, name)).into_iter().max(), Some(46));
     let without = OPERATORS.into_iter().filter(|(op, _)| Stream::new(*op).undelayed().is_empty());
     assert_eq!(without.map(|(op, name)| longest_line(op, name)).max(), Some(26));
 
-    let plus = line("plus", 31, 0, "-9223372036854775808", 1);
-    let text = format!("plan=1\nstreams=32\n{}{}", plus.repeat(31), line("unit", 0, 0, "0", 1));
-    assert_eq!(text.len(), 1470);
-    let state = loaded(&text);
-    gives(&state, 1470, &text, 0);
-    gives(&state, 2048, &text, 578);
-    gives(&state, 4096, &text, 2626);
-    refuses(&state, 1469, 19);
-    // all 32 of the longest: 18 + 32 · 46, and refused
-    let longer = format!("plan=1\nstreams=32\n{}", plus.repeat(32));
-    assert_eq!((longer.len(), parse(longer.as_bytes())), (1490, Err(6)));
-    for engine in engines() {
-        assert_eq!(engine.load(&mut vec![0; STATE_LENGTH], longer.as_bytes()), 6, "{}", engine.name);
+    for (size, longest, not_taken) in [(Size::Short, 1470, 1490), (Size::Long, 2942, 2962)] {
+        let n = size.cap();
+        let plus = line("plus", n - 1, 0, "-9223372036854775808", 1);
+        let text = format!("plan=1\nstreams={n}\n{}{}", plus.repeat(n - 1), line("unit", 0, 0, "0", 1));
+        assert_eq!(text.len(), longest);
+        let state = loaded_in(size, &text);
+        gives(&state, longest, &text, 0);
+        gives(&state, 3000, &text, 3000 - longest);
+        gives(&state, 4096, &text, 4096 - longest);
+        refuses(&state, longest - 1, 19);
+        refuses(&state, 0, 19);
+        // and after the plan has run
+        let mut session = Session::load_in(size, &parse_in(size, text.as_bytes()).unwrap());
+        // unit has 0 at 0, and so each other one the least value there; then all of them are silent
+        assert_eq!(session.call(Run(999)).moves, 2 * n as u32);
+        gives(session.state(), longest, &text, 0);
+        // all of the longest: 18 + 32 · 46, 18 + 64 · 46, and refused
+        let longer = format!("plan=1\nstreams={n}\n{}", plus.repeat(n));
+        assert_eq!((longer.len(), parse_in(size, longer.as_bytes())), (not_taken, Err(6)));
+        for engine in engines() {
+            assert_eq!(engine.load(&mut vec![0; size.length()], longer.as_bytes()), 6, "{}", engine.name);
+        }
     }
 }
 
 // ---- lengths
 
-/// A plan, often with values of many digits.
-fn any_plan(random: &mut Random) -> Plan {
-    let mut plan = plan(random, 32);
+/// A length of a state and a plan, often with values of many digits.
+fn any_plan(random: &mut Random) -> (Size, Plan) {
+    let (size, range) = sized(random, 32, 60);
+    (size, any_plan_of(random, range))
+}
+
+fn any_plan_of(random: &mut Random, range: RangeInclusive<usize>) -> Plan {
+    let mut plan = plan_of(random, range);
     for stream in plan.iter_mut().filter(|stream| matches!(stream.op, Op::Set | Op::Plus)) {
         match random.below(4) {
             0 => stream.k = random.pick(&[i64::MIN, i64::MIN + 1, i64::MAX, 0, -1, 9, -9, 10, -10]),
@@ -266,7 +303,12 @@ fn any_plan(random: &mut Random) -> Plan {
 fn every_length_of_the_buffer() {
     let mut random = Random::of(70, 0);
     let mut states: Vec<Vec<u8>> = [COUNT, LEAST, SUM, ""].map(loaded).to_vec();
-    states.extend((0..3).map(|_| loaded(&text_of(&any_plan(&mut random)))));
+    states.push(loaded_in(Size::Long, COUNT));
+    states.extend((0..3).map(|_| {
+        let (size, plan) = any_plan(&mut random);
+        loaded_in(size, &text_of(&plan))
+    }));
+    states.push(loaded_in(Size::Long, &text_of(&any_plan_of(&mut random, 64..=64))));
     for state in states {
         let length = text_of(&Found::read(&state).expect("a state").plan).len();
         for room in (0..length + 40).step_by(step(37)).chain([2048, 4096]) {
@@ -279,17 +321,19 @@ fn every_length_of_the_buffer() {
 #[test]
 fn lengths_around_the_text_of_random_plans() {
     // by operator how often it was met
-    let (mut met, mut empty) = ([0u64; OPERATORS.len()], 0);
+    let (mut met, mut empty, mut wide) = ([0u64; OPERATORS.len()], 0, 0);
     let all = rounds(1200);
     for round in 0..all {
-        let plan = any_plan(&mut Random::of(71, round));
+        let (size, plan) = any_plan(&mut Random::of(71, round));
         let text = text_of(&plan);
-        let state = loaded(&text);
-        let near = (text.len().saturating_sub(2)..=text.len() + 2).chain([0, 1470, 2048, 4096]);
+        let state = loaded_in(size, &text);
+        wide += (plan.len() > 32) as u64;
+        let always = [1470, 2942][size as usize];
+        let near = (text.len().saturating_sub(2)..=text.len() + 2).chain([0, always, 4096]);
         for room in near {
             let end = asked(&state, &pattern(room));
             assert_eq!(end, given(Some(&plan), &pattern(room)), "seed {}: {text:?}", seed());
-            if room >= 1470 {
+            if room >= always {
                 assert_eq!((end.number, &end.buffer[..end.length as usize]), (0, text.as_bytes()), "seed {}", seed());
             }
         }
@@ -298,15 +342,16 @@ fn lengths_around_the_text_of_random_plans() {
         }
         empty += plan.is_empty() as u64;
     }
-    println!("seed {}: {all} plans, {empty} of no streams, operators met {met:?}", seed());
-    assert!(all < 1000 || (met.iter().all(|&count| count > 0) && empty > 0));
+    println!("seed {}: {all} plans, {empty} of no streams, {wide} of more than 32, operators met {met:?}", seed());
+    assert!(all < 1000 || (met.iter().all(|&count| count > 0) && empty > 0 && wide > all / 6));
 }
 
 /// Nothing lies behind the pointer of a buffer of no bytes: it may be no address at all.
 #[test]
 fn no_buffer_behind_the_pointer() {
-    let no_state = vec![1; STATE_LENGTH];
-    for (state, wanted) in [(vec![0; STATE_LENGTH], (0, 0)), (loaded(""), (0, 0)), (loaded(COUNT), (19, 0)), (no_state, (15, 0)), (vec![], (15, 0))] {
+    let (no_state, long) = (vec![1; STATE_LENGTH], loaded_in(Size::Long, COUNT));
+    let states = [(vec![0; STATE_LENGTH], (0, 0)), (loaded(""), (0, 0)), (loaded_in(Size::Long, ""), (0, 0)), (loaded(COUNT), (19, 0)), (long, (19, 0)), (no_state, (15, 0)), (vec![], (15, 0))];
+    for (state, wanted) in states {
         for engine in engines() {
             let mut lent = Lent::of(&state);
             assert_eq!(engine.plan_text_to_nowhere(&mut lent), wanted, "{}", engine.name);
@@ -319,14 +364,14 @@ fn no_buffer_behind_the_pointer() {
 /// longer than four gigabytes is long enough, and only the text's bytes of it are written.
 #[test]
 fn lengths_above_32_bits() {
-    let right = STATE_LENGTH as u64;
-    for engine in engines() {
+    for (engine, size) in engines().into_iter().flat_map(|engine| SIZES.map(|size| (engine, size))) {
+        let right = size.length() as u64;
         let (mut state, mut text) = (Lent::of(&[]), Lent::of(&pattern(171)));
         for length in [0, 1, right - 1, right + 1, 1 << 32, (1 << 32) + right, (1 << 56) + right, (1 << 63) + right, right << 32, u64::MAX] {
             assert_eq!(engine.plan_text_claiming(&mut state, &mut text, (length, 171)), (15, 0), "{}: {length}", engine.name);
         }
         assert!(text[..] == pattern(171)[..] && text.untouched(), "{}", engine.name);
-        let mut state = Lent::of(&loaded(COUNT));
+        let mut state = Lent::of(&loaded_in(size, COUNT));
         for room in [172, 1 << 31, 1 << 32, (1 << 32) + 5, (1 << 32) + 170, (1 << 33) + 1, 1 << 63, (1 << 63) + 170, u64::MAX] {
             text.copy_from_slice(&pattern(171));
             assert_eq!(engine.plan_text_claiming(&mut state, &mut text, (right, room)), (0, 171), "{}: {room}", engine.name);
@@ -338,12 +383,12 @@ fn lengths_above_32_bits() {
 /// State and buffer at every alignment, between bytes that stay.
 #[test]
 fn at_every_alignment() {
-    let state = loaded(COUNT);
-    for engine in engines() {
+    for (engine, size) in engines().into_iter().flat_map(|engine| SIZES.map(|size| (engine, size))) {
+        let (state, bytes) = (loaded_in(size, COUNT), size.length());
         for shift in 0..8 {
             for room in [171, 170, 180] {
-                let (mut around_state, mut around_text) = (vec![0x77; STATE_LENGTH + 64], vec![0x77; room + 64]);
-                let (lent, text) = (&mut around_state[16 + shift..][..STATE_LENGTH], &mut around_text[16 + 7 - shift..][..room]);
+                let (mut around_state, mut around_text) = (vec![0x77; bytes + 64], vec![0x77; room + 64]);
+                let (lent, text) = (&mut around_state[16 + shift..][..bytes], &mut around_text[16 + 7 - shift..][..room]);
                 lent.copy_from_slice(&state);
                 text.copy_from_slice(&pattern(room));
                 let (number, length) = engine.plan_text(lent, text);
@@ -351,7 +396,7 @@ fn at_every_alignment() {
                 assert_eq!(end, given(Some(&parse(COUNT.as_bytes()).unwrap()), &pattern(room)), "{}", engine.name);
                 assert!(*lent == state[..], "{}: the state is another", engine.name);
                 let outside = |around: &[u8], from: usize, length: usize| around[..from].iter().chain(&around[from + length..]).all(|&x| x == 0x77);
-                assert!(outside(&around_state, 16 + shift, STATE_LENGTH) && outside(&around_text, 16 + 7 - shift, room), "{}", engine.name);
+                assert!(outside(&around_state, 16 + shift, bytes) && outside(&around_text, 16 + 7 - shift, room), "{}", engine.name);
             }
         }
     }
@@ -361,7 +406,7 @@ fn at_every_alignment() {
 
 /// Texts that load refuses, with their numbers.
 const REFUSED: [(&[u8], u32); 4] =
-    [(&[b'x'; 2049], 1), (b"plan=1\n", 2), (b"plan=1\nstreams=33\n", 3), (b"plan=1\nstreams=1\nop=neg\na=0\nb=0\nk=0\nout=0\n", 6)];
+    [(&[b'x'; 4097], 1), (b"plan=1\n", 2), (b"plan=1\nstreams=65\n", 3), (b"plan=1\nstreams=1\nop=neg\na=0\nb=0\nk=0\nout=0\n", 6)];
 
 /// Readings, progress, moves, runs, collects, writes to a block, refused loads, copies put back and other plans loaded: the text that was
 /// loaded last comes back, byte for byte. Loaded into a second buffer, whatever that held, it leaves the fresh state of the same plan,
@@ -372,7 +417,8 @@ fn the_text_comes_back_after_any_calls() {
     let all = rounds(500);
     for round in 0..all {
         let mut random = Random::of(72, round);
-        let mut session = Session::load(&any_plan(&mut random));
+        let (size, range) = sized(&mut random, 32, 60);
+        let mut session = Session::load_in(size, &any_plan_of(&mut random, range.clone()));
         let mut copy = session.clone();
         for _ in 0..40 + random.below(80) {
             match random.below(30) {
@@ -386,7 +432,7 @@ fn the_text_comes_back_after_any_calls() {
                     session.load_refused(text, number);
                 }
                 3 if random.chance(30) => {
-                    session = Session::load_over(&any_plan(&mut random), session.states);
+                    session = Session::load_over(&any_plan_of(&mut random, range.clone()), session.states);
                     loads += 1;
                 }
                 _ => {
@@ -403,8 +449,8 @@ fn the_text_comes_back_after_any_calls() {
             }
         }
         let text = text_of(&session.plan);
-        gives(session.state(), 2048, &text, 2048 - text.len());
-        moved += (session.state() != Found::fresh(&session.plan).bytes()) as u64;
+        gives(session.state(), 4096, &text, 4096 - text.len());
+        moved += (session.state() != Found::fresh_in(size, &session.plan).bytes()) as u64;
         second_buffer(&mut random, &session);
     }
     println!("seed {}: {all} lists, {asked_for} texts asked for, {refused} refused 19, {copies} copies put back, {loads} plans loaded over", seed());
@@ -413,14 +459,16 @@ fn the_text_comes_back_after_any_calls() {
 
 /// The text of a session's state loaded into a buffer of any bytes, and the plan loaded anew: the same bytes, and after the same calls too.
 fn second_buffer(random: &mut Random, session: &Session) {
-    let end = asked(session.state(), &pattern(2048));
+    let end = asked(session.state(), &pattern(4096));
     let text = Lent::of(&end.buffer[..end.length as usize]);
-    let mut states: Vec<Lent> = engines().iter().map(|_| Lent::of(&random.bytes(STATE_LENGTH))).collect();
+    // of the same length, or the longer
+    let size = if random.chance(50) { session.size() } else { Size::Long };
+    let mut states: Vec<Lent> = engines().iter().map(|_| Lent::of(&random.bytes(size.length()))).collect();
     for (engine, state) in engines().iter().zip(&mut states) {
         assert_eq!(engine.load(state, &text), 0, "{}\n{}", engine.name, session.story());
-        assert!(state[..] == Found::fresh(&session.plan).bytes()[..], "{}: no fresh state\n{}", engine.name, session.story());
+        assert!(state[..] == Found::fresh_in(size, &session.plan).bytes()[..], "{}: no fresh state\n{}", engine.name, session.story());
     }
-    let (mut second, mut anew) = (Session::begin(&session.plan, states), Session::load(&session.plan));
+    let (mut second, mut anew) = (Session::begin(&session.plan, states), Session::load_in(size, &session.plan));
     for _ in 0..30 {
         for act in any_acts(random, &anew) {
             assert_eq!(second.act(act), anew.act(act), "{act:?}\n{}", anew.story());
@@ -466,12 +514,15 @@ fn every_byte_of_the_fields() {
 /// One byte of zeros set: the first makes a stream where its operator has no arguments; any other is 15.
 #[test]
 fn one_byte_set_in_zeros() {
-    let mut bytes = vec![0; STATE_LENGTH];
-    for at in (1..STATE_LENGTH).step_by(step(50) * 61).chain([256, 8191, 8192, STATE_LENGTH - 1]) {
-        bytes[at] = 1 << (at % 8);
-        refuses(&bytes, 300, 15);
-        refuses(&bytes, 0, 15);
-        bytes[at] = 0;
+    let mut bytes = vec![0; Size::Long.length()];
+    for size in SIZES {
+        let bytes = &mut bytes[..size.length()];
+        for at in (1..size.length()).step_by(step(50) * 61).chain([256, 8191, 8192, size.windows(), size.length() - 1]) {
+            bytes[at] = 1 << (at % 8);
+            refuses(bytes, 300, 15);
+            refuses(bytes, 0, 15);
+            bytes[at] = 0;
+        }
     }
     for byte in 0..=255 {
         bytes[0] = byte;
@@ -493,9 +544,9 @@ fn foreign_and_damaged_states() {
     let all = rounds(1200);
     for round in 0..all {
         let mut random = Random::of(73, round);
-        let plan = any_plan(&mut random);
+        let (size, plan) = any_plan(&mut random);
         let records = plan.iter().map(|stream| record(&mut random, stream)).collect();
-        let mut bytes = Found { plan: plan.clone(), records, ..Found::default() }.bytes();
+        let mut bytes = Found { plan: plan.clone(), records, size, ..Found::default() }.bytes();
         let text = text_of(&plan);
         let rooms = [text.len(), text.len() + 1 + random.below(50) as usize, random.below(text.len() as u64 + 1) as usize];
         assert!(of_any_bytes(&bytes, &rooms), "seed {}: {text:?}", seed());
@@ -503,10 +554,10 @@ fn foreign_and_damaged_states() {
         foreign += 1;
         // a field of a record, or any byte
         for _ in 0..3 {
-            let record = 256 * random.below(plan.len() as u64 + 1).min(31) as usize;
-            let at = if random.chance(80) { record + random.below(64) as usize } else { random.below(STATE_LENGTH as u64) as usize };
+            let record = 256 * random.below(plan.len() as u64 + 1).min(size.cap() as u64 - 1) as usize;
+            let at = if random.chance(80) { record + random.below(64) as usize } else { random.below(size.length() as u64) as usize };
             let before = std::mem::replace(&mut bytes[at], if random.chance(50) { random.below(40) as u8 } else { random.next() as u8 });
-            let is = of_any_bytes(&bytes, &[rooms[0], rooms[2], 2048]);
+            let is = of_any_bytes(&bytes, &[rooms[0], rooms[2], 4096]);
             (damaged, none) = (damaged + is as u64, none + !is as u64);
             bytes[at] = before;
         }

@@ -6,7 +6,7 @@ use host::engine::{engines, Answer, Call, Missing, STATE_LENGTH};
 use host::evaluator::HORIZON;
 use host::found::{Found, Record};
 use host::history::Session;
-use host::layout;
+use host::layout::{self, Size};
 use host::plan::{short, text_of, windows, Op, WINDOWS};
 use host::random::{rounds, seed, Random};
 use host::worked::{as_defined, collected, holds, load, numbers, record, runs};
@@ -616,6 +616,37 @@ fn eight_windows_lie_by_stream_number() {
     assert!(session.check_beginning() && session.check_rest());
 }
 
+/// Of 64 streams, on both sides of the 32nd: by their rank, behind all 64 records.
+#[test]
+fn eight_windows_among_64_streams() {
+    const AT: [(usize, usize); 8] = [(0, 1), (5, 64), (30, 2), (31, 3), (32, 5), (33, 64), (61, 7), (62, 4)];
+    let plan: Vec<String> = (0..64)
+        .map(|s| match AT.iter().position(|(at, _)| *at == s) {
+            Some(rank) => format!("{} 63 k{} out", WINDOWS[rank % 3].name(), AT[rank].1),
+            None if s == 63 => "in".into(),
+            None => "neg 63".into(),
+        })
+        .collect();
+    let mut session = Session::load(&short(&plan.join("; ")));
+    assert_eq!((session.size(), windows(&session.plan)), (Size::Long, AT.map(|(at, _)| at).to_vec()));
+    let mut all: Vec<i64> = vec![];
+    for t in 0..70 {
+        let v = 1000 - 37 * t;
+        numbers(&mut session, &[(Reading(63, t as u32, v), 0)]);
+        all.push(v);
+        // one move of each equation
+        runs(&mut session, 99, 63);
+        for (rank, (stream, k)) in AT.into_iter().enumerate() {
+            let latest = &all[all.len() - all.len().min(k)..];
+            holds(&session, 16_384 + 512 * rank, &bytes_of(latest));
+            holds(&session, 16_384 + 512 * rank + 8 * latest.len(), &vec![0; 512 - 8 * latest.len()]);
+            record(&session, stream, 5, &[latest.len() as u8]);
+            collected(&mut session, stream as u32, &[(t as u32, defined(WINDOWS[rank % 3], k, &all).unwrap())]);
+        }
+    }
+    assert!(session.check_beginning() && session.check_rest());
+}
+
 #[test]
 fn the_stored_numbers() {
     for (place, window) in WINDOWS.iter().enumerate() {
@@ -645,8 +676,13 @@ fn what_a_record_keeps() {
 
 // ---- number 15
 
-/// Every call answers so to these bytes, in both engines; the model agrees, and nothing is written.
+/// Every call answers so to these bytes, in both engines, and to the same widened; the model agrees, and nothing is written.
 fn is_state(bytes: &[u8], is: bool, why: &str) {
+    is_state_in(bytes, is, why);
+    is_state_in(&layout::widened(bytes), is, why);
+}
+
+fn is_state_in(bytes: &[u8], is: bool, why: &str) {
     assert_eq!(Found::read(bytes).is_some(), is, "the model: {why}");
     for engine in engines() {
         let mut state = Lent::of(bytes);

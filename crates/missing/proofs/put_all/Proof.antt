@@ -5,7 +5,7 @@ use borrow.Author.Tests.{ltb-true, ltb-false}
 use lib.ListN.{length}
 use lib.Seq.{length-take-le}
 use denote.Ref.{now}
-use Rattle.operators.specs.Limits.{streamLimit}
+use Rattle.operators.specs.Limits.{mostStreams}
 use Rattle.decimal.proofs.Puts.{put-length}
 use Rattle.missing.specs.Listing.{countsRoom}
 use Rattle.missing.proofs.Lines.{Left, left-more, left-none, left-over, counts-most}
@@ -15,10 +15,10 @@ use Rattle.missing.proofs.put_all.Statement.{statement}
 use Rattle.missing.proofs.put_all.Tie as tie
 
 abbrev Inv-loop : tie.InvT-loop
-Inv-loop out₀ state end₀ stream₀ out end stream = (stream ≤ streamLimit) × Left out₀ state out end stream × (end ≤ stream * countsRoom) × (length out ≡ length out₀)
+Inv-loop out₀ state end₀ stream₀ out end stream = (stream ≤ mostStreams) × Left out₀ state out end stream × (end ≤ stream * countsRoom) × (length out ≡ length out₀)
 
 abbrev μ-loop : tie.MeasureT-loop
-μ-loop out₀ state end₀ stream₀ out end stream = streamLimit - stream
+μ-loop out₀ state end₀ stream₀ out end stream = mostStreams - stream
 
 loop-holds : tie.Need-loop-holds Inv-loop μ-loop
 loop-holds c = (omega arith, λ r m p. p, omega arith, refl)

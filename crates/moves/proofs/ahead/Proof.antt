@@ -13,8 +13,9 @@ use Rattle.apply.proofs.Rows.{back}
 use Rattle.streams.specs.declared.Op.{Op}
 use Rattle.streams.specs.Look.{lookOf, equation, plain, ownOf}
 use Rattle.sliding.specs.Slide.{widthIn, fitRow}
-use Rattle.moves.specs.Move.{argIn, foundRaw}
-use Rattle.moves.proofs.Arms
+use Rattle.passing.specs.Pass.{argIn}
+use Rattle.moves.specs.Move.{foundRaw}
+use Rattle.moves.proofs.Decides
 use borrow.Author.Needs.{needs}
 use native.Mathlib.Omega.{arith}
 use Rattle.moves.proofs.ahead.Statement.{statement}
@@ -58,7 +59,7 @@ find-next-requires : tie.Need-find-next-requires
 find-next-requires c κs = search needs
 
 returns-2 : tie.Need-returns-2
-returns-2 c = let a = c .before .before .before .before .before .before .before .before .before .args in let n = a .n in let s = now (a .state) in let st = decode n s in let e = equation (a .s .op) in let ma : decRaw (now (c .before .before .before .before .row-at .result)) ≡ rowAt st (argIn n (argA e)) = record-row n s (now (c .before .before .before .before .row-at .result)) (c .before .before .before .before .before .argument2 .result) (omega arith) (c .before .before .before .before .row-at .ensures .0) ∙ ap (rowAt st) (c .before .before .before .before .before .argument2 .ensures .0 ∙ ap (argIn n) (c .before .before .before .before .before .before .first .ensures)) in let mb : decRaw (now (c .before .row-at2 .result)) ≡ rowAt st (argIn n (argB e)) = record-row n s (now (c .before .row-at2 .result)) (c .before .before .argument3 .result) (omega arith) (c .before .row-at2 .ensures .0) ∙ ap (rowAt st) (c .before .before .argument3 .ensures .0 ∙ ap (argIn n) (c .before .before .before .second .ensures)) in (c .find-next .ensures .0 ∙ (λ j. machine.decide (plain (a .s .op)) (ownOf (a .s)) (lookOf (ma j)) (lookOf (mb j))) ∙ Arms.found-other n (a .i) (a .s .op) (ownOf (a .s)) st (c .before .before .before .before .before .before .before .match .keys2), c .find-next .ensures .1)
+returns-2 c = let a = c .before .before .before .before .before .before .before .before .before .args in let n = a .n in let s = now (a .state) in let st = decode n s in let e = equation (a .s .op) in let ma : decRaw (now (c .before .before .before .before .row-at .result)) ≡ rowAt st (argIn n (argA e)) = record-row n s (now (c .before .before .before .before .row-at .result)) (c .before .before .before .before .before .argument2 .result) (omega arith) (c .before .before .before .before .row-at .ensures .0) ∙ ap (rowAt st) (c .before .before .before .before .before .argument2 .ensures .0 ∙ ap (argIn n) (c .before .before .before .before .before .before .first .ensures)) in let mb : decRaw (now (c .before .row-at2 .result)) ≡ rowAt st (argIn n (argB e)) = record-row n s (now (c .before .row-at2 .result)) (c .before .before .argument3 .result) (omega arith) (c .before .row-at2 .ensures .0) ∙ ap (rowAt st) (c .before .before .argument3 .ensures .0 ∙ ap (argIn n) (c .before .before .before .second .ensures)) in (c .find-next .ensures .0 ∙ (λ j. machine.decide (plain (a .s .op)) (ownOf (a .s)) (lookOf (ma j)) (lookOf (mb j))) ∙ Decides.found-other n (a .i) (a .s .op) (ownOf (a .s)) st (c .before .before .before .before .before .before .before .match .keys2), c .find-next .ensures .1)
 
 pub ahead-spec : {M : Type 1} → statement M
 ahead-spec =

@@ -1,3 +1,4 @@
+-- `moves::bound_of` meets its contract.
 use Prim.Native.Nat.{ℕ}
 use mathlib.Core.Path.{ap, _∙_}
 use denote.Ref.{now}

@@ -8,8 +8,11 @@ use Rattle.layout.specs.Record.{Raw, encode, decode, num, rowAt, countF}
 use Rattle.layout.proofs.Laws.{record-row}
 use Rattle.streams.specs.Look.{lookOf, equation, keptIn}
 use Rattle.streams.proofs.Laws.{is-sound, look-bound}
-use Rattle.moves.specs.Move.{ownIn, aheadRaw, boundRaw, passedRaw, stepRaw, movedRaw}
+use Rattle.passing.specs.Pass.{ownIn, passedRaw}
+use Rattle.making.specs.Make.{boundRaw, stepRaw}
+use Rattle.moves.specs.Move.{aheadRaw, movedRaw}
 use Rattle.moves.proofs.Decides
+use Rattle.passing.proofs.Steps as passing
 use Rattle.moves.proofs.Steps
 use borrow.Author.Needs.{needs}
 use native.Mathlib.Omega.{arith}
@@ -22,10 +25,10 @@ use Rattle.layout.proofs.row_at.Reads as row-at-reads
 use Rattle.layout.proofs.word_at.Reads as word-at-reads
 use Rattle.limits.proofs.smaller.Reads as smaller-reads
 use Rattle.moves.proofs.ahead.Reads as ahead-reads
-use Rattle.moves.proofs.bound_after.Reads as bound-after-reads
+use Rattle.making.proofs.bound_after.Reads as bound-after-reads
 use Rattle.moves.proofs.counted_to.Reads as counted-to-reads
-use Rattle.moves.proofs.make.Reads as make-reads
-use Rattle.moves.proofs.pass.Reads as pass-reads
+use Rattle.making.proofs.make.Reads as make-reads
+use Rattle.passing.proofs.pass.Reads as pass-reads
 use Rattle.moves.proofs.stuck.Reads as stuck-reads
 use Rattle.streams.proofs.complete.Reads as complete-reads
 use Rattle.streams.proofs.operator_at.Reads as operator-at-reads
@@ -76,7 +79,7 @@ pass-requires : tie.Need-pass-requires
 pass-requires c κs = let l0 = c .before .before .before .before .before .before .before .before .before .before .before .before .before .before .before .before .before .pre .0 in let l1 = c .before .before .before .before .before .before .before .before .before .before .before .before .before .before .before .before .before .pre .1 in let n = c .before .before .before .before .before .before .before .before .before .before .before .before .before .before .before .before .before .args .n in let s = now (c .before .before .before .before .before .before .before .before .before .before .before .before .before .before .before .before .before .args .state) in let st = decode n s in let i = c .before .before .before .before .before .before .before .before .before .before .before .before .before .before .before .before .before .args .i in let mid = sym (record-row n s (now (c .before .before .before .before .before .before .before .before .before .before .before .before .before .before .row-at .result)) i (omega arith) (c .before .before .before .before .before .before .before .before .before .before .before .before .before .before .row-at .ensures .0)) in let is : equation (c .before .before .before .before .before .before .before .before .before .before .before .before .operator-at .result) ≡ ownIn i st .eqn = c .before .before .before .before .before .before .before .before .before .before .before .before .operator-at .ensures ∙ ap (λ (r : Raw). lookOf r .eqn) (sym mid) in (omega arith, omega arith, is)
 
 make-requires : tie.Need-make-requires
-make-requires c κs = let l0 = c .before .before .before .before .before .before .before .before .before .before .before .before .before .before .before .before .before .before .before .before .before .pre .0 in let l1 = c .before .before .before .before .before .before .before .before .before .before .before .before .before .before .before .before .before .before .before .before .before .pre .1 in let n = c .before .before .before .before .before .before .before .before .before .before .before .before .before .before .before .before .before .before .before .before .before .args .n in let s = now (c .before .before .before .before .before .before .before .before .before .before .before .before .before .before .before .before .before .before .before .before .before .args .state) in let st = decode n s in let i = c .before .before .before .before .before .before .before .before .before .before .before .before .before .before .before .before .before .before .before .before .before .args .i in let mid = sym (record-row n s (now (c .before .before .before .before .before .before .before .before .before .before .before .before .before .before .before .before .before .before .row-at .result)) i (omega arith) (c .before .before .before .before .before .before .before .before .before .before .before .before .before .before .before .before .before .before .row-at .ensures .0)) in let at : min (c .before .before .before .before .before .before .before .before .before .before .before .before .before .before .before .before .before .word-at .result) horizon ≡ ownIn i st .bound = ap (λ (x : ℕ). min x horizon) (c .before .before .before .before .before .before .before .before .before .before .before .before .before .before .before .before .before .word-at .ensures) ∙ sym (look-bound _) ∙ ap (λ (r : Raw). lookOf r .bound) (sym mid) in let is : equation (c .before .before .before .before .before .before .before .before .before .before .before .before .before .before .before .before .operator-at .result) ≡ ownIn i st .eqn = c .before .before .before .before .before .before .before .before .before .before .before .before .before .before .before .before .operator-at .ensures ∙ ap (λ (r : Raw). lookOf r .eqn) (sym mid) in let w = c .before .before .before .before .before .before .before .before .before .before .before .before .complete .result in let ew : equation (w .op) ≡ ownIn i st .eqn = c .before .before .before .before .before .before .before .before .before .before .before .before .complete .ensures .eqn ∙ ap (λ (r : Raw). lookOf r .eqn) (sym mid) in let low : w .bound ≡ ownIn i st .bound = c .before .before .before .before .before .before .before .before .before .before .before .before .complete .ensures .bound ∙ ap (λ (r : Raw). lookOf r .bound) (sym mid) in let kq : keptIn (w .kept) ≡ ownIn i st .kept = c .before .before .before .before .before .before .before .before .before .before .before .before .complete .ensures .kept ∙ ap (λ (r : Raw). lookOf r .kept) (sym mid) in let bq : c .before .before .before .before .before .before .before .before .before .before .before .before .before .smaller .result ≡ ownIn i st .bound = c .before .before .before .before .before .before .before .before .before .before .before .before .before .smaller .ensures ∙ at in let pa = c .before .before .before .pass .ensures ∙ (λ j. encode n (passedRaw n i (is j) (kq j) (bq j) (c .before .before .before .before .before .before .before .before .bound-after .result) (c .before .before .before .before .counted-to .result) st)) in (omega arith, omega arith, c .before .before .before .before .before .before .before .before .before .ahead .ensures .1, kq ∙ Steps.passed-kept n i (omega arith) s (λ j. omega (arith, c .before .before .before .before .before .before .before .before .before .before .before .before .before .before .before .before .before .before .before .before .slice-known .given j)) (c .before .before .before .pass .last .0) (c .before .before .before .before .before .before .before .before .bound-after .result) (c .before .before .before .before .counted-to .result) pa)
+make-requires c κs = let l0 = c .before .before .before .before .before .before .before .before .before .before .before .before .before .before .before .before .before .before .before .before .before .pre .0 in let l1 = c .before .before .before .before .before .before .before .before .before .before .before .before .before .before .before .before .before .before .before .before .before .pre .1 in let n = c .before .before .before .before .before .before .before .before .before .before .before .before .before .before .before .before .before .before .before .before .before .args .n in let s = now (c .before .before .before .before .before .before .before .before .before .before .before .before .before .before .before .before .before .before .before .before .before .args .state) in let st = decode n s in let i = c .before .before .before .before .before .before .before .before .before .before .before .before .before .before .before .before .before .before .before .before .before .args .i in let mid = sym (record-row n s (now (c .before .before .before .before .before .before .before .before .before .before .before .before .before .before .before .before .before .before .row-at .result)) i (omega arith) (c .before .before .before .before .before .before .before .before .before .before .before .before .before .before .before .before .before .before .row-at .ensures .0)) in let at : min (c .before .before .before .before .before .before .before .before .before .before .before .before .before .before .before .before .before .word-at .result) horizon ≡ ownIn i st .bound = ap (λ (x : ℕ). min x horizon) (c .before .before .before .before .before .before .before .before .before .before .before .before .before .before .before .before .before .word-at .ensures) ∙ sym (look-bound _) ∙ ap (λ (r : Raw). lookOf r .bound) (sym mid) in let is : equation (c .before .before .before .before .before .before .before .before .before .before .before .before .before .before .before .before .operator-at .result) ≡ ownIn i st .eqn = c .before .before .before .before .before .before .before .before .before .before .before .before .before .before .before .before .operator-at .ensures ∙ ap (λ (r : Raw). lookOf r .eqn) (sym mid) in let w = c .before .before .before .before .before .before .before .before .before .before .before .before .complete .result in let ew : equation (w .op) ≡ ownIn i st .eqn = c .before .before .before .before .before .before .before .before .before .before .before .before .complete .ensures .eqn ∙ ap (λ (r : Raw). lookOf r .eqn) (sym mid) in let low : w .bound ≡ ownIn i st .bound = c .before .before .before .before .before .before .before .before .before .before .before .before .complete .ensures .bound ∙ ap (λ (r : Raw). lookOf r .bound) (sym mid) in let kq : keptIn (w .kept) ≡ ownIn i st .kept = c .before .before .before .before .before .before .before .before .before .before .before .before .complete .ensures .kept ∙ ap (λ (r : Raw). lookOf r .kept) (sym mid) in let bq : c .before .before .before .before .before .before .before .before .before .before .before .before .before .smaller .result ≡ ownIn i st .bound = c .before .before .before .before .before .before .before .before .before .before .before .before .before .smaller .ensures ∙ at in let pa = c .before .before .before .pass .ensures ∙ (λ j. encode n (passedRaw n i (is j) (kq j) (bq j) (c .before .before .before .before .before .before .before .before .bound-after .result) (c .before .before .before .before .counted-to .result) st)) in (omega arith, omega arith, c .before .before .before .before .before .before .before .before .before .ahead .ensures .1, kq ∙ passing.passed-kept n i (omega arith) s (λ j. omega (arith, c .before .before .before .before .before .before .before .before .before .before .before .before .before .before .before .before .before .before .before .before .slice-known .given j)) (c .before .before .before .pass .last .0) (c .before .before .before .before .before .before .before .before .bound-after .result) (c .before .before .before .before .counted-to .result) pa)
 
 same-length-3 : tie.Need-same-length-3
 same-length-3 c = search needs
