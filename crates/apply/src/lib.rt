@@ -1,4 +1,5 @@
 // The rows of the operator table that compute: what an equation has at a stamp, from what its arguments have there.
+#![tactic(auto)]
 ghost use Rattle.std.specs.Prelude.{◌≡◌, ℕ, ◌≤◌};
 ghost use Rattle.num.specs.Arithmetic.{is_zero};
 ghost use Rattle.meaning.specs.Events.{horizon, or_else};
@@ -12,7 +13,7 @@ use num::Answer;
 use queue::Found;
 
 // The operators of one argument, with their value.
-#[derive(Drop)]
+#[derive(Clone, Copy)]
 pub enum Unary {
     Time,
     Set(i64),
@@ -21,7 +22,7 @@ pub enum Unary {
 }
 
 // The arithmetic of two arguments.
-#[derive(Drop)]
+#[derive(Clone, Copy)]
 pub enum Calc {
     Add,
     Sub,
@@ -34,7 +35,7 @@ pub enum Calc {
 }
 
 // The operators of two arguments, none of them delayed.
-#[derive(Drop)]
+#[derive(Clone, Copy)]
 pub enum Binary {
     Arith(Calc),
     Keep,
@@ -42,7 +43,7 @@ pub enum Binary {
 }
 
 // What a window tells of its values.
-#[derive(Drop)]
+#[derive(Clone, Copy)]
 pub enum Fold {
     Sum,
     Least,
@@ -50,7 +51,7 @@ pub enum Fold {
 }
 
 // Whether an event is missing, and why.
-#[derive(Drop)]
+#[derive(Clone, Copy)]
 pub enum Lack {
     // There is nothing to work on, or a value.
     No,

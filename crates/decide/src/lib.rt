@@ -1,5 +1,6 @@
 // The decision of a move: how far the equation sees, and the first event that it has there. Of all equations but windows, for
 // which nil stands here: crates/windows has theirs.
+#![tactic(auto)]
 ghost use Rattle.std.specs.Prelude.{◌≡◌, true, List, ◌≤◌, ◌<◌, length};
 ghost use Rattle.meaning.specs.Events.{Event, horizon};
 ghost use Rattle.machine.specs.Reach as machine;
@@ -15,7 +16,7 @@ use queue::Found;
 use streams::{Kept, Look, Op, Stream};
 
 // What a move finds: an event, or silence up to a bound.
-#[derive(Drop)]
+#[derive(Clone, Copy)]
 pub enum Next {
     Event(u32, i64),
     Silent(u64),

@@ -1,4 +1,5 @@
 // Runs every operation on all pairs of edge values and prints each answer: a value, `outside` or `zero`.
+#![tactic(auto)]
 use libc::STDOUT_FILENO;
 use num::Answer;
 

@@ -1,5 +1,6 @@
 // The calls that the firmware links. Each works on lent buffers, asks nothing of its caller, and is promised equal to a
 // definition (`load_reply`, `reply`, `plan_text`, `missing_reply`, `widen_reply`, `write`, `line`): its number, its results and the buffers it leaves.
+#![tactic(auto)]
 ghost use Rattle.std.specs.Prelude.{◌≡◌};
 ghost use Rattle.block.specs.Block as board;
 ghost use Rattle.registers.specs.Write.{write};

@@ -1,4 +1,5 @@
 // Where a plan text is wrong: its number, the line and the stream.
+#![tactic(auto)]
 ghost use Rattle.std.specs.Prelude.{◌≡◌, ◌*◌, ◌<◌, ◌≤◌, length};
 ghost use Rattle.lines.specs.Form.{skip};
 ghost use Rattle.text.specs.declared.Head.TheVariants as Head;
@@ -15,7 +16,7 @@ use operators::Plan;
 use text::{Fields, Head, Lines, Name};
 
 // What is wrong with a plan text: load's number, the line, counted from 1, and the stream. Line 0 is no line.
-#[derive(Drop)]
+#[derive(Clone, Copy)]
 pub struct Fault {
     pub number: u32,
     pub line: usize,

@@ -1,11 +1,12 @@
 // The limits of bounds, queues and counts, each named once, with the type it belongs to. (A plan's are in `operators`.)
+#![tactic(auto)]
 ghost use Rattle.std.specs.Prelude.{◌≡◌, ◌+◌, ◌≤◌, min, max, leb};
 ghost use Rattle.meaning.specs.Events.{horizon};
 ghost use Rattle.meaning.specs.Missing.{count_limit};
 ghost use Rattle.machine.specs.State.{room};
 
 // How far a stream is known: all its events at stamps below the bound are.
-#[derive(Drop)]
+#[derive(Clone, Copy)]
 pub struct Bound {
     pub stamp: u64,
 }
@@ -53,7 +54,7 @@ pub fn larger(x: u64, y: u64) -> u64
 }
 
 // The events that a stream holds, of which there is room for 16.
-#[derive(Drop)]
+#[derive(Clone, Copy)]
 pub struct Queue {
     pub count: u64,
 }
@@ -95,7 +96,7 @@ impl Queue {
 }
 
 // At how many stamps an event was missing: it stops at the limit.
-#[derive(Drop)]
+#[derive(Clone, Copy)]
 pub struct Count {
     pub number: u64,
 }

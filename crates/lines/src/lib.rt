@@ -1,23 +1,24 @@
 // The lines of a text, read in place at a position of the lent text: words, numbers, a key with its number.
+#![tactic(auto)]
 ghost use Rattle.std.specs.Prelude.{◌≡◌, ◌<◌, ◌≤◌};
 ghost use Rattle.lines.specs.Form.{skip, scan, whole, ended, field, signed, value_line, out_line};
 
 // What looking for a word finds: the position past it, or that it does not stand there.
-#[derive(Drop)]
+#[derive(Clone, Copy)]
 pub enum Word {
     Past(usize),
     Absent,
 }
 
 // What reading a number finds: the number and the position past it, or a fault of its form.
-#[derive(Drop)]
+#[derive(Clone, Copy)]
 pub enum Numeral {
     Number(u64, usize),
     Fault,
 }
 
 // Digits passed: their number, and the position past them.
-#[derive(Drop)]
+#[derive(Clone, Copy)]
 pub struct Scanned {
     pub value: u64,
     pub next: usize,

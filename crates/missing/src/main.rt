@@ -2,6 +2,7 @@
 // is zero: `s=2 outside=1 zero=3`. With an argument, the state is that after a replay of the folder which it names; what is
 // refused there is said on the standard error, as `replay` does. Without one, it is the saved state on the standard input; where
 // that is no state, the standard error has its number, `refused=15`.
+#![tactic(auto)]
 ghost use Rattle.std.specs.Prelude.{◌+◌, ◌*◌, ◌≤◌, ◌≡◌, length};
 ghost use Rattle.io.specs.Counts.{IsPrefixLen};
 ghost use Rattle.operators.specs.Limits.{most_streams};
@@ -16,7 +17,7 @@ use operators::Plan;
 const ROOM: usize = 75;
 
 // What the call gives of a stream.
-#[derive(Drop)]
+#[derive(Clone, Copy)]
 struct Answer {
     number: u32,
     outside: u32,

@@ -1,4 +1,5 @@
 // Checked arithmetic on values (i64): each operation answers the value, or why there is none.
+#![tactic(auto)]
 ghost use Rattle.std.specs.Prelude.{◌≡◌, ◌+ℤ◌, ◌≤◌, ◌^◌, ◌*◌, ◌+◌, min};
 ghost use Rattle.std.specs.Int.{w64};
 ghost use Rattle.std.proofs.Common.{to_z, of_z};
@@ -6,7 +7,7 @@ ghost use Rattle.num.specs.Arithmetic.{fit, truth, negated, added, subtracted, m
 ghost use Rattle.num.specs.Parts.{signed, of, lowered};
 
 // What an operation answers.
-#[derive(Drop)]
+#[derive(Clone, Copy)]
 pub enum Answer {
     // The value.
     Value(i64),
@@ -39,7 +40,7 @@ pub fn of_bits(u: u64) -> i64
 }
 
 // A number as its sign and its magnitude.
-#[derive(Drop)]
+#[derive(Clone, Copy)]
 pub struct Parts {
     pub neg: bool,
     pub mag: u64,

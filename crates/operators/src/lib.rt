@@ -1,4 +1,5 @@
 // The operators and the plan: one table of names, stored numbers, groups and equations, in specs/; and the limits of a plan.
+#![tactic(auto)]
 ghost use Rattle.std.specs.Prelude.{◌≡◌, ◌&&◌, eqb, ltb};
 ghost use Rattle.operators.specs.Limits.{state_length, long_length, stream_limit, most_streams, width_limit, window_limit, text_limit, capacity, count_fits};
 ghost use Rattle.operators.specs.Operators.{group_of, uses_k, lacks_at, is_present, is_in, is_window, takes_first, takes_second, delays_first};
@@ -7,7 +8,7 @@ ghost use Rattle.operators.specs.Rules.{value_ok, fields_ok};
 ghost use Rattle.operators.specs.Windows.{width_ok};
 
 // What the stored number of an operator says of its arguments.
-#[derive(Drop)]
+#[derive(Clone, Copy)]
 pub enum Group {
     // No operator has the number.
     Absent,
@@ -254,7 +255,7 @@ pub fn fields_ok(n: u64, op: u64, a: u64, b: u64, k: u64, out: u64) -> bool
 }
 
 // A plan: how many streams it has.
-#[derive(Drop)]
+#[derive(Clone, Copy)]
 pub struct Plan {
     pub streams: usize,
 }

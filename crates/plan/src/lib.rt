@@ -1,4 +1,5 @@
 // The number of a plan text: its form line by line, then rules 5, 18 and 6.
+#![tactic(auto)]
 ghost use Rattle.std.specs.Prelude.{◌≡◌, true, ◌&&◌, ◌+◌, ◌*◌, ◌<◌, ◌≤◌, length};
 ghost use Rattle.text.specs.Grammar.{stream};
 ghost use Rattle.operators.specs.Limits.{most_streams};
@@ -10,7 +11,7 @@ use operators::Plan;
 use text::{Fields, Head, Lines};
 
 // What reading all lines of all streams finds: whether each keeps rule 5, and what they weigh; or the number of the refusal.
-#[derive(Drop)]
+#[derive(Clone, Copy)]
 pub enum Checked {
     Formed(bool, u64),
     Refused(u32),
@@ -18,7 +19,7 @@ pub enum Checked {
 
 // What reading one stream finds: whether it keeps rule 5, what it weighs, and the position past its lines; or the number of
 // the refusal.
-#[derive(Drop)]
+#[derive(Clone, Copy)]
 pub enum Turn {
     Next(bool, u64, usize),
     Refused(u32),

@@ -1,5 +1,6 @@
 // Writes the plan of a saved state as text: the state on the standard input, its plan text on the standard output. Where the
 // input is no state, nothing is written there, and the standard error has its number, `refused=15`.
+#![tactic(auto)]
 use libc::{STDIN_FILENO, STDOUT_FILENO};
 use operators::Plan;
 

@@ -1,6 +1,7 @@
 // Replays a trace on a plan, for a program: reads plan.txt and trace.txt of the working folder, or of the folder that its first
 // argument names, and prints every event of every output to a file, `out`. What was refused is said on the standard error too:
 // the plan, or which line.
+#![tactic(auto)]
 ghost use Rattle.std.specs.Prelude.{ℕ, ◌*◌, ◌-◌, ◌<◌, ◌≤◌, ◌≡◌, true, false, List, length, take};
 ghost use Rattle.operators.specs.Limits.{capacity};
 ghost use Rattle.engine.specs.Load.{load_reply};
@@ -23,7 +24,7 @@ const WORDS: usize = 25;
 
 // Where a replay of the text in hand stops: before a position, from which on there is no whole line, with the number of the line
 // there, or at a bad line.
-#[derive(Drop)]
+#[derive(Clone, Copy)]
 enum Stop {
     Before(usize, u64),
     Bad,
@@ -31,7 +32,7 @@ enum Stop {
 
 // What is left in hand: the bytes of the buffer between two positions, with the number of the first line there, or nothing, since
 // the replay is done.
-#[derive(Drop)]
+#[derive(Clone, Copy)]
 enum Left {
     Part { from: usize, end: usize, line: u64 },
     Done,

@@ -1,1 +1,2 @@
 // Every call keeps a sound state sound: laws alone, in proofs/.
+#![tactic(auto)]

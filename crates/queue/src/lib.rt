@@ -1,5 +1,6 @@
 // The queue of a stream, where it lies in its record: an event appended, how many there are, the first not below a stamp, the
 // oldest dropped, and searches.
+#![tactic(auto)]
 ghost use Rattle.std.specs.Prelude.{◌≡◌, ◌≤◌, min, length};
 ghost use Rattle.meaning.specs.Events.{found};
 ghost use Rattle.meaning.specs.Table.{latest};
@@ -14,7 +15,7 @@ ghost use Rattle.queue.specs.Queue.{pushed, below, shed, released};
 use limits::{Bound, Queue};
 
 // What a search for a value finds.
-#[derive(Drop)]
+#[derive(Clone, Copy)]
 pub enum Found {
     // The value.
     Value(i64),

@@ -1,1 +1,2 @@
 // The steps on raw records are the machine's: laws alone, in proofs/.
+#![tactic(auto)]

@@ -1,4 +1,5 @@
 // Replaying, step by step: a record is offered, and then the state is run to rest and its outputs are collected, again and again.
+#![tactic(auto)]
 ghost use Rattle.std.specs.Prelude.{◌≡◌, ◌+◌, ◌*◌, ◌<◌, ◌≤◌, false, length, take};
 ghost use Rattle.decimal.specs.Put.{Put};
 ghost use Rattle.printer.specs.Print.{event_room, refused_room};
@@ -13,7 +14,7 @@ ghost use Rattle.machine.specs.Calls.{running, collecting};
 use trace::{Line, Record};
 
 // Where a replay stands.
-#[derive(Drop)]
+#[derive(Clone, Copy)]
 pub enum Place {
     // It is to run.
     Run,
@@ -24,21 +25,21 @@ pub enum Place {
 }
 
 // Where a replay stands, and the position past what it printed.
-#[derive(Drop)]
+#[derive(Clone, Copy)]
 pub struct Stand {
     pub place: Place,
     pub end: usize,
 }
 
 // The number of a loaded plan, and the position past what was put.
-#[derive(Drop)]
+#[derive(Clone, Copy)]
 pub struct Loaded {
     pub number: u32,
     pub end: usize,
 }
 
 // What reading a line found, and the position past what was put.
-#[derive(Drop)]
+#[derive(Clone, Copy)]
 pub struct Passed {
     pub found: Line,
     pub end: usize,

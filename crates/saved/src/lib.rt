@@ -1,5 +1,6 @@
 // A saved state that was read from a file: all its bytes, or only the first of them, as the firmware need not save the zeros at
 // its end.
+#![tactic(auto)]
 ghost use Rattle.std.specs.Prelude.{◌≡◌, ◌≤◌, length};
 ghost use Rattle.io.specs.Counts.{IsPrefixLen};
 ghost use Rattle.operators.specs.Limits.{long_length};

@@ -1,4 +1,5 @@
 // A stream as a struct, with its operator inside, rebuilt from the record's bytes.
+#![tactic(auto)]
 ghost use Rattle.std.specs.Prelude.{◌≡◌, ℕ, ◌+◌, ◌≤◌, ◌<◌, min, max, ℤ, length, get_or};
 ghost use Rattle.std.specs.Int.{w64};
 ghost use Rattle.std.proofs.Common.{to_z};
@@ -18,7 +19,7 @@ use limits::Bound;
 use queue::Found;
 
 // An equation's operator, with just the arguments that it uses.
-#[derive(Drop)]
+#[derive(Clone, Copy)]
 pub enum Op {
     In,
     Nil,
@@ -32,7 +33,7 @@ pub enum Op {
 }
 
 // What a last, a delay or a signal form keeps in its record; prevb is a signal form's latest value of its second argument.
-#[derive(Drop)]
+#[derive(Clone, Copy)]
 pub struct Kept {
     pub prev: Found,
     pub prevb: Found,
@@ -42,7 +43,7 @@ pub struct Kept {
 }
 
 // A stream, rebuilt from its record: its operator with just the arguments that it uses, and what a move looks at besides.
-#[derive(Drop)]
+#[derive(Clone, Copy)]
 pub struct Stream {
     pub op: Op,
     pub bound: u64,
@@ -50,7 +51,7 @@ pub struct Stream {
 }
 
 // What a move looks at: the stream, and its arguments' bounds.
-#[derive(Drop)]
+#[derive(Clone, Copy)]
 pub struct Look {
     pub stream: Stream,
     pub abound: u64,

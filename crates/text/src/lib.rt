@@ -1,4 +1,5 @@
 // Plan text: the op line, a stream's five lines and the head, read in place at a position of the lent text.
+#![tactic(auto)]
 ghost use Rattle.std.specs.Prelude.{◌≡◌};
 ghost use Rattle.text.specs.Grammar.{op_line, fields_after, stream, counts, head};
 ghost use Rattle.text.specs.Lookup.{packed_at, number_packed};
@@ -8,7 +9,7 @@ use lines::{Numeral, Word};
 use operators::Plan;
 
 // What reading an op line finds: the stored number and the position past the line, an unknown name, or a fault of its form.
-#[derive(Drop)]
+#[derive(Clone, Copy)]
 pub enum Name {
     Operator(u8, usize),
     Unknown,
@@ -17,7 +18,7 @@ pub enum Name {
 
 // A stream as its five lines give it: the stored number of its operator, a, b, k in two's complement, out, and the
 // position past its lines.
-#[derive(Drop)]
+#[derive(Clone, Copy)]
 pub struct Fields {
     pub op: u8,
     pub a: u64,
@@ -28,7 +29,7 @@ pub struct Fields {
 }
 
 // What reading a stream's lines finds: the stream, or the number of the refusal.
-#[derive(Drop)]
+#[derive(Clone, Copy)]
 pub enum Lines {
     Stream(Fields),
     Refused(u32),
@@ -36,14 +37,14 @@ pub enum Lines {
 
 // What reading the first two lines finds: how many streams follow, and the position of the first; or the refusal. A text of no
 // bytes has no streams.
-#[derive(Drop)]
+#[derive(Clone, Copy)]
 pub enum Head {
     Streams(usize, usize),
     Refused(u32),
 }
 
 // Letters passed: their bytes as one number, the first the lowest, and the position past them.
-#[derive(Drop)]
+#[derive(Clone, Copy)]
 pub struct Packed {
     pub code: u64,
     pub next: usize,

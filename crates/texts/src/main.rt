@@ -1,6 +1,7 @@
 // Runs a table of plan texts through the library, and prints each text's number before what the case tries.
 //
 // The table is standard input: a case is `#`, a line that says what it tries, and the text up to the next `#`.
+#![tactic(auto)]
 ghost use Rattle.std.specs.Prelude.{◌≤◌, length};
 
 use libc::{STDIN_FILENO, STDOUT_FILENO};

@@ -1,4 +1,5 @@
 // The tokens of a formula, read in place at a position of the lent text.
+#![tactic(auto)]
 ghost use mathlib.Core.Path.{◌≡◌};
 ghost use Prim.Native.Nat.{◌<◌, ◌≤◌};
 ghost use lib.ListN.{drop, get_or};
@@ -8,7 +9,7 @@ ghost use Rattle.tokens.specs.Digits.{grown, limited};
 
 // A part of a formula: a stream's name, a number, a parenthesis, a sign as the stored number of its signal operator; or the end; or
 // bytes that are none of these.
-#[derive(Drop)]
+#[derive(Clone, Copy)]
 pub enum Token {
     End,
     Fault,
@@ -20,14 +21,14 @@ pub enum Token {
 }
 
 // A token and the position past it.
-#[derive(Drop)]
+#[derive(Clone, Copy)]
 pub struct Read {
     pub token: Token,
     pub next: usize,
 }
 
 // A number, or LIMIT for none in range, and the position past it.
-#[derive(Drop)]
+#[derive(Clone, Copy)]
 pub struct Scanned {
     pub value: u64,
     pub next: usize,

@@ -1,4 +1,5 @@
 // Trace lines, read in place at a position of the lent text: a reading `s=0 t=3 v=7` or a progress `s=0 p=6`.
+#![tactic(auto)]
 ghost use Rattle.std.specs.Prelude.{◌≡◌, ◌<◌};
 ghost use Rattle.trace.specs.Trace.{value_after, stamp_after, bound_after, input_after, line};
 
@@ -6,14 +7,14 @@ use limits::Bound;
 use lines::{Numeral, Word};
 
 // What a line offers to an input.
-#[derive(Drop)]
+#[derive(Clone, Copy)]
 pub enum Record {
     Reading { stream: u32, stamp: u32, value: i64 },
     Progress { stream: u32, bound: u64 },
 }
 
 // What reading a line finds: the record and the position past the line, or that it has another form.
-#[derive(Drop)]
+#[derive(Clone, Copy)]
 pub enum Line {
     Read(Record, usize),
     Bad,

@@ -1,4 +1,5 @@
 // Number 15: whether bytes are a state.
+#![tactic(auto)]
 ghost use Rattle.std.specs.Prelude.{◌≡◌, ◌+◌, ◌*◌, ◌≤◌, ◌<◌, length, drop};
 ghost use Rattle.operators.specs.Limits.{most_streams, window_limit, capacity};
 ghost use Rattle.machine.specs.State.{room};
@@ -404,7 +405,7 @@ fn clear(state: &[u8], n: usize, most: usize) -> bool
 }
 
 // What the test of number 15 finds: a state of this many streams, or no state.
-#[derive(Drop)]
+#[derive(Clone, Copy)]
 pub enum Tested {
     State(usize),
     NoState,

@@ -1,4 +1,5 @@
 // Reads a plan text from standard input and prints where it is wrong: `number=N line=L stream=S`.
+#![tactic(auto)]
 use faults::Fault;
 use libc::{STDIN_FILENO, STDOUT_FILENO};
 use operators::Plan;

@@ -1,5 +1,6 @@
 // A window on bytes: what its latest values and the held events of its argument fold to, where that first is a value, and how it
 // slides. Values are worked on raised by 2^63, so that none is below 0: the controller has no wider type for a sum.
+#![tactic(auto)]
 ghost use Rattle.std.specs.Prelude.{◌≡◌, cond, [], ◌∷◌, ◌++◌, map, suc, ◌+◌, ◌-◌, ◌*◌, ◌/◌, ◌%◌, ◌^◌, ◌≤◌, ◌<◌, min, length, take, drop};
 ghost use Rattle.std.specs.Int.{w64};
 ghost use Rattle.std.proofs.Common.{to_z};
@@ -23,14 +24,14 @@ use apply::Fold;
 use queue::Found;
 
 // Where a window first gives a value: this one, at this stamp; or nowhere.
-#[derive(Drop)]
+#[derive(Clone, Copy)]
 pub enum Fit {
     At(u32, i64),
     Nothing,
 }
 
 // The sums of the lower and of the upper halves of raised values.
-#[derive(Drop)]
+#[derive(Clone, Copy)]
 struct Halves {
     low: u64,
     high: u64,

@@ -1,0 +1,17 @@
+use mathlib.Core.Path.{ap, ◌∙◌}
+use mathlib.Core.Option.{some}
+use Rattle.meaning.specs.Table.{value_of}
+use Rattle.apply.proofs.Rows
+use Rattle.apply.proofs.value_of.Goals as goal
+
+pub returns-in-Value : goal.returns-in-Value
+unfolding value_of
+returns-in-Value c = ap some (Rows.back c.in-Value.v c.known_told-1.given.0.1) ∙ Rows.value_arm c.in-Value.is
+
+pub returns-in-Outside : goal.returns-in-Outside
+unfolding value_of
+returns-in-Outside c = Rows.value_arm c.in-Outside.is
+
+pub returns-in-ZeroDivisor : goal.returns-in-ZeroDivisor
+unfolding value_of
+returns-in-ZeroDivisor c = Rows.value_arm c.in-ZeroDivisor.is

@@ -1,0 +1,5 @@
+-- `engine::tessla_register_write` meets its contract.
+use Rattle.engine.proofs.tessla_register_write.Goals as goal
+
+pub returns : goal.returns
+returns c = c.write.ensures

@@ -1,0 +1,13 @@
+-- `marks::mark_arguments` meets its contract.
+use mathlib.Core.Path.{sym, ap, ◌∙◌, subst}
+use Prim.Native.Nat.{◌+◌, ◌*◌}
+use Rattle.marks.specs.Marks.{marked, Grown}
+use lib.ListN.{get_or}
+use Rattle.marks.proofs.Grown.{grown_none, grown_both, args_none, args_both}
+use Rattle.marks.proofs.mark_arguments.Goals as goal
+
+pub returns-then-graph-at-eq-BARE : goal.returns-then-graph-at-eq-BARE
+returns-then-graph-at-eq-BARE c = (args_none c.args.graph.now c.args.i c.args.marks.now c.if-graph-at-eq-BARE.true, grown_none c.args.marks.now)
+
+pub returns : goal.returns
+returns c = (c.mark-second.ensures.0 ∙ ap (marked (get_or c.args.graph.now (3 * c.args.i + 2) 0)) c.mark-first.ensures.0 ∙ args_both c.args.graph.now c.args.i c.args.marks.now c.if-graph-at-eq-BARE.false, subst (Grown c.args.marks.now c.mark-second.new.marks) (sym c.either.ensures) (grown_both c.mark-first.result c.mark-second.result c.mark-first.ensures.1 c.mark-second.ensures.1))

@@ -1,0 +1,20 @@
+-- `moves::window_ahead` meets its contract.
+use Prim.Native.Nat.{ℕ, max}
+use mathlib.Core.Path.{sym, ap, ◌∙◌}
+use Rattle.machine.specs.Reach.{event}
+use Rattle.layout.specs.Record.{Raw, decode, row_at}
+use Rattle.layout.proofs.Laws.{record_row}
+use Rattle.encoding.specs.Back.{held_of}
+use Rattle.apply.specs.Named.{folding}
+use Rattle.apply.proofs.Rows.{back}
+use Rattle.streams.specs.Look.{look_of}
+use Rattle.windows.specs.Window.{fitted}
+use Rattle.sliding.specs.Slide.{fit_row}
+use native.Mathlib.Omega.{arith}
+use Rattle.moves.proofs.window_ahead.Goals as goal
+
+pub returns-in-At : goal.returns-in-At
+returns-in-At c = let a = c.args in let n = a.n in let s = a.state.now in let st = decode n s in (ap (event c.in-At.t) (back c.in-At.v (omega arith)) ∙ ap (fitted c.larger-hi.result) (sym c.in-At.is) ∙ c.fit.ensures ∙ ap (λ (x : ℕ). fit_row (folding a.f) a.k a.i a.y x (held_of (row_at st a.a)) st) (c.larger-hi.ensures ∙ ap (max a.y) (c.bound_of.ensures.0 ∙ ap (λ (r : Raw). (look_of r).bound) (record_row n s c.row_at_lem.result.now a.a (omega arith) c.row_at_lem.ensures.0))), omega arith)
+
+pub returns-in-Nothing : goal.returns-in-Nothing
+returns-in-Nothing c = let a = c.args in let n = a.n in let s = a.state.now in let st = decode n s in (ap (fitted c.larger-hi.result) (sym c.in-Nothing.is) ∙ c.fit.ensures ∙ ap (λ (x : ℕ). fit_row (folding a.f) a.k a.i a.y x (held_of (row_at st a.a)) st) (c.larger-hi.ensures ∙ ap (max a.y) (c.bound_of.ensures.0 ∙ ap (λ (r : Raw). (look_of r).bound) (record_row n s c.row_at_lem.result.now a.a (omega arith) c.row_at_lem.ensures.0))), omega arith)

@@ -1,0 +1,15 @@
+-- `operators::none_ok` meets its contract.
+use borrow.Author.Tests.{eq-eqb, ne_eqb}
+use Rattle.operators.proofs.none_ok.Goals as goal
+
+pub returns-then-a-ne0 : goal.returns-then-a-ne0
+returns-then-a-ne0 c = simp (ne_eqb _ _ c.if-a-ne0.true)
+
+pub returns-then-b-ne0 : goal.returns-then-b-ne0
+returns-then-b-ne0 c = simp (eq-eqb _ _ c.if-a-ne0.false, ne_eqb _ _ c.if-b-ne0.true)
+
+pub returns-then-k-ne0 : goal.returns-then-k-ne0
+returns-then-k-ne0 c = simp (eq-eqb _ _ c.if-a-ne0.false, eq-eqb _ _ c.if-b-ne0.false, ne_eqb _ _ c.if-k-ne0.true)
+
+pub returns : goal.returns
+returns c = simp (eq-eqb _ _ c.if-a-ne0.false, eq-eqb _ _ c.if-b-ne0.false, eq-eqb _ _ c.if-k-ne0.false)
