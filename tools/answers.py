@@ -48,11 +48,13 @@ def head(chunk):
 def turn_paths(text, names, report):
     """Paths of an answer: no .before, steps by their new names, and what an arm of a match says by its fields."""
     text = re.sub(r"(\.before)+(?![\w-])", "", text)
-    fields, lent = {}, {}
+    fields, lent, inner = {}, {}, {}
     for place in names["places"]:
         old, new = place[2]
         if old:
             fields.setdefault(norm(old), new)
+            for a, b in place[4]:
+                inner.setdefault(norm(old), {}).setdefault(norm(a), b)
             if place[3] in names["params"]:
                 lent[norm(old)] = names["params"][place[3]]
     arms = []
@@ -81,6 +83,8 @@ def turn_paths(text, names, report):
                 at += 1
             if parts[at : at + 1] == ["0"] and at - 2 < len(lent[norm(parts[0])]):
                 parts[2 : at + 1] = [lent[norm(parts[0])][at - 2]]
+        if len(parts) > 1 and norm(parts[1]) in inner.get(norm(parts[0]), {}):
+            parts[1] = inner[norm(parts[0])][norm(parts[1])]
         if norm(parts[0]) in fields:
             parts[0] = fields[norm(parts[0])]
         return m[1] + "." + ".".join(parts)
@@ -112,6 +116,40 @@ def used_operator(name, text):
     if "◌" not in name:
         return False
     return all(p.strip() in text for p in name.split("◌") if p.strip())
+
+
+def turn_cycle(crate, function, path, names):
+    """A function that calls itself: one proof, with the measure's value as an argument of each answer."""
+    text = open(path, encoding="utf-8").read()
+    report, answers, invariants, imports = [], [], [], []
+    name = function.lstrip("+")
+    for m in re.finditer(r"(?m)^use ([\w.·+-]+)\.\{(.*)\}$", text):
+        if not re.search(r"\.Tie$|\.proofs\.\+%s$|PlainCycle|Kinds" % name, m[1]):
+            imports.append((m[1], [n.strip() for n in m[2].split(",")]))
+    needs = {norm(a): b for a, b in names["needs"]}
+    for m in re.finditer(r"(?m)^(\S+) : \(t : ℕ\) → \S+-lts\.Need-(\S+) \((?:.|\n)*?\n\1 t c( κs)? = (.*(?:\n .*)*)", text):
+        new = needs.get(norm(m[2]))
+        if not new:
+            report.append("no goal for " + m[2])
+            continue
+        if m[4].strip() in ("search rules", "tt", "omega arith"):
+            continue
+        answers += ["", "pub %s : goal.%s" % (new, new), "%s t c = %s" % (new, turn_paths(m[4], names, report))]
+    m = re.search(r"(?m)^μ_%s κs a = a((?:\.1)*)\.0$" % name, text)
+    params = names["params"]["merged::%s::%s" % (crate, name)]
+    invariants = ["", "abbrev pub decreases-%s : goal.decreases-%s" % (name, name), "decreases-%s l = l.%s" % (name, params[m[1].count("1")])]
+    folder = os.path.dirname(path)
+    comment = [l for l in text.split("\n")[:1] if l.startswith("--")]
+    module = "Rattle.%s.proofs.%s" % (crate, function)
+    t = "\n".join(invariants)
+    with open(os.path.join(folder, "Invariants.antt"), "w", encoding="utf-8") as f:
+        f.write("\n".join(comment + ["use %s.Given as goal" % module]) + "\n" + t + "\n")
+    t = "\n".join(answers)
+    with open(os.path.join(folder, "Answers.antt"), "w", encoding="utf-8") as f:
+        f.write("\n".join(comment + imports_for(imports, t) + ["use %s.Goals as goal" % module]) + "\n" + t + "\n")
+    os.remove(path)
+    for r in report:
+        print("%s::%s: %s" % (crate, function, r))
 
 
 def turn(crate, function, path, names):
@@ -237,6 +275,10 @@ def main(arguments):
             if "Proof.antt" in files:
                 function = os.path.relpath(folder, "crates/%s/proofs" % crate).replace("/", ".")
                 key = next((k for k in ("Rattle-merged-proofs.%s.%s.Lts" % (crate, function), "Rattle-%s-proofs.%s.Lts" % (crate, function)) if k in names), None)
+                cycle = "Rattle-merged-proofs.%s.%s.Lts-%s" % (crate, function, function.lstrip("+"))
+                if cycle in names:
+                    turn_cycle(crate, function, os.path.join(folder, "Proof.antt"), names[cycle])
+                    continue
                 if not key:
                     print("%s::%s: no names" % (crate, function))
                     continue

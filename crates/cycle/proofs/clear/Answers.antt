@@ -22,13 +22,13 @@ pub follow-requires : goal.follow-requires
 follow-requires c = omega arith
 
 pub returns-then-not-follow : goal.returns-then-not-follow
-returns-then-not-follow c = blocked c.args.depth c.loop-i.i (c.loop-i.i - 1) c.loop-i.graph c.follow.result c.follow.new.graph (omega arith) refl c.follow.ensures c.if-not-follow.true ∙ c.loop-i.invariant.1
+returns-then-not-follow c = blocked c.args.depth c.loop-i.i (c.loop-i.i - 1) c.loop-i.graph c.follow.result c.follow.new.graph (omega arith) refl c.follow.ensures c.if-not-follow.true-raw ∙ c.loop-i.invariant.1
 
 pub loop-i-smaller : goal.loop-i-smaller
 loop-i-smaller c = omega arith
 
 pub loop-i-preserved : goal.loop-i-preserved
-loop-i-preserved c = (omega arith, going c.args.depth c.loop-i.i (c.loop-i.i - 1) c.loop-i.graph c.follow.result c.follow.new.graph (omega arith) refl c.follow.ensures c.if-not-follow.false ∙ c.loop-i.invariant.1)
+loop-i-preserved c = (omega arith, going c.args.depth c.loop-i.i (c.loop-i.i - 1) c.loop-i.graph c.follow.result c.follow.new.graph (omega arith) refl c.follow.ensures c.if-not-follow.false-raw ∙ c.loop-i.invariant.1)
 
 pub returns : goal.returns
 returns c = done c.args.depth c.loop-i.i c.loop-i.graph (omega arith) ∙ c.loop-i.invariant.1

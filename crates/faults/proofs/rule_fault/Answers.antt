@@ -15,7 +15,7 @@ pub in_stream-requires : goal.in_stream-requires
 in_stream-requires c = (omega arith, c.field_broken-j.ensures.1)
 
 pub returns-then-not-fields_ok : goal.returns-then-not-fields_ok
-returns-then-not-fields_ok c = c.in_stream.ensures ∙ ap (in_stream 5 c.loop-i.i) c.field_broken-j.ensures.0 ∙ first_broken_lem (field_rule c.args.n) c.args.text.now c.args.n 0 c.loop-i.i c.loop-i.p (omega arith) c.in-Stream.f (sym c.read_stream.ensures ∙ c.in-Stream.is) (sym c.fields_ok.ensures ∙ not-true c.fields_ok.result c.if-not-fields_ok.true) ∙ c.loop-i.invariant.1
+returns-then-not-fields_ok c = c.in_stream.ensures ∙ ap (in_stream 5 c.loop-i.i) c.field_broken-j.ensures.0 ∙ first_broken_lem (field_rule c.args.n) c.args.text.now c.args.n 0 c.loop-i.i c.loop-i.p (omega arith) c.in-Stream.f (sym c.read_stream.ensures ∙ c.in-Stream.is) (sym c.fields_ok.ensures ∙ not-true c.fields_ok.result c.if-not-fields_ok.true-raw) ∙ c.loop-i.invariant.1
 
 pub overflow_add-i : goal.overflow_add-i
 overflow_add-i c = omega arith
@@ -24,7 +24,7 @@ pub loop-i-smaller : goal.loop-i-smaller
 loop-i-smaller c = omega arith
 
 pub loop-i-preserved : goal.loop-i-preserved
-loop-i-preserved c = (omega arith, first_go (field_rule c.args.n) c.args.text.now c.args.n 0 c.loop-i.i c.loop-i.p (omega arith) c.in-Stream.f (sym c.read_stream.ensures ∙ c.in-Stream.is) (sym c.fields_ok.ensures ∙ not-false c.fields_ok.result c.if-not-fields_ok.false) ∙ c.loop-i.invariant.1)
+loop-i-preserved c = (omega arith, first_go (field_rule c.args.n) c.args.text.now c.args.n 0 c.loop-i.i c.loop-i.p (omega arith) c.in-Stream.f (sym c.read_stream.ensures ∙ c.in-Stream.is) (sym c.fields_ok.ensures ∙ not-false c.fields_ok.result c.if-not-fields_ok.false-raw) ∙ c.loop-i.invariant.1)
 
 pub returns-after-loop-i : goal.returns-after-loop-i
 returns-after-loop-i c = first_end (field_rule c.args.n) c.args.text.now c.args.n 0 c.loop-i.i c.loop-i.p (omega arith) ∙ c.loop-i.invariant.1

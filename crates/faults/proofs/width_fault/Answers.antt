@@ -17,7 +17,7 @@ pub in_stream-requires : goal.in_stream-requires
 in_stream-requires c = (omega arith, lit< tt)
 
 pub returns-then-not-width_ok : goal.returns-then-not-width_ok
-returns-then-not-width_ok c = c.in_stream.ensures ∙ first_broken_lem width_rule c.args.text.now c.args.n 0 c.loop-i.i c.loop-i.p (omega arith) c.in-Stream.f (sym c.read_stream.ensures ∙ c.in-Stream.is) (sym c.width_ok.ensures ∙ not-true c.width_ok.result c.if-not-width_ok.true) ∙ c.loop-i.invariant.1
+returns-then-not-width_ok c = c.in_stream.ensures ∙ first_broken_lem width_rule c.args.text.now c.args.n 0 c.loop-i.i c.loop-i.p (omega arith) c.in-Stream.f (sym c.read_stream.ensures ∙ c.in-Stream.is) (sym c.width_ok.ensures ∙ not-true c.width_ok.result c.if-not-width_ok.true-raw) ∙ c.loop-i.invariant.1
 
 pub overflow_add-i : goal.overflow_add-i
 overflow_add-i c = omega arith
@@ -26,7 +26,7 @@ pub loop-i-smaller : goal.loop-i-smaller
 loop-i-smaller c = omega arith
 
 pub loop-i-preserved : goal.loop-i-preserved
-loop-i-preserved c = (omega arith, first_go width_rule c.args.text.now c.args.n 0 c.loop-i.i c.loop-i.p (omega arith) c.in-Stream.f (sym c.read_stream.ensures ∙ c.in-Stream.is) (sym c.width_ok.ensures ∙ not-false c.width_ok.result c.if-not-width_ok.false) ∙ c.loop-i.invariant.1)
+loop-i-preserved c = (omega arith, first_go width_rule c.args.text.now c.args.n 0 c.loop-i.i c.loop-i.p (omega arith) c.in-Stream.f (sym c.read_stream.ensures ∙ c.in-Stream.is) (sym c.width_ok.ensures ∙ not-false c.width_ok.result c.if-not-width_ok.false-raw) ∙ c.loop-i.invariant.1)
 
 pub returns-after-loop-i : goal.returns-after-loop-i
 returns-after-loop-i c = first_end width_rule c.args.text.now c.args.n 0 c.loop-i.i c.loop-i.p (omega arith) ∙ c.loop-i.invariant.1
