@@ -1,10 +1,10 @@
 -- What is said at a stamp: its value is the row, it depends on the arguments up to the stamp, and counts go on from where they stand.
-use mathlib.Core.Path.{◌≡◌, refl, sym, ◌∙◌, ap}
+use mathlib.Core.Path.{◌≡◌, refl, sym, ◌∙◌, ap, subst}
 use mathlib.Core.Bool.{Bool, true, false, cond, ◌&&◌, ◌||◌}
 use mathlib.Core.Option.{Option, none, some}
 use mathlib.Core.List.{List}
 use Prim.Native.Nat.{ℕ, zero, suc, ◌+◌, ◌≤◌, ◌<◌, min}
-use native.Mathlib.Nat.{lt-suc_self}
+use native.Mathlib.Nat.{lt-suc_self, add-zero}
 use native.Mathlib.Omega.{arith}
 use native.Mathlib.Decide.{dec_le}
 use lib.Dec.{T, leb, leb→le, le→leb, not_T}
@@ -204,7 +204,7 @@ tally_seam f y (suc x) l = go (dec_le y x) (λ m. tally_seam f y x m)
 
     go : Dec (y ≤ x) → (y ≤ x → tally f x ≡ tally f y + tally (λ p. leb y p && f p) x) → tally f (suc x) ≡ tally f y + tally (λ p. leb y p && f p) (suc x)
     go (yes m) ih = rw (tally, true_is (leb y x) (le→leb y x m)) (more (f x) (tally f x) (tally f y) (tally (λ p. leb y p && f p) x) (ih m))
-    go (no m) ih = let e : y ≡ suc x = omega arith in let z = tally_none f (suc x) (suc x) (omega arith) in rw e (omega arith)
+    go (no m) ih = let e : y ≡ suc x = omega arith in let z = tally_none f (suc x) (suc x) (omega arith) in subst (λ (k : ℕ). tally f (suc x) ≡ tally f k + tally (λ p. leb k p && f p) (suc x)) (sym e) (sym (add-zero (tally f (suc x))) ∙ ap (λ (k : ℕ). tally f (suc x) + k) (sym z))
 
 -- a count depends on the streams below the bound
 pub count_cong : (q : Reason) (e : Eqn) (rd S S' : Streams) (s y : ℕ) → ((a : ℕ) → SameBelow y (S a) (S' a)) → count_below q e rd S s y ≡ count_below q e rd S' s y

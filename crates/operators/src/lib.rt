@@ -304,8 +304,8 @@ impl Plan {
 
     // The limits are those of the definitions.
     pub fn limit() -> Self
-        ensures* fact { do ⌜ (result.streams ≡ most_streams) × ((← (⟦Plan::STATE⟧).entry) ≡ state_length) × ((← (⟦Plan::STREAMS⟧).entry) ≡ stream_limit) × ((← (⟦Plan::MOST⟧).entry) ≡ most_streams) × ((← (⟦Plan::TEXT⟧).entry) ≡ text_limit) ⌝ }
-        ensures* fact_2 { do ⌜ ((← (⟦Plan::LONG⟧).entry) ≡ long_length) × ((← (⟦Plan::WIDTH⟧).entry) ≡ width_limit) × ((← (⟦Plan::WINDOWS⟧).entry) ≡ window_limit) ⌝ }
+        ensures sizes { (result.streams ≡ most_streams) × (Plan.STATE ≡ state_length) × (Plan.STREAMS ≡ stream_limit) × (Plan.MOST ≡ most_streams) × (Plan.TEXT ≡ text_limit) }
+        ensures windows { (Plan.LONG ≡ long_length) × (Plan.WIDTH ≡ width_limit) × (Plan.WINDOWS ≡ window_limit) }
     {
         Self::new(Self::MOST)
     }
