@@ -1,5 +1,5 @@
 -- The latest k of a list that grows at its end, and the events of a stream from a stamp on.
-use mathlib.Core.Path.{◌≡◌, refl, sym, ◌∙◌, ap}
+use mathlib.Core.Path.{◌≡◌, refl, sym, ◌∙◌, ap, subst}
 use mathlib.Core.Option.{none}
 use mathlib.Core.List.{List, [], ◌∷◌, ◌++◌, append-nil, append_assoc}
 use Prim.Native.Nat.{ℕ, zero, suc, ◌-◌, ◌≤◌, ◌<◌}
@@ -54,7 +54,7 @@ events_seam f y (suc x) l = go (dec_le y x) (λ m. events_seam f y x m)
   where
     go : Dec (y ≤ x) → (y ≤ x → events f x ≡ events f y ++ events (from y f) x) → events f (suc x) ≡ events f y ++ events (from y f) (suc x)
     go (yes m) ih = rw (ih m, from_yes y f x m) (append_assoc (events f y) (events (from y f) x) (here x (f x)))
-    go (no m) ih = let e : y ≡ suc x = omega arith in rw (e, from_none (suc x) f (suc x) (omega arith)) (sym (append-nil (events f (suc x))))
+    go (no m) ih = let e : y ≡ suc x = omega arith in subst (λ (z : ℕ). events f (suc x) ≡ events f z ++ events (from z f) (suc x)) (sym e) (sym (append-nil (events f (suc x))) ∙ ap (λ (r : List Event). events f (suc x) ++ r) (sym (from_none (suc x) f (suc x) (omega arith))))
 
 -- two streams that agree from y on and below x
 pub from_cong : (f g : Stream) (y x : ℕ) → ((p : ℕ) → y ≤ p → p < x → f p ≡ g p) → events (from y f) x ≡ events (from y g) x
