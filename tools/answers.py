@@ -45,11 +45,23 @@ def head(chunk):
     return 0, None
 
 
-def turn_paths(text, names, report):
+def chain_of(names, at):
+    """The steps before a goal, the nearest first, each with what its arm says."""
+    places = {p[0]: (p, a) for p, a in zip(names["places"], names["arms"])}
+    out = []
+    while at in places:
+        out.append(places[at])
+        at = places[at][0][1]
+    return out
+
+
+def turn_paths(text, names, report, at=None):
     """Paths of an answer: no .before, steps by their new names, and what an arm of a match says by its fields."""
     text = re.sub(r"(\.before)+(?![\w-])", "", text)
+    text = re.sub(r"(?<=\.)(\w+)_lem(?![\w-])", r"\1", text)
     fields, lent, inner = {}, {}, {}
-    for place in names["places"]:
+    chain = chain_of(names, at) if at else list(zip(names["places"], names["arms"]))
+    for place, _ in chain:
         old, new = place[2]
         if old:
             fields.setdefault(norm(old), new)
@@ -58,9 +70,10 @@ def turn_paths(text, names, report):
             if place[3] in names["params"]:
                 lent[norm(old)] = names["params"][place[3]]
     arms = []
-    for arm in names["arms"]:
+    for place, arm in chain:
         if arm:
             step, _, entries = arm
+            step = place[2][1] if place[2][0] == "match" else step
             for field, old, path in entries:
                 if path:
                     arms.append((norm(old), path, step + "." + field))
@@ -75,7 +88,7 @@ def turn_paths(text, names, report):
             return m[0]
         parts = m[2].split(".")[1:]
         for old, path, new in arms:
-            if path and norm(parts[0]) == old and parts[1 : 1 + len(path)] == path:
+            if norm(parts[0]) == old and parts[1 : 1 + len(path)] == path:
                 return m[1] + "." + ".".join([new] + parts[1 + len(path) :])
         if norm(parts[0]) in lent and parts[1:2] == ["new"]:
             at = 2
@@ -127,6 +140,7 @@ def turn_cycle(crate, function, path, names):
         if not re.search(r"\.Tie$|\.proofs\.\+%s$|PlainCycle|Kinds" % name, m[1]):
             imports.append((m[1], [n.strip() for n in m[2].split(",")]))
     needs = {norm(a): b for a, b in names["needs"]}
+    at_of = {b: at[0] for (_, b), at in zip(names["needs"], names["asked_at"])}
     for m in re.finditer(r"(?m)^(\S+) : \(t : ℕ\) → \S+-lts\.Need-(\S+) \((?:.|\n)*?\n\1 t c( κs)? = (.*(?:\n .*)*)", text):
         new = needs.get(norm(m[2]))
         if not new:
@@ -134,7 +148,7 @@ def turn_cycle(crate, function, path, names):
             continue
         if m[4].strip() in ("search rules", "tt", "omega arith"):
             continue
-        answers += ["", "pub %s : goal.%s" % (new, new), "%s t c = %s" % (new, turn_paths(m[4], names, report))]
+        answers += ["", "pub %s : goal.%s" % (new, new), "%s t c = %s" % (new, turn_paths(m[4], names, report, at_of.get(new)))]
     m = re.search(r"(?m)^μ_%s κs a = a((?:\.1)*)\.0$" % name, text)
     params = names["params"]["merged::%s::%s" % (crate, name)]
     invariants = ["", "abbrev pub decreases-%s : goal.decreases-%s" % (name, name), "decreases-%s l = l.%s" % (name, params[m[1].count("1")])]
@@ -190,6 +204,7 @@ def turn(crate, function, path, names):
         known = {norm(a) for a, _ in needs}
         left = [o for o in left if norm(old_of[o]) in known or not norm(old_of[o]).startswith(("same_", "enum_", "shared_", "struct_"))]
     new_of = {}
+    at_of = {b: at[0] for (_, b), at in zip(needs, names["asked_at"])}
     by_name = {norm(a): b for a, b in needs}
     if len(left) == len(needs):
         for o, (a, b) in zip(left, needs):
@@ -241,7 +256,7 @@ def turn(crate, function, path, names):
             text_ = "\n".join(rest)
             if re.fullmatch(r"%s c( κs)? = search rules\s*" % re.escape(name), text_.strip()):
                 continue
-            text_ = turn_paths(text_, names, report)
+            text_ = turn_paths(text_, names, report, at_of.get(new))
             text_ = re.sub(r"(?m)^%s c κs" % re.escape(name), new + " c", text_)
             text_ = re.sub(r"(?m)^%s(?=\s)" % re.escape(name), new, text_)
             if "κs" in text_:

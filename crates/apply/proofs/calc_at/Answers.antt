@@ -15,4 +15,4 @@ returns-in_default-y c = Rows.two_arm (plan.calc (calculation c.args.g)) c.in-Va
 
 pub returns : goal.returns
 unfolding two_at
-returns c = let v = c.in-Value.v in let ev = Rows.back v c.known_told-1.given.0.1 in let w = c.in-Value-y.w in let ew = Rows.back w c.known_told-in-Value-y-1.given.0.1 in let g = calculation c.args.g in c.value_of_lem.ensures ∙ ap value_of (c.calculate.ensures ∙ ap₂ (calculated g) ev ew) ∙ Rows.two_arm (plan.calc g) c.in-Value.is c.in-Value-y.is
+returns c = let v = c.in-Value.v in let ev = Rows.back v c.in-Value.known_told-1-own.given.0.1 in let w = c.in-Value-y.w in let ew = Rows.back w c.in-Value-y.known_told-in-Value-y-1-own.given.0.1 in let g = calculation c.args.g in c.value_of.ensures ∙ ap value_of (c.calculate.ensures ∙ ap₂ (calculated g) ev ew) ∙ Rows.two_arm (plan.calc g) c.in-Value.is c.in-Value-y.is

@@ -14,4 +14,4 @@ pub returns-in_default-y : goal.returns-in_default-y
 returns-in_default-y c = λ q. law.calc_second q (calculation c.args.g) c.in-Value.v (as_option c.args.x) (as_option c.args.y) (ap as_option c.in-Value.is) (ap as_option c.in_default-y.is)
 
 pub returns : goal.returns
-returns c = let v = c.in-Value.v in let w = c.in-Value-y.w in let g = calculation c.args.g in λ q. c.lack_of.ensures q ∙ ap (lacks q) (c.calculate.ensures ∙ ap₂ (calculated g) (Rows.back v c.known_told-1.given.0.1) (Rows.back w c.known_told-in-Value-y-1.given.0.1)) ∙ law.calc_both q g v w (as_option c.args.x) (as_option c.args.y) (ap as_option c.in-Value.is) (ap as_option c.in-Value-y.is)
+returns c = let v = c.in-Value.v in let w = c.in-Value-y.w in let g = calculation c.args.g in λ q. c.lack_of.ensures q ∙ ap (lacks q) (c.calculate.ensures ∙ ap₂ (calculated g) (Rows.back v c.in-Value.known_told-1-own.given.0.1) (Rows.back w c.in-Value-y.known_told-in-Value-y-1-own.given.0.1)) ∙ law.calc_both q g v w (as_option c.args.x) (as_option c.args.y) (ap as_option c.in-Value.is) (ap as_option c.in-Value-y.is)

@@ -20,12 +20,12 @@ returns-in-Time c = let h : c.args.t < 2 ^ 63 = omega arith in ap some (to_z_pos
 
 pub returns-in-Set : goal.returns-in-Set
 unfolding one_at
-returns-in-Set c = ap some (Rows.back c.in-Set.k c.known_told-in-Set-1.given.0.1) ∙ Rows.one_arm c.args.t c.in-Set.is c.in-Value.is
+returns-in-Set c = ap some (Rows.back c.in-Set.k c.in-Set.known_told-in-Set-1-own.given.0.1) ∙ Rows.one_arm c.args.t c.in-Set.is c.in-Value.is
 
 pub returns-in-Plus : goal.returns-in-Plus
 unfolding one_at
-returns-in-Plus c = let v = c.in-Value.v in let ev = Rows.back v c.known_told-1.given.0.1 in let k = c.in-Plus.k in c.value_of_lem.ensures ∙ ap value_of (c.add.ensures ∙ ap₂ added ev (Rows.back k c.known_told-in-Plus-1.given.0.1)) ∙ Rows.one_arm c.args.t c.in-Plus.is c.in-Value.is
+returns-in-Plus c = let v = c.in-Value.v in let ev = Rows.back v c.in-Value.known_told-1-own.given.0.1 in let k = c.in-Plus.k in c.value_of.ensures ∙ ap value_of (c.add.ensures ∙ ap₂ added ev (Rows.back k c.in-Plus.known_told-in-Plus-1-own.given.0.1)) ∙ Rows.one_arm c.args.t c.in-Plus.is c.in-Value.is
 
 pub returns-in-Neg : goal.returns-in-Neg
 unfolding one_at
-returns-in-Neg c = let v = c.in-Value.v in let ev = Rows.back v c.known_told-1.given.0.1 in c.value_of-in-Neg.ensures ∙ ap value_of (c.neg.ensures ∙ ap negated ev) ∙ Rows.one_arm c.args.t c.in-Neg.is c.in-Value.is
+returns-in-Neg c = let v = c.in-Value.v in let ev = Rows.back v c.in-Value.known_told-1-own.given.0.1 in c.value_of-in-Neg.ensures ∙ ap value_of (c.neg.ensures ∙ ap negated ev) ∙ Rows.one_arm c.args.t c.in-Neg.is c.in-Value.is

@@ -17,7 +17,7 @@ pub returns-in-Set : goal.returns-in-Set
 returns-in-Set c = λ q t. law.set_lacks q t _ (as_option c.args.x) c.in-Set.is
 
 pub returns-in-Plus : goal.returns-in-Plus
-returns-in-Plus c = let v = c.in-Value.v in let k = c.in-Plus.k in λ q t. c.lack_of.ensures q ∙ ap (lacks q) (c.add.ensures ∙ ap₂ added (Rows.back v c.known_told-1.given.0.1) (Rows.back k c.known_told-in-Plus-1.given.0.1)) ∙ law.plus_lacks q t k v (as_option c.args.x) c.in-Plus.is (ap as_option c.in-Value.is)
+returns-in-Plus c = let v = c.in-Value.v in let k = c.in-Plus.k in λ q t. c.lack_of.ensures q ∙ ap (lacks q) (c.add.ensures ∙ ap₂ added (Rows.back v c.in-Value.known_told-1-own.given.0.1) (Rows.back k c.in-Plus.known_told-in-Plus-1-own.given.0.1)) ∙ law.plus_lacks q t k v (as_option c.args.x) c.in-Plus.is (ap as_option c.in-Value.is)
 
 pub returns-in-Neg : goal.returns-in-Neg
-returns-in-Neg c = let v = c.in-Value.v in λ q t. c.lack_of-in-Neg.ensures q ∙ ap (lacks q) (c.neg.ensures ∙ ap negated (Rows.back v c.known_told-1.given.0.1)) ∙ law.neg_lacks q t v (as_option c.args.x) c.in-Neg.is (ap as_option c.in-Value.is)
+returns-in-Neg c = let v = c.in-Value.v in λ q t. c.lack_of-in-Neg.ensures q ∙ ap (lacks q) (c.neg.ensures ∙ ap negated (Rows.back v c.in-Value.known_told-1-own.given.0.1)) ∙ law.neg_lacks q t v (as_option c.args.x) c.in-Neg.is (ap as_option c.in-Value.is)

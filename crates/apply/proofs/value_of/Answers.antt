@@ -6,7 +6,7 @@ use Rattle.apply.proofs.value_of.Goals as goal
 
 pub returns-in-Value : goal.returns-in-Value
 unfolding value_of
-returns-in-Value c = ap some (Rows.back c.in-Value.v c.known_told-1.given.0.1) ∙ Rows.value_arm c.in-Value.is
+returns-in-Value c = ap some (Rows.back c.in-Value.v c.in-Value.known_told-1-own.given.0.1) ∙ Rows.value_arm c.in-Value.is
 
 pub returns-in-Outside : goal.returns-in-Outside
 unfolding value_of

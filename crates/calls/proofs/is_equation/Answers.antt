@@ -15,4 +15,4 @@ returns-then-n-i c = let a = c.args in sym (rw (le-ltb a.stream a.n (omega arith
 
 pub returns : goal.returns
 unfolding equation_raw
-returns c = let a = c.args in let i = a.stream in let row = record_row a.n a.state.now c.row_at_lem.result.now i (omega arith) c.row_at_lem.ensures.0 in ap not (c.is_in.ensures ∙ ap is_in (c.group_of_lem.ensures ∙ ap group_of (c.byte_at-op.ensures.0 ∙ ap (num op_f) row))) ∙ sym (rw (lt-ltb i a.n (omega arith)))
+returns c = let a = c.args in let i = a.stream in let row = record_row a.n a.state.now c.row_at.result.now i (omega arith) c.row_at.ensures.0 in ap not (c.is_in.ensures ∙ ap is_in (c.group_of.ensures ∙ ap group_of (c.byte_at-op.ensures.0 ∙ ap (num op_f) row))) ∙ sym (rw (lt-ltb i a.n (omega arith)))

@@ -14,4 +14,4 @@ returns-in_default c = let a = c.args in let v = held_latest (holding a.a.now) a
 
 pub returns : goal.returns
 unfolding last_at
-returns c = let a = c.args in let v = held_latest (holding a.a.now) a.t (as_option a.k.prev) in c.held_latest_lem.ensures ∙ ap (λ (o : Option ℤ). last_at o v) (ap as_option (sym c.in-Value.is) ∙ c.find-y.ensures)
+returns c = let a = c.args in let v = held_latest (holding a.a.now) a.t (as_option a.k.prev) in c.held_latest.ensures ∙ ap (λ (o : Option ℤ). last_at o v) (ap as_option (sym c.in-Value.is) ∙ c.find-y.ensures)

@@ -16,7 +16,7 @@ pub in_stream-requires : goal.in_stream-requires
 in_stream-requires c = (omega arith, lit< tt)
 
 pub returns-then-w-ge-WINDOWS : goal.returns-then-w-ge-WINDOWS
-returns-then-w-ge-WINDOWS c = c.in_stream.ensures ∙ ninth_broken c.args.text.now c.args.n c.loop-i.w c.loop-i.i c.loop-i.p (omega arith) c.in-Stream.f (sym c.read_stream.ensures ∙ c.in-Stream.is) (sym c.is_window_lem.ensures ∙ c.if-is_window.true) (omega arith) ∙ c.loop-i.invariant.1.1
+returns-then-w-ge-WINDOWS c = c.in_stream.ensures ∙ ninth_broken c.args.text.now c.args.n c.loop-i.w c.loop-i.i c.loop-i.p (omega arith) c.in-Stream.f (sym c.read_stream.ensures ∙ c.in-Stream.is) (sym c.is_window.ensures ∙ c.if-is_window.true) (omega arith) ∙ c.loop-i.invariant.1.1
 
 pub overflow_add-w : goal.overflow_add-w
 overflow_add-w c = omega arith
@@ -28,7 +28,7 @@ pub loop-i-smaller : goal.loop-i-smaller
 loop-i-smaller c = omega arith
 
 pub loop-i-preserved : goal.loop-i-preserved
-loop-i-preserved c = ⊎_elim (λ x. rw x.2 (omega arith, (omega (arith, x.1.left), ninth_window c.args.text.now c.args.n c.loop-i.w c.loop-i.i c.loop-i.p (omega arith) c.in-Stream.f (sym c.read_stream.ensures ∙ c.in-Stream.is) (sym c.is_window_lem.ensures ∙ x.0.taken) (omega (arith, x.1.left)) ∙ c.loop-i.invariant.1.1))) (λ x. rw x.1 (omega arith, (omega arith, ninth_other c.args.text.now c.args.n c.loop-i.w c.loop-i.i c.loop-i.p (omega arith) c.in-Stream.f (sym c.read_stream.ensures ∙ c.in-Stream.is) (sym c.is_window_lem.ensures ∙ x.0.left) ∙ c.loop-i.invariant.1.1))) c.if-is_window.branch
+loop-i-preserved c = ⊎_elim (λ x. rw x.2 (omega arith, (omega (arith, x.1.left), ninth_window c.args.text.now c.args.n c.loop-i.w c.loop-i.i c.loop-i.p (omega arith) c.in-Stream.f (sym c.read_stream.ensures ∙ c.in-Stream.is) (sym c.is_window.ensures ∙ x.0.taken) (omega (arith, x.1.left)) ∙ c.loop-i.invariant.1.1))) (λ x. rw x.1 (omega arith, (omega arith, ninth_other c.args.text.now c.args.n c.loop-i.w c.loop-i.i c.loop-i.p (omega arith) c.in-Stream.f (sym c.read_stream.ensures ∙ c.in-Stream.is) (sym c.is_window.ensures ∙ x.0.left) ∙ c.loop-i.invariant.1.1))) c.if-is_window.branch
 
 pub returns-after-loop-i : goal.returns-after-loop-i
 returns-after-loop-i c = first_end ninth_rule c.args.text.now c.args.n c.loop-i.w c.loop-i.i c.loop-i.p (omega arith) ∙ c.loop-i.invariant.1.1

@@ -8,4 +8,4 @@ use Rattle.apply.proofs.Rows.{back}
 use Rattle.keeping.proofs.bits_of.Goals as goal
 
 pub returns-in-Value : goal.returns-in-Value
-returns-in-Value c = c.bits.ensures ∙ ap (of_z w64) (back c.in-Value.v c.known_told-1.given.0.1) ∙ ap (λ (x : Found). bits_of (as_option x)) (sym c.in-Value.is)
+returns-in-Value c = c.bits.ensures ∙ ap (of_z w64) (back c.in-Value.v c.in-Value.known_told-1-own.given.0.1) ∙ ap (λ (x : Found). bits_of (as_option x)) (sym c.in-Value.is)

@@ -16,7 +16,7 @@ use Rattle.making.proofs.Steps
 use Rattle.making.proofs.make.Goals as goal
 
 pub returns-then-not-is_full : goal.returns-then-not-is_full
-returns-then-not-is_full c = let a = c.args in let n = a.n in let s = a.state.now in let st = decode n s in let e = equation a.op in c.move_event.ensures ∙ ap (λ (u : ℕ). encode n (event_raw n a.i e (kept_in a.k) c.in-Event.t u st)) (c.bits.ensures ∙ ap (of_z w64) (to_z-of_z {w = w64} {z = c.in-Event.v} (record { sfits = c.known_told-1.given.1.0.1 }))) ∙ ap (encode n) (sym (rw (c.in-Event.is, sym (c.is_full.ensures ∙ ap (leb room) c.new.ensures) ∙ not-true c.is_full.result c.if-not-is_full.true-raw)))
+returns-then-not-is_full c = let a = c.args in let n = a.n in let s = a.state.now in let st = decode n s in let e = equation a.op in c.move_event.ensures ∙ ap (λ (u : ℕ). encode n (event_raw n a.i e (kept_in a.k) c.in-Event.t u st)) (c.bits.ensures ∙ ap (of_z w64) (to_z-of_z {w = w64} {z = c.in-Event.v} (record { sfits = c.in-Event.known_told-1-own.given.1.0.1 }))) ∙ ap (encode n) (sym (rw (c.in-Event.is, sym (c.is_full.ensures ∙ ap (leb room) c.new.ensures) ∙ not-true c.is_full.result c.if-not-is_full.true-raw)))
 
 pub returns : goal.returns
-returns c = let a = c.args in let n = a.n in let s = a.state.now in let st = decode n s in let e = equation a.op in let f : silent_raw n a.i e (kept_in a.k) (bound_raw (to_next a.next) a.held) st ≡ step_raw n a.i e (kept_in a.k) (to_next a.next) a.held st = ⊎_elim (λ w. rw w.1.given.1) (λ w. Steps.step_full n a.i e (kept_in a.k) (to_next a.next) a.held st (sym (w.4.ensures ∙ ap (leb room) w.3.ensures) ∙ not-false w.4.result w.5.left)) c.in-Silent.branch in c.move_silent.ensures ∙ ap (encode n) (ap (λ (u : ℕ). silent_raw n a.i e (kept_in a.k) u st) c.bound_after_lem.ensures.0 ∙ f)
+returns c = let a = c.args in let n = a.n in let s = a.state.now in let st = decode n s in let e = equation a.op in let f : silent_raw n a.i e (kept_in a.k) (bound_raw (to_next a.next) a.held) st ≡ step_raw n a.i e (kept_in a.k) (to_next a.next) a.held st = ⊎_elim (λ w. rw w.1.given.1) (λ w. Steps.step_full n a.i e (kept_in a.k) (to_next a.next) a.held st (sym (w.4.ensures ∙ ap (leb room) w.3.ensures) ∙ not-false w.4.result w.5.left)) c.match-next.branch in c.move_silent.ensures ∙ ap (encode n) (ap (λ (u : ℕ). silent_raw n a.i e (kept_in a.k) u st) c.bound_after-y.ensures.0 ∙ f)

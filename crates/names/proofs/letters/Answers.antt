@@ -127,4 +127,4 @@ unfolding name_of pack
 returns-in-30 c = sym (ap (λ (x : ℕ). pack (name_of x)) c.in-30.is)
 
 pub returns-in_default : goal.returns-in_default
-returns-in_default c = no_letters c.args.op c.in-1.rest
+returns-in_default c = no_letters c.args.op c.in_default.in_default-own.rest

@@ -12,4 +12,4 @@ returns-then-n-i c = let a = c.args in sym (rw (le-ltb a.stream a.n (omega arith
 
 pub returns : goal.returns
 unfolding collect_raw
-returns c = let a = c.args in let s = a.state.now in let i = a.stream in let row = record_row a.n s c.row_at_lem.result.now i (omega arith) c.row_at_lem.ensures.0 in c.collect_row.ensures ∙ ap (λ (r : Raw). collect_row r) row ∙ sym (rw (lt-ltb i a.n (omega arith)))
+returns c = let a = c.args in let s = a.state.now in let i = a.stream in let row = record_row a.n s c.row_at.result.now i (omega arith) c.row_at.ensures.0 in c.collect_row.ensures ∙ ap (λ (r : Raw). collect_row r) row ∙ sym (rw (lt-ltb i a.n (omega arith)))

@@ -16,7 +16,7 @@ returns-in-1 c = sym (group_range Input 1 1 refl c.args.number (omega arith) (om
 
 pub returns-in_default-number : goal.returns-in_default-number
 unfolding group_of
-returns-in_default-number c = sym (group_range Plain 2 2 refl c.args.number (omega (arith, c.in-0.rest)) (omega (arith, c.in-0.rest)))
+returns-in_default-number c = sym (group_range Plain 2 2 refl c.args.number (omega (arith, c.in_default-number.in_default-number-own.rest)) (omega (arith, c.in_default-number.in_default-number-own.rest)))
 
 pub returns-in-4-to-7 : goal.returns-in-4-to-7
 unfolding group_of
@@ -32,7 +32,7 @@ returns-in-18 c = sym (group_range Last 18 1 refl c.args.number (omega arith) (o
 
 pub returns-in_default-number-2 : goal.returns-in_default-number-2
 unfolding group_of
-returns-in_default-number-2 c = sym (group_range Delay 19 1 refl c.args.number (omega (arith, c.in-18.rest)) (omega (arith, c.in-18.rest)))
+returns-in_default-number-2 c = sym (group_range Delay 19 1 refl c.args.number (omega (arith, c.in_default-number-2.in_default-number-2-own.rest)) (omega (arith, c.in_default-number-2.in_default-number-2-own.rest)))
 
 pub returns-in-20-to-27 : goal.returns-in-20-to-27
 unfolding group_of

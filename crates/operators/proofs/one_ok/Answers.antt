@@ -13,7 +13,7 @@ pub returns-then-b-ne0 : goal.returns-then-b-ne0
 returns-then-b-ne0 c = simp (lt-ltb _ _ c.if-n-a.false, ne_eqb _ _ c.if-b-ne0.true)
 
 pub returns-then-not-value_ok : goal.returns-then-not-value_ok
-returns-then-not-value_ok c = simp (lt-ltb _ _ c.if-n-a.false, eq-eqb _ _ c.if-b-ne0.false) (stop (value_ok (uses_k c.args.op) c.args.k) c.value_ok_lem.result c.args.out (c.value_ok_lem.ensures ∙ ap (λ u. value_ok u c.args.k) c.takes_value.ensures) c.if-not-value_ok.true-raw)
+returns-then-not-value_ok c = simp (lt-ltb _ _ c.if-n-a.false, eq-eqb _ _ c.if-b-ne0.false) (stop (value_ok (uses_k c.args.op) c.args.k) c.value_ok.result c.args.out (c.value_ok.ensures ∙ ap (λ u. value_ok u c.args.k) c.takes_value.ensures) c.if-not-value_ok.true-raw)
 
 pub returns : goal.returns
-returns c = simp (lt-ltb _ _ c.if-n-a.false, eq-eqb _ _ c.if-b-ne0.false) (pass (value_ok (uses_k c.args.op) c.args.k) c.value_ok_lem.result c.args.out _ (c.value_ok_lem.ensures ∙ ap (λ u. value_ok u c.args.k) c.takes_value.ensures) c.if-not-value_ok.false-raw refl)
+returns c = simp (lt-ltb _ _ c.if-n-a.false, eq-eqb _ _ c.if-b-ne0.false) (pass (value_ok (uses_k c.args.op) c.args.k) c.value_ok.result c.args.out _ (c.value_ok.ensures ∙ ap (λ u. value_ok u c.args.k) c.takes_value.ensures) c.if-not-value_ok.false-raw refl)

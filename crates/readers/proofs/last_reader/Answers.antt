@@ -13,10 +13,10 @@ pub row_at-requires : goal.row_at-requires
 row_at-requires c = omega arith
 
 pub reads-requires : goal.reads-requires
-reads-requires c = c.row_at_lem.ensures.1
+reads-requires c = c.row_at.ensures.1
 
 pub returns-then-reads : goal.returns-then-reads
-returns-then-reads c = let a = c.args in let l = c.loop-i in let q = c.row_at_lem.result.now in (Rounds.last_found a.s a.n a.state.now q l.i (omega arith) (omega arith) c.row_at_lem.ensures.0 l.invariant.1 (sym c.reads.ensures ∙ c.if-reads.true), omega arith)
+returns-then-reads c = let a = c.args in let l = c.loop-i in let q = c.row_at.result.now in (Rounds.last_found a.s a.n a.state.now q l.i (omega arith) (omega arith) c.row_at.ensures.0 l.invariant.1 (sym c.reads.ensures ∙ c.if-reads.true), omega arith)
 
 pub overflow_sub-i-in-loop-i : goal.overflow_sub-i-in-loop-i
 overflow_sub-i-in-loop-i c = omega arith
@@ -25,7 +25,7 @@ pub loop-i-smaller : goal.loop-i-smaller
 loop-i-smaller c = omega arith
 
 pub loop-i-preserved : goal.loop-i-preserved
-loop-i-preserved c = let a = c.args in let l = c.loop-i in let q = c.row_at_lem.result.now in (omega arith, Rounds.last_turn a.s a.n a.state.now q l.i (omega arith) (omega arith) c.row_at_lem.ensures.0 l.invariant.1 (sym c.reads.ensures ∙ c.if-reads.false))
+loop-i-preserved c = let a = c.args in let l = c.loop-i in let q = c.row_at.result.now in (omega arith, Rounds.last_turn a.s a.n a.state.now q l.i (omega arith) (omega arith) c.row_at.ensures.0 l.invariant.1 (sym c.reads.ensures ∙ c.if-reads.false))
 
 pub returns : goal.returns
 returns c = let a = c.args in let l = c.loop-i in (Rounds.last_end a.s a.n l.i a.state.now (omega arith) l.invariant.1, omega arith)

@@ -19,4 +19,4 @@ pub returns-in-2 : goal.returns-in-2
 returns-in-2 c = let e : collecting (stream_in c.args.block.now) ≡ call_in c.args.block.now c.args.command = sym (call_2 c.args.block.now c.args.command c.in-2.is) in let h = c.collect.ensures in (h.0 ∙ ap (λ (k : Call). (reply_in k c.args.state.now).number) e, (h.1.0 ∙ ap (λ (k : Call). (reply_in k c.args.state.now).buffer) e, (h.1.1.0 ∙ ap₂ (λ (y : ℕ) (k : Call). answered y (reply_in k c.args.state.now) c.args.block.now) (sym c.in-2.is) e, h.1.1.1)))
 
 pub returns-in_default : goal.returns-in_default
-returns-in_default c = let d = c.in-1.rest in let e : running 64 ≡ call_in c.args.block.now c.args.command = sym (call_3 c.args.block.now c.args.command d.0.1 d.1) in let h = c.run.ensures in (sym (run_done 64 c.args.state.now) ∙ ap (λ (k : Call). (reply_in k c.args.state.now).number) e, (h.1.0 ∙ ap (λ (k : Call). (reply_in k c.args.state.now).buffer) e, (sym (answered_other c.args.block.now c.args.command (reply_in (call_in c.args.block.now c.args.command) c.args.state.now) d.1), h.1.1)))
+returns-in_default c = let d = c.in_default.in_default-own.rest in let e : running 64 ≡ call_in c.args.block.now c.args.command = sym (call_3 c.args.block.now c.args.command d.0.1 d.1) in let h = c.run.ensures in (sym (run_done 64 c.args.state.now) ∙ ap (λ (k : Call). (reply_in k c.args.state.now).number) e, (h.1.0 ∙ ap (λ (k : Call). (reply_in k c.args.state.now).buffer) e, (sym (answered_other c.args.block.now c.args.command (reply_in (call_in c.args.block.now c.args.command) c.args.state.now) d.1), h.1.1)))

@@ -14,7 +14,7 @@ pub returns-in-1-to-3 : goal.returns-in-1-to-3
 returns-in-1-to-3 c = by_command c.args.state.now c.args.block.now c.args.at c.args.byte (omega arith) c.command.result c.command.new.block c.command.new.state c.in-16.is (is_command_lem c.args.byte (omega arith) (omega arith)) c.command.ensures
 
 pub returns-in_default-byte : goal.returns-in_default-byte
-returns-in_default-byte c = by_refused c.args.state.now c.args.block.now c.args.at c.args.byte (omega arith) c.refuse.result c.refuse.new.block (write_none c.args.state.now c.args.block.now c.args.at c.args.byte (omega arith) c.in-16.is (no_command c.args.byte (λ l h. ⊎_elim (λ t. let y = t.taken in omega arith) (λ t. let y = t.1.left in omega arith) c.if-byte-lt1.branch))) c.refuse.ensures.0 c.refuse.ensures.1
+returns-in_default-byte c = by_refused c.args.state.now c.args.block.now c.args.at c.args.byte (omega arith) c.refuse.result c.refuse.new.block (write_none c.args.state.now c.args.block.now c.args.at c.args.byte (omega arith) c.in-16.is (no_command c.args.byte (λ l h. ⊎_elim (λ t. let y = t.taken in omega arith) (λ t. let y = t.1.left in omega arith) c.in_default-byte.branch))) c.refuse.ensures.0 c.refuse.ensures.1
 
 pub returns-in-18 : goal.returns-in-18
 returns-in-18 c = by_stored c.args.state.now c.args.block.now c.args.at c.args.byte (omega arith) c.clear.new.block (set c.args.block.now flags_at (cleared (flags_in c.args.block.now) c.args.byte)) (write_flags c.args.state.now c.args.block.now c.args.at c.args.byte (omega arith) c.in-18.is) c.clear.ensures
@@ -26,4 +26,4 @@ pub returns-in-0-to-15 : goal.returns-in-0-to-15
 returns-in-0-to-15 c = by_stored c.args.state.now c.args.block.now c.args.at c.args.byte (omega arith) c.store-in-0-to-15.new.block (set c.args.block.now c.args.at c.args.byte) (write_low c.args.state.now c.args.block.now c.args.at c.args.byte (omega arith) (omega arith)) c.store-in-0-to-15.ensures
 
 pub returns-in_default : goal.returns-in_default
-returns-in_default c = let d = c.in-16.rest in by_refused c.args.state.now c.args.block.now c.args.at c.args.byte (omega arith) c.refuse-in_default.result c.refuse-in_default.new.block (write_other c.args.state.now c.args.block.now c.args.at c.args.byte (omega arith) (omega arith) d.0.0.1 d.0.1 d.1) c.refuse-in_default.ensures.0 c.refuse-in_default.ensures.1
+returns-in_default c = let d = c.in_default.in_default-own.rest in by_refused c.args.state.now c.args.block.now c.args.at c.args.byte (omega arith) c.refuse-in_default.result c.refuse-in_default.new.block (write_other c.args.state.now c.args.block.now c.args.at c.args.byte (omega arith) (omega arith) d.0.0.1 d.0.1 d.1) c.refuse-in_default.ensures.0 c.refuse-in_default.ensures.1

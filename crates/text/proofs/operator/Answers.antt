@@ -126,4 +126,4 @@ returns-in-2019650935 c = sym (ap number_packed c.in-2019650935.is)
 
 pub returns-in_default : goal.returns-in_default
 unfolding pack
-returns-in_default c = no_operator_lem c.args.code c.in-28265.rest
+returns-in_default c = no_operator_lem c.args.code c.in_default.in_default-own.rest

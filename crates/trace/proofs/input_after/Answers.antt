@@ -13,4 +13,4 @@ returns-in_default-skip c = rw (sym c.skip.ensures ∙ c.in_default.is, sym c.sk
 
 pub returns : goal.returns
 unfolding input_after
-returns c = c.bound_after_lem.ensures ∙ rw (sym c.skip.ensures ∙ c.in_default.is, sym c.skip-2.ensures ∙ c.in-Past-skip.is)
+returns c = c.bound_after.ensures ∙ rw (sym c.skip.ensures ∙ c.in_default.is, sym c.skip-2.ensures ∙ c.in-Past-skip.is)

@@ -11,12 +11,12 @@ use Rattle.valid.proofs.plan_ok.Goals as goal
 
 pub returns-then-not-is_present : goal.returns-then-not-is_present
 unfolding plan_ok
-returns-then-not-is_present c = let r = dec_raw c.args.r.now in stop (is_operator (num op_f r)) c.is_present.result ((fields_ok c.args.n (num op_f r) (num a_f r) (num b_f r) (num k_f r) (num out_f r)) && (width_ok (num op_f r) (num k_f r))) (c.is_present.ensures ∙ ap is_present (c.group_of_lem.ensures ∙ ap group_of c.byte_at-op.ensures.0)) c.if-not-is_present.true-raw
+returns-then-not-is_present c = let r = dec_raw c.args.r.now in stop (is_operator (num op_f r)) c.is_present.result ((fields_ok c.args.n (num op_f r) (num a_f r) (num b_f r) (num k_f r) (num out_f r)) && (width_ok (num op_f r) (num k_f r))) (c.is_present.ensures ∙ ap is_present (c.group_of.ensures ∙ ap group_of c.byte_at-op.ensures.0)) c.if-not-is_present.true-raw
 
 pub returns-then-not-fields_ok : goal.returns-then-not-fields_ok
 unfolding plan_ok
-returns-then-not-fields_ok c = let r = dec_raw c.args.r.now in pass (is_operator (num op_f r)) c.is_present.result ((fields_ok c.args.n (num op_f r) (num a_f r) (num b_f r) (num k_f r) (num out_f r)) && (width_ok (num op_f r) (num k_f r))) _ (c.is_present.ensures ∙ ap is_present (c.group_of_lem.ensures ∙ ap group_of c.byte_at-op.ensures.0)) c.if-not-is_present.false-raw (stop (fields_ok c.args.n (num op_f r) (num a_f r) (num b_f r) (num k_f r) (num out_f r)) c.fields_ok.result (width_ok (num op_f r) (num k_f r)) (c.fields_ok.ensures ∙ (λ i. fields_ok c.args.n (c.byte_at-op.ensures.0 i) (c.byte_at-a.ensures.0 i) (c.byte_at-b.ensures.0 i) (c.word_at-k.ensures i) (c.byte_at-out.ensures.0 i))) c.if-not-fields_ok.true-raw)
+returns-then-not-fields_ok c = let r = dec_raw c.args.r.now in pass (is_operator (num op_f r)) c.is_present.result ((fields_ok c.args.n (num op_f r) (num a_f r) (num b_f r) (num k_f r) (num out_f r)) && (width_ok (num op_f r) (num k_f r))) _ (c.is_present.ensures ∙ ap is_present (c.group_of.ensures ∙ ap group_of c.byte_at-op.ensures.0)) c.if-not-is_present.false-raw (stop (fields_ok c.args.n (num op_f r) (num a_f r) (num b_f r) (num k_f r) (num out_f r)) c.fields_ok.result (width_ok (num op_f r) (num k_f r)) (c.fields_ok.ensures ∙ (λ i. fields_ok c.args.n (c.byte_at-op.ensures.0 i) (c.byte_at-a.ensures.0 i) (c.byte_at-b.ensures.0 i) (c.word_at-k.ensures i) (c.byte_at-out.ensures.0 i))) c.if-not-fields_ok.true-raw)
 
 pub returns : goal.returns
 unfolding plan_ok
-returns c = let r = dec_raw c.args.r.now in pass (is_operator (num op_f r)) c.is_present.result ((fields_ok c.args.n (num op_f r) (num a_f r) (num b_f r) (num k_f r) (num out_f r)) && (width_ok (num op_f r) (num k_f r))) _ (c.is_present.ensures ∙ ap is_present (c.group_of_lem.ensures ∙ ap group_of c.byte_at-op.ensures.0)) c.if-not-is_present.false-raw (pass (fields_ok c.args.n (num op_f r) (num a_f r) (num b_f r) (num k_f r) (num out_f r)) c.fields_ok.result (width_ok (num op_f r) (num k_f r)) _ (c.fields_ok.ensures ∙ (λ i. fields_ok c.args.n (c.byte_at-op.ensures.0 i) (c.byte_at-a.ensures.0 i) (c.byte_at-b.ensures.0 i) (c.word_at-k.ensures i) (c.byte_at-out.ensures.0 i))) c.if-not-fields_ok.false-raw (c.width_ok.ensures ∙ (λ i. width_ok (c.byte_at-op.ensures.0 i) (c.word_at-k.ensures i))))
+returns c = let r = dec_raw c.args.r.now in pass (is_operator (num op_f r)) c.is_present.result ((fields_ok c.args.n (num op_f r) (num a_f r) (num b_f r) (num k_f r) (num out_f r)) && (width_ok (num op_f r) (num k_f r))) _ (c.is_present.ensures ∙ ap is_present (c.group_of.ensures ∙ ap group_of c.byte_at-op.ensures.0)) c.if-not-is_present.false-raw (pass (fields_ok c.args.n (num op_f r) (num a_f r) (num b_f r) (num k_f r) (num out_f r)) c.fields_ok.result (width_ok (num op_f r) (num k_f r)) _ (c.fields_ok.ensures ∙ (λ i. fields_ok c.args.n (c.byte_at-op.ensures.0 i) (c.byte_at-a.ensures.0 i) (c.byte_at-b.ensures.0 i) (c.word_at-k.ensures i) (c.byte_at-out.ensures.0 i))) c.if-not-fields_ok.false-raw (c.width_ok.ensures ∙ (λ i. width_ok (c.byte_at-op.ensures.0 i) (c.word_at-k.ensures i))))

@@ -13,7 +13,7 @@ use Rattle.valid.proofs.sizes_ok.Goals as goal
 
 pub returns-then-not-fits : goal.returns-then-not-fits
 unfolding sizes_ok
-returns-then-not-fits c = let a = c.args in let r = dec_raw a.r.now in Tests.stop (leb (num count_f r) room) c.fits-2.result (leb (num bound_f r) horizon && ((next_ok (num out_f r) (num next_f r) (num bound_f r)) && (eqb (num small_f r) 0 && counts_ok r))) (c.fits-2.ensures ∙ ap (λ (x : ℕ). leb x room) (c.new.ensures ∙ c.byte_at-count.ensures.0)) c.if-not-fits.true-raw
+returns-then-not-fits c = let a = c.args in let r = dec_raw a.r.now in Tests.stop (leb (num count_f r) room) c.fits2.result (leb (num bound_f r) horizon && ((next_ok (num out_f r) (num next_f r) (num bound_f r)) && (eqb (num small_f r) 0 && counts_ok r))) (c.fits2.ensures ∙ ap (λ (x : ℕ). leb x room) (c.new.ensures ∙ c.byte_at-count.ensures.0)) c.if-not-fits.true-raw
 
 pub returns-then-not-fits-2 : goal.returns-then-not-fits-2
 unfolding sizes_ok

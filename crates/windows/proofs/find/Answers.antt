@@ -31,7 +31,7 @@ pub value-x-requires : goal.value-x-requires
 value-x-requires c = (omega arith, omega arith, omega arith, omega arith, omega arith, omega arith)
 
 pub returns-in-Value : goal.returns-in-Value
-returns-in-Value c = let a = c.args in let r = dec_raw a.a.now in let l = c.loop-i in let held = c.count-count.result in let s = c.first_from-first.result in let w = kept a.n a.w.now in let all = slots_many a.a.now in let words = slots_length a.a.now in let v = c.in-Value.v in ap (event c.stamp_at-stamp.result) (to_z-of_z {w = w64} {z = v} (record { sfits = c.known_told-1.given.0.1 })) ∙ fit_hit (folding a.f) a.k a.hi s l.i held w r (omega arith) (omega arith) (omega arith) (omega arith) c.stamp_at-stamp.result c.stamp_at-stamp.ensures.0 (omega arith) (as_option c.value-x.result) c.value-x.ensures v (ap as_option c.in-Value.is) ∙ l.invariant.3
+returns-in-Value c = let a = c.args in let r = dec_raw a.a.now in let l = c.loop-i in let held = c.count-count.result in let s = c.first_from-first.result in let w = kept a.n a.w.now in let all = slots_many a.a.now in let words = slots_length a.a.now in let v = c.in-Value.v in ap (event c.stamp_at-stamp.result) (to_z-of_z {w = w64} {z = v} (record { sfits = c.in-Value.known_told-1-own.given.0.1 })) ∙ fit_hit (folding a.f) a.k a.hi s l.i held w r (omega arith) (omega arith) (omega arith) (omega arith) c.stamp_at-stamp.result c.stamp_at-stamp.ensures.0 (omega arith) (as_option c.value-x.result) c.value-x.ensures v (ap as_option c.in-Value.is) ∙ l.invariant.3
 
 pub loop-i-smaller : goal.loop-i-smaller
 loop-i-smaller c = omega arith

@@ -15,7 +15,7 @@ pub row_at-requires : goal.row_at-requires
 row_at-requires c = omega arith
 
 pub put_stream-p-requires : goal.put_stream-p-requires
-put_stream-p-requires c = (c.row_at_lem.ensures.1, omega (arith, c.requires.1, c.loop-i.invariant.1, c.loop-i.invariant.2, rest_length c.args.n c.args.state.now c.loop-i.i _ (omega arith) c.row_at_lem.ensures.0))
+put_stream-p-requires c = (c.row_at.ensures.1, omega (arith, c.requires.1, c.loop-i.invariant.1, c.loop-i.invariant.2, rest_length c.args.n c.args.state.now c.loop-i.i _ (omega arith) c.row_at.ensures.0))
 
 pub overflow_add-i : goal.overflow_add-i
 overflow_add-i c = omega arith
@@ -24,7 +24,7 @@ pub loop-i-smaller : goal.loop-i-smaller
 loop-i-smaller c = omega arith
 
 pub loop-i-preserved : goal.loop-i-preserved
-loop-i-preserved c = (omega arith, omega (arith, c.loop-i.invariant.1, c.put_stream-p.ensures.past, rest_length c.args.n c.args.state.now c.loop-i.i _ (omega arith) c.row_at_lem.ensures.0), put_length c.put_stream-p.ensures ∙ c.loop-i.invariant.2, rest_put c.args.n c.args.state.now c.loop-i.i c.loop-i.p _ _ c.loop-i.out _ _ (omega arith) c.row_at_lem.ensures.0 c.put_stream-p.ensures c.loop-i.invariant.3)
+loop-i-preserved c = (omega arith, omega (arith, c.loop-i.invariant.1, c.put_stream-p.ensures.past, rest_length c.args.n c.args.state.now c.loop-i.i _ (omega arith) c.row_at.ensures.0), put_length c.put_stream-p.ensures ∙ c.loop-i.invariant.2, rest_put c.args.n c.args.state.now c.loop-i.i c.loop-i.p _ _ c.loop-i.out _ _ (omega arith) c.row_at.ensures.0 c.put_stream-p.ensures c.loop-i.invariant.3)
 
 pub returns : goal.returns
 returns c = let e = rest_none c.args.n c.args.state.now c.loop-i.i (omega arith) in record { bytes = ap (sets c.loop-i.out c.loop-i.p) (sym e) ∙ c.loop-i.invariant.3; past = omega (arith, c.loop-i.invariant.1, ap (length {A = ℕ}) e) }
