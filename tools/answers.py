@@ -81,7 +81,9 @@ def turn_paths(text, names, report, at=None):
                     arms.append((norm(old), path, step + "." + field))
     arms.sort(key=lambda a: -len(a[1]))
 
-    roots = {"c"} | set(re.findall(r"let ([\w'₀-₉]+) = c in", text))
+    roots = {"c"}
+    for _ in range(4):
+        roots |= {a for a, b in re.findall(r"let ([\w'₀-₉]+) = ([\w'₀-₉]+) in", text) if b in roots}
 
     def one(m):
         if m[1] not in roots:
