@@ -59,6 +59,7 @@ def turn_paths(text, names, report, at=None):
     """Paths of an answer: no .before, steps by their new names, and what an arm of a match says by its fields."""
     text = re.sub(r"(\.before)+(?![\w-])", "", text)
     text = re.sub(r"(?<=\.)(\w+)_lem(?![\w-])", r"\1", text)
+    text = re.sub(r"(?<=\.)([A-Z])([a-z]+-[a-z])", lambda m: m[1].lower() + m[2], text)
     fields, lent, inner = {}, {}, {}
     chain = chain_of(names, at) if at else list(zip(names["places"], names["arms"]))
     for place, _ in chain:
@@ -273,7 +274,7 @@ def turn(crate, function, path, names):
     if invariants:
         t = "\n".join(invariants)
         with open(os.path.join(folder, "Invariants.antt"), "w", encoding="utf-8") as f:
-            f.write("\n".join(comment + imports_for(imports, t) + ["use %s.Given as goal" % module]) + "\n" + t + "\n")
+            f.write("\n".join(comment + imports_for(imports, t) + [u for u in plain if re.search(r"(?<![\w.])%s\." % re.escape(u.split()[-1]), t)] + ["use %s.Given as goal" % module]) + "\n" + t + "\n")
     if answers:
         t = "\n".join(helpers + answers)
         with open(os.path.join(folder, "Answers.antt"), "w", encoding="utf-8") as f:

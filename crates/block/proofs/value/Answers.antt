@@ -6,4 +6,4 @@ use mir.Facts.{to_z-of_z}
 use Rattle.block.proofs.value.Goals as goal
 
 pub returns : goal.returns
-returns c = to_z-of_z {w = w64} {z = c.of_bits.result} (record { sfits = c.of_bits.type-inv }) ∙ c.of_bits.ensures ∙ ap (to_z w64) c.get.ensures.0
+returns c = to_z-of_z {w = w64} {z = c.of_bits.result} (record { sfits = c.of_bits.type_inv }) ∙ c.of_bits.ensures ∙ ap (to_z w64) c.get.ensures.0

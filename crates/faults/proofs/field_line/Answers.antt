@@ -14,8 +14,8 @@ returns-in_default-field c = (rw (sym c.field.ensures ∙ c.in-Number.is, sym c.
 
 pub returns-in_default-value_line : goal.returns-in_default-value_line
 unfolding field_line
-returns-in_default-value_line c = (rw (sym c.field.ensures ∙ c.in-Number.is, sym c.field-2.ensures ∙ c.in-Number-field.is, sym c.Value-line.ensures ∙ c.in_default-value_line.is), lit< tt)
+returns-in_default-value_line c = (rw (sym c.field.ensures ∙ c.in-Number.is, sym c.field-2.ensures ∙ c.in-Number-field.is, sym c.value_line.ensures ∙ c.in_default-value_line.is), lit< tt)
 
 pub returns : goal.returns
 unfolding field_line
-returns c = (rw (sym c.field.ensures ∙ c.in-Number.is, sym c.field-2.ensures ∙ c.in-Number-field.is, sym c.Value-line.ensures ∙ c.in-Number-value_line.is), lit< tt)
+returns c = (rw (sym c.field.ensures ∙ c.in-Number.is, sym c.field-2.ensures ∙ c.in-Number-field.is, sym c.value_line.ensures ∙ c.in-Number-value_line.is), lit< tt)

@@ -4,6 +4,7 @@ use mathlib.Core.Path.{◌≡◌}
 use Rattle.layout.specs.Record.{dec_raw}
 use Rattle.meaning.specs.Events.{found}
 use Rattle.machine.specs.Reach.{past_latest}
+use Rattle.queue.proofs.Turns as turn
 use Rattle.queue.proofs.past_latest.Given as goal
 
 abbrev pub invariant-loop-i : goal.invariant-loop-i

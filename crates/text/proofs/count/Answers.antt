@@ -5,7 +5,7 @@ use borrow.Author.Tests.{not-true, not-false}
 use Rattle.text.proofs.count.Goals as goal
 
 pub returns-then-not-fits : goal.returns-then-not-fits
-returns-then-not-fits c = rw (sym (ap (count_fits c.args.most) c.new.ensures) ∙ sym c.fits2.ensures ∙ not-true c.fits2.result c.if-not-fits.true-raw)
+returns-then-not-fits c = rw (sym (ap (count_fits c.args.most) c.new.ensures) ∙ sym c.fits.ensures ∙ not-true c.fits.result c.if-not-fits.true-raw)
 
 pub returns : goal.returns
-returns c = rw (sym (ap (count_fits c.args.most) c.new.ensures) ∙ sym c.fits2.ensures ∙ not-false c.fits2.result c.if-not-fits.false-raw)
+returns c = rw (sym (ap (count_fits c.args.most) c.new.ensures) ∙ sym c.fits.ensures ∙ not-false c.fits.result c.if-not-fits.false-raw)

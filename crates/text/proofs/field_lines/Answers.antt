@@ -13,12 +13,12 @@ returns-in_default-field c = rw (sym c.field.ensures ∙ c.in-Number.is, sym c.f
 
 pub returns-in_default-value_line : goal.returns-in_default-value_line
 unfolding fields_after
-returns-in_default-value_line c = rw (sym c.field.ensures ∙ c.in-Number.is, sym c.field-2.ensures ∙ c.in-Number-field.is, sym c.Value-line.ensures ∙ c.in_default-value_line.is)
+returns-in_default-value_line c = rw (sym c.field.ensures ∙ c.in-Number.is, sym c.field-2.ensures ∙ c.in-Number-field.is, sym c.value_line.ensures ∙ c.in_default-value_line.is)
 
 pub returns-in_default-out_line : goal.returns-in_default-out_line
 unfolding fields_after
-returns-in_default-out_line c = rw (sym c.field.ensures ∙ c.in-Number.is, sym c.field-2.ensures ∙ c.in-Number-field.is, sym c.Value-line.ensures ∙ c.in-Number-value_line.is, sym c.out_line.ensures ∙ c.in_default-out_line.is)
+returns-in_default-out_line c = rw (sym c.field.ensures ∙ c.in-Number.is, sym c.field-2.ensures ∙ c.in-Number-field.is, sym c.value_line.ensures ∙ c.in-Number-value_line.is, sym c.out_line.ensures ∙ c.in_default-out_line.is)
 
 pub returns : goal.returns
 unfolding fields_after
-returns c = rw (sym c.field.ensures ∙ c.in-Number.is, sym c.field-2.ensures ∙ c.in-Number-field.is, sym c.Value-line.ensures ∙ c.in-Number-value_line.is, sym c.out_line.ensures ∙ c.in-Number-out_line.is)
+returns c = rw (sym c.field.ensures ∙ c.in-Number.is, sym c.field-2.ensures ∙ c.in-Number-field.is, sym c.value_line.ensures ∙ c.in-Number-value_line.is, sym c.out_line.ensures ∙ c.in-Number-out_line.is)
