@@ -8,4 +8,4 @@ pub returns-then-has-eq0 : goal.returns-then-has-eq0
 returns-then-has-eq0 c = law.optional_none c.args.has c.args.bits c.if-has-eq0.true
 
 pub returns : goal.returns
-returns c = ap some (to_z-of_z (record { sfits = c.of_bits.type_inv }) ∙ c.of_bits.ensures) ∙ law.optional_some c.args.has c.args.bits c.if-has-eq0.false
+returns c = ap some (to_z-of_z {w = w64} (record { sfits = c.of_bits.type_inv }) ∙ c.of_bits.ensures) ∙ law.optional_some c.args.has c.args.bits c.if-has-eq0.false
