@@ -13,7 +13,7 @@ pub loop-i-init : goal.loop-i-init
 loop-i-init c = (c.requires.1, refl, c.requires.2)
 
 pub move_one-requires : goal.move_one-requires
-move_one-requires c = let a = c.args in let s = a.state.now in let n = a.n in let h = c.requires.0 in let l = c.loop-i in let f = In.area_for s (λ j. omega (arith, c.slice_known-1.given j)) n h in (rw (ap length l.invariant.1) f, omega arith)
+move_one-requires c = let a = c.args in let s = a.state.now in let n = a.n in let h = c.requires.0 in let l = c.loop-i in let f = In.area_for_lem s (λ j. omega (arith, c.slice_known-1.given j)) n h in (rw (ap length l.invariant.1) f, omega arith)
 
 pub returns-then-move_one : goal.returns-then-move_one
 returns-then-move_one c = let a = c.args in let s = a.state.now in let n = a.n in let h = c.requires.0 in let l = c.loop-i in inl (omega arith, Turns.turn_moved s (λ j. omega (arith, c.slice_known-1.given j)) n h l.state c.move_one.new.state l.invariant.1 c.move_one.result l.i (omega arith) c.move_one.ensures.0 c.move_one.ensures.1 c.if-move_one.true l.invariant.2)

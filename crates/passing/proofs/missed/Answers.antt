@@ -1,4 +1,5 @@
 -- `passing::missed` meets its contract.
+use borrow.Enum.Refused.{opened}
 use mathlib.Core.Path.{◌≡◌, sym, ap, ◌∙◌}
 use Rattle.meaning.specs.Plan.{nil}
 use Rattle.meaning.specs.Arguments.{arg_a, arg_b}
@@ -24,4 +25,4 @@ unfolding value_of look_of to_cell
 returns-in-Window c = let n = c.args.n in let s = c.args.state.now in let st = decode n s in let ew = c.width_of.ensures.0 ∙ ap width_in (back c.in-Window.w (omega arith)) in let ea = c.argument.ensures.0 in ((λ q. c.summed.ensures.0 q ∙ (λ z. summed_for q (folding c.in-Window.f) (missing_row (ew z) c.args.i c.args.y c.args.x (held_of (row_at st (ea z))) st)) ∙ ap (λ (o : Op). missed_raw q n c.args.i (equation o) (kept_in c.args.k) c.args.y c.args.x st) (sym c.in-Window.is)), omega arith, omega arith)
 
 pub returns : goal.returns
-returns c = let n = c.args.n in let s = c.args.state.now in let st = decode n s in let e = equation c.args.op in let ma : dec_raw c.row_at-a.result.now ≡ row_at st (arg_in n (arg_a e)) = record_row n s c.row_at-a.result.now c.argument-2.result (omega arith) c.row_at-a.ensures.0 ∙ ap (row_at st) (c.argument-2.ensures.0 ∙ ap (arg_in n) c.first.ensures) in let mb : dec_raw c.row_at-b.result.now ≡ row_at st (arg_in n (arg_b e)) = record_row n s c.row_at-b.result.now c.argument-3.result (omega arith) c.row_at-b.ensures.0 ∙ ap (row_at st) (c.argument-3.ensures.0 ∙ ap (arg_in n) c.second.ensures) in ((λ q. c.missed.ensures.0 q ∙ (λ j. tallied q (plain c.args.op) (own_cell nil c.args.y (kept_in c.args.k)) (arg_cell 0 (held_of (ma j))) (arg_cell 0 (held_of (mb j))) c.args.x) ∙ law.missed_other q n c.args.i c.args.op (kept_in c.args.k) c.args.y c.args.x st c.in_default.in_default-own.keys2), omega arith, omega arith)
+returns c = let n = c.args.n in let s = c.args.state.now in let st = decode n s in let e = equation c.args.op in let ma : dec_raw c.row_at-a.result.now ≡ row_at st (arg_in n (arg_a e)) = record_row n s c.row_at-a.result.now c.argument-2.result (omega arith) c.row_at-a.ensures.0 ∙ ap (row_at st) (c.argument-2.ensures.0 ∙ ap (arg_in n) c.first.ensures) in let mb : dec_raw c.row_at-b.result.now ≡ row_at st (arg_in n (arg_b e)) = record_row n s c.row_at-b.result.now c.argument-3.result (omega arith) c.row_at-b.ensures.0 ∙ ap (row_at st) (c.argument-3.ensures.0 ∙ ap (arg_in n) c.second.ensures) in ((λ q. c.missed.ensures.0 q ∙ (λ j. tallied q (plain c.args.op) (own_cell nil c.args.y (kept_in c.args.k)) (arg_cell 0 (held_of (ma j))) (arg_cell 0 (held_of (mb j))) c.args.x) ∙ law.missed_other q n c.args.i c.args.op (kept_in c.args.k) c.args.y c.args.x st (opened c.in_default.in_default-own.keys2)), omega arith, omega arith)

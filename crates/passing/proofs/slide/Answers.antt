@@ -1,4 +1,5 @@
 -- `passing::slide` meets its contract.
+use borrow.Enum.Refused.{opened}
 use mathlib.Core.Path.{sym, ap, ◌∙◌}
 use Rattle.operators.specs.Operators.{value_of}
 use Rattle.layout.specs.Record.{encode, decode, row_at}
@@ -13,7 +14,7 @@ use Rattle.passing.proofs.Arms
 use Rattle.passing.proofs.slide.Goals as goal
 
 pub returns-in_default : goal.returns-in_default
-returns-in_default c = let a = c.args in let n = a.n in let s = a.state.now in let st = decode n s in Arms.slid_other n a.i a.op a.y a.x s c.in_default.in_default-own.keys2 (omega arith) (λ j. omega (arith, c.slice_known-1.given j))
+returns-in_default c = let a = c.args in let n = a.n in let s = a.state.now in let st = decode n s in Arms.slid_other n a.i a.op a.y a.x s (opened c.in_default.in_default-own.keys2) (omega arith) (λ j. omega (arith, c.slice_known-1.given j))
 
 pub returns : goal.returns
 unfolding value_of look_of to_cell slid_raw

@@ -1,6 +1,7 @@
 -- `valid::kept_ok` meets its contract.
 use mathlib.Core.Path.{◌≡◌, sym, ap, ◌∙◌}
 use mathlib.Core.Bool.{true, false}
+use borrow.Enum.Refused.{opened}
 use Rattle.layout.specs.Record.{dec_raw, num, op_f}
 use Rattle.operators.specs.Operators.{group_of, is_last, is_delay, is_signal, is_window}
 use Rattle.operators.proofs.Arms.{keepless}
@@ -25,4 +26,4 @@ returns-in-Window c = let r = dec_raw c.args.r.now in let g = sym (c.group_of.en
 
 pub returns-in_default : goal.returns-in_default
 unfolding kept_ok
-returns-in_default c = let r = dec_raw c.args.r.now in let g = sym (c.group_of.ensures ∙ ap group_of c.byte_at-op.ensures.0) in let n = keepless c.group_of.result c.in_default.in_default-own.keys5 in let l : is_last (group_of (num op_f r)) ≡ false = ap is_last g ∙ n.0 in let d : is_delay (group_of (num op_f r)) ≡ false = ap is_delay g ∙ n.1.0 in let x : is_signal (group_of (num op_f r)) ≡ false = ap is_signal g ∙ n.1.1.0 in let w : is_window (group_of (num op_f r)) ≡ false = ap is_window g ∙ n.1.1.1 in c.none_ok.ensures ∙ sym (rw (l, d, x, w))
+returns-in_default c = let r = dec_raw c.args.r.now in let g = sym (c.group_of.ensures ∙ ap group_of c.byte_at-op.ensures.0) in let n = keepless c.group_of.result (opened c.in_default.in_default-own.keys5) in let l : is_last (group_of (num op_f r)) ≡ false = ap is_last g ∙ n.0 in let d : is_delay (group_of (num op_f r)) ≡ false = ap is_delay g ∙ n.1.0 in let x : is_signal (group_of (num op_f r)) ≡ false = ap is_signal g ∙ n.1.1.0 in let w : is_window (group_of (num op_f r)) ≡ false = ap is_window g ∙ n.1.1.1 in c.none_ok.ensures ∙ sym (rw (l, d, x, w))
