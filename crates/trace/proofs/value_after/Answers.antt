@@ -1,5 +1,6 @@
 -- `trace::value_after` meets its contract.
 use mir.Facts.{to_z-of_z}
+use mir.Syntax.{w64}
 use Rattle.trace.specs.declared.Record.TheVariants.{Reading}
 use Rattle.trace.specs.declared.Line.TheVariants.{Read}
 use mathlib.Core.Path.{sym, ap, ◌∙◌}
@@ -20,4 +21,4 @@ returns-in_default-skip c = rw (sym c.skip.ensures ∙ c.in-Past.is, sym c.signe
 
 pub returns : goal.returns
 unfolding value_after
-returns c = ap (λ v. Read (Reading c.args.stream c.args.stamp v) c.in-Past-skip.next) (to_z-of_z (record { sfits = c.of_bits-value.type_inv }) ∙ c.of_bits-value.ensures) ∙ rw (sym c.skip.ensures ∙ c.in-Past.is, sym c.signed.ensures ∙ c.in-Number.is, sym c.skip-2.ensures ∙ c.in-Past-skip.is)
+returns c = ap (λ v. Read (Reading c.args.stream c.args.stamp v) c.in-Past-skip.next) (to_z-of_z {w = w64} (record { sfits = c.of_bits-value.type_inv }) ∙ c.of_bits-value.ensures) ∙ rw (sym c.skip.ensures ∙ c.in-Past.is, sym c.signed.ensures ∙ c.in-Number.is, sym c.skip-2.ensures ∙ c.in-Past-skip.is)
