@@ -1,6 +1,6 @@
 // Runs every operation on all pairs of edge values and prints each answer: a value, `outside` or `zero`.
 #![tactic(auto)]
-use libc::STDOUT_FILENO;
+
 use num::Answer;
 
 const EDGES: [i64; 25] = [
@@ -31,70 +31,64 @@ const EDGES: [i64; 25] = [
     9223372036854775807,
 ];
 
-fn print_value(v: i64) {
+fn print_value(rt: &impl Print, v: i64) {
     let u = num::bits(v);
     if u < 0x8000_0000_0000_0000 {
-        io::print_decimal(STDOUT_FILENO, u);
+        let _ = print!(rt; "{u}");
     } else {
-        io::write_all(STDOUT_FILENO, b"-");
-        io::print_decimal(STDOUT_FILENO, u64::MAX - u + 1);
+        let away = u64::MAX - u + 1;
+        let _ = print!(rt; "-{away}");
     }
 }
 
-fn print_answer(a: Answer) {
+fn print_answer(rt: &impl Print, a: Answer) {
     match a {
         Answer::Value(v) => {
-            io::write_all(STDOUT_FILENO, b" ");
-            print_value(v);
+            let _ = print!(rt; " ");
+            print_value(rt, v);
         }
         Answer::Outside => {
-            io::write_all(STDOUT_FILENO, b" outside");
+            let _ = print!(rt; " outside");
         }
         Answer::ZeroDivisor => {
-            io::write_all(STDOUT_FILENO, b" zero");
+            let _ = print!(rt; " zero");
         }
     }
 }
 
 // One line: x, y, and x add, sub, mul, div, rem, lt, le, eq y.
-fn print_pair(x: i64, y: i64) {
-    print_value(x);
-    io::write_all(STDOUT_FILENO, b" ");
-    print_value(y);
-    print_answer(num::add(x, y));
-    print_answer(num::sub(x, y));
-    print_answer(num::mul(x, y));
-    print_answer(num::div(x, y));
-    print_answer(num::rem(x, y));
-    print_answer(num::lt(x, y));
-    print_answer(num::le(x, y));
-    print_answer(num::eq(x, y));
-    io::write_all(STDOUT_FILENO, b"\n");
+fn print_pair(rt: &impl Print, x: i64, y: i64) {
+    print_value(rt, x);
+    let _ = print!(rt; " ");
+    print_value(rt, y);
+    print_answer(rt, num::add(x, y));
+    print_answer(rt, num::sub(x, y));
+    print_answer(rt, num::mul(x, y));
+    print_answer(rt, num::div(x, y));
+    print_answer(rt, num::rem(x, y));
+    print_answer(rt, num::lt(x, y));
+    print_answer(rt, num::le(x, y));
+    print_answer(rt, num::eq(x, y));
+    let _ = println!(rt);
 }
 
 // One line: x and its negation.
-fn print_neg(x: i64) {
-    print_value(x);
-    print_answer(num::neg(x));
-    io::write_all(STDOUT_FILENO, b"\n");
+fn print_neg(rt: &impl Print, x: i64) {
+    print_value(rt, x);
+    print_answer(rt, num::neg(x));
+    let _ = println!(rt);
 }
 
 // The line of x, then its line with each edge value.
-fn print_row(x: i64) {
-    print_neg(x);
-    let edges = EDGES;
-    let mut j: usize = 0;
-    while j < 25 {
-        print_pair(x, edges[j]);
-        j += 1;
+fn print_row(rt: &impl Print, x: i64) {
+    print_neg(rt, x);
+    for y in EDGES {
+        print_pair(rt, x, y);
     }
 }
 
-fn main() {
-    let edges = EDGES;
-    let mut i: usize = 0;
-    while i < 25 {
-        print_row(edges[i]);
-        i += 1;
+fn main(rt: HostRuntime) {
+    for x in EDGES {
+        print_row(&rt, x);
     }
 }
