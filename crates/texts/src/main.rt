@@ -2,9 +2,9 @@
 //
 // The table is standard input: a case is `#`, a line that says what it tries, and the text up to the next `#`.
 #![tactic(auto)]
+
 ghost use Rattle.std.specs.Prelude.{◌≤◌, length};
 
-use libc::{STDIN_FILENO, STDOUT_FILENO};
 use operators::Plan;
 
 // The position of the first byte b from a position on, or the table's length.
@@ -23,7 +23,7 @@ fn find(table: &[u8], b: u8, from: usize) -> usize
 }
 
 // Runs one case whose label starts at a position, and answers where the next case starts.
-fn one(table: &[u8], from: usize) -> usize
+fn one(rt: &impl Print, table: &[u8], from: usize) -> usize
     requires { from ≤ length table.now }
     ensures { (from ≤ result) × (result ≤ length table.now) }
 {
@@ -33,24 +33,21 @@ fn one(table: &[u8], from: usize) -> usize
     }
     let start = line + 1;
     let next = find(table, b'#', start);
-    io::print_decimal(
-        STDOUT_FILENO,
-        plan::number(&table[start..next], Plan::MOST) as u64,
-    );
-    io::write_all(STDOUT_FILENO, b" ");
-    io::write_all(STDOUT_FILENO, &table[from..start]);
+    let number = plan::number(&table[start..next], Plan::MOST);
+    let _ = print!(rt; "{number} ");
+    let _ = rt.write_all(&table[from..start]);
     next
 }
 
-fn run(table: &[u8]) {
+fn run(rt: &impl Print, table: &[u8]) {
     let mut at = find(table, b'#', 0);
     while at < table.len() {
-        at = one(table, at + 1);
+        at = one(rt, table, at + 1);
     }
 }
 
-fn main() {
-    let mut table = io::large_buffer();
-    let n = io::read_full(STDIN_FILENO, &mut table);
-    run(&table[..n]);
+fn main(rt: HostRuntime) {
+    let mut table = [0u8; 65536];
+    let n = intake::read_full(&mut rt.stdin(), &mut table);
+    run(&rt, &table[..n]);
 }
