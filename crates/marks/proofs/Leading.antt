@@ -132,9 +132,12 @@ module _ (plan : Plan) (g : List ℕ) (tied : Tied plan g (λ s. false)) (within
             subst (λ (k : List ℕ). On k z) (args_both g i m (λ d. omega arith)) (subst (On (marked y (marked x m))) (sym q) (marked_self y (marked x m) v))
 
         by : (es : List ℕ) → get_or g (3 * i) 0 ≡ how_of false es → Args es x y → Memᴰ z es → On (args_marked g i m) z
+        by [] e t h = elim h [ ]
         by (a ∷ []) e t (Memᴰ.head q) = first e (q ∙ sym t.0)
+        by (a ∷ []) e t (Memᴰ.tail x) = elim x [ ]
         by (a ∷ b ∷ []) e t (Memᴰ.head q) = first e (q ∙ sym t.0)
         by (a ∷ b ∷ []) e t (Memᴰ.tail (Memᴰ.head q)) = second e (q ∙ sym t.1)
+        by (a ∷ b ∷ []) e t (Memᴰ.tail (Memᴰ.tail x)) = elim x [ ]
         by (a ∷ b ∷ c ∷ es) e t h = absurd t
 
     -- one turn

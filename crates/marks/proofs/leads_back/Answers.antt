@@ -6,4 +6,4 @@ use Rattle.marks.specs.Marks.{Spread}
 use Rattle.marks.proofs.leads_back.Goals as goal
 
 pub returns : goal.returns
-returns c = record { marks = c.spread.new.marks; spread = subst (λ (l : List ℕ). Spread c.args.graph.now c.args.n l c.spread.new.marks) c.mark_arguments.ensures.0 c.spread.ensures; told = refl }
+returns c = record { marks = c.spread.new.marks; spread = subst (λ (l : List ℕ). Spread c.args.graph.now c.args.n l c.spread.new.marks) c.mark_arguments.ensures.marks_after c.spread.ensures; told = refl }

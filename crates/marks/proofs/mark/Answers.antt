@@ -4,10 +4,10 @@ use native.Mathlib.Omega.{arith}
 use Rattle.marks.proofs.mark.Goals as goal
 
 pub returns-then-marks-i : goal.returns-then-marks-i
-returns-then-marks-i c = (marked_out c.args.x c.args.marks.now (omega arith), grown_none c.args.marks.now)
+returns-then-marks-i c = record { marks_after = marked_out c.args.x c.args.marks.now (omega arith); grown = grown_none c.args.marks.now }
 
 pub returns-then-marks-i-ne0 : goal.returns-then-marks-i-ne0
-returns-then-marks-i-ne0 c = (marked_seen c.args.x c.args.marks.now c.if-marks-i-ne0.true, grown_none c.args.marks.now)
+returns-then-marks-i-ne0 c = record { marks_after = marked_seen c.args.x c.args.marks.now c.if-marks-i-ne0.true; grown = grown_none c.args.marks.now }
 
 pub returns : goal.returns
-returns c = (marked_new c.args.x c.args.marks.now c.if-marks-i-ne0.false, grown_new c.args.x c.args.marks.now (omega arith) c.if-marks-i-ne0.false)
+returns c = record { marks_after = marked_new c.args.x c.args.marks.now c.if-marks-i-ne0.false; grown = grown_new c.args.x c.args.marks.now (omega arith) c.if-marks-i-ne0.false }

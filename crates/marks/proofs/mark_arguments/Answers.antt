@@ -7,7 +7,7 @@ use Rattle.marks.proofs.Grown.{grown_none, grown_both, args_none, args_both}
 use Rattle.marks.proofs.mark_arguments.Goals as goal
 
 pub returns-then-graph-at-eq-BARE : goal.returns-then-graph-at-eq-BARE
-returns-then-graph-at-eq-BARE c = (args_none c.args.graph.now c.args.i c.args.marks.now c.if-graph-at-eq-BARE.true, grown_none c.args.marks.now)
+returns-then-graph-at-eq-BARE c = record { marks_after = args_none c.args.graph.now c.args.i c.args.marks.now c.if-graph-at-eq-BARE.true; grown = grown_none c.args.marks.now }
 
 pub returns : goal.returns
-returns c = (c.mark-second.ensures.0 ∙ ap (marked (get_or c.args.graph.now (3 * c.args.i + 2) 0)) c.mark-first.ensures.0 ∙ args_both c.args.graph.now c.args.i c.args.marks.now c.if-graph-at-eq-BARE.false, subst (Grown c.args.marks.now c.mark-second.new.marks) (sym c.either.ensures) (grown_both c.mark-first.result c.mark-second.result c.mark-first.ensures.1 c.mark-second.ensures.1))
+returns c = record { marks_after = c.mark-second.ensures.marks_after ∙ ap (marked (get_or c.args.graph.now (3 * c.args.i + 2) 0)) c.mark-first.ensures.marks_after ∙ args_both c.args.graph.now c.args.i c.args.marks.now c.if-graph-at-eq-BARE.false; grown = subst (Grown c.args.marks.now c.mark-second.new.marks) (sym c.either.ensures) (grown_both c.mark-first.result c.mark-second.result c.mark-first.ensures.grown c.mark-second.ensures.grown) }

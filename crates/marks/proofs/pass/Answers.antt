@@ -20,7 +20,7 @@ pub loop-i-smaller : goal.loop-i-smaller
 loop-i-smaller c = omega arith
 
 pub loop-i-preserved : goal.loop-i-preserved
-loop-i-preserved c = (omega arith, (passed_go c.args.graph.now c.args.n c.loop-i.i c.loop-i.marks (omega arith) c.turn-more.new.marks c.turn-more.ensures.0 ∙ c.loop-i.invariant.1.0, (subst (Grown c.args.marks.now c.turn-more.new.marks) (sym c.either-new.ensures) (grown_both c.loop-i.new c.turn-more.result c.loop-i.invariant.1.1.0 c.turn-more.ensures.1), c.turn-more.auto.1.1.0 ∙ c.loop-i.invariant.1.1.1)))
+loop-i-preserved c = (omega arith, (passed_go c.args.graph.now c.args.n c.loop-i.i c.loop-i.marks (omega arith) c.turn-more.new.marks c.turn-more.ensures.marks_after ∙ c.loop-i.invariant.1.0, (subst (Grown c.args.marks.now c.turn-more.new.marks) (sym c.either-new.ensures) (grown_both c.loop-i.new c.turn-more.result c.loop-i.invariant.1.1.0 c.turn-more.ensures.grown), c.turn-more.auto.marks ∙ c.loop-i.invariant.1.1.1)))
 
 pub returns : goal.returns
-returns c = (passed_end c.args.graph.now c.args.n c.loop-i.i c.loop-i.marks (omega arith) ∙ c.loop-i.invariant.1.0, c.loop-i.invariant.1.1.0)
+returns c = record { marks_after = passed_end c.args.graph.now c.args.n c.loop-i.i c.loop-i.marks (omega arith) ∙ c.loop-i.invariant.1.0; grown = c.loop-i.invariant.1.1.0 }

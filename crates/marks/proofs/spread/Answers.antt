@@ -12,10 +12,10 @@ pub pass-requires : goal.pass-requires
 pass-requires c = omega arith
 
 pub returns-then-not-pass : goal.returns-then-not-pass
-returns-then-not-pass c = spread_still c.args.graph.now c.args.n c.args.marks.now c.loop-n.marks c.pass.new.marks c.loop-n.invariant.0 c.pass.ensures.0 c.pass.result c.pass.ensures.1 c.if-not-pass.true-raw
+returns-then-not-pass c = spread_still c.args.graph.now c.args.n c.args.marks.now c.loop-n.marks c.pass.new.marks c.loop-n.invariant.0 c.pass.ensures.marks_after c.pass.result c.pass.ensures.grown c.if-not-pass.true-raw
 
 pub loop-n-smaller : goal.loop-n-smaller
-loop-n-smaller c = spread_fewer c.args.graph.now c.args.n c.args.marks.now c.loop-n.marks c.pass.new.marks c.loop-n.invariant.0 c.pass.ensures.0 c.pass.result c.pass.ensures.1 c.if-not-pass.false-raw
+loop-n-smaller c = spread_fewer c.args.graph.now c.args.n c.args.marks.now c.loop-n.marks c.pass.new.marks c.loop-n.invariant.0 c.pass.ensures.marks_after c.pass.result c.pass.ensures.grown c.if-not-pass.false-raw
 
 pub loop-n-preserved : goal.loop-n-preserved
-loop-n-preserved c = (spread_more c.args.graph.now c.args.n c.args.marks.now c.loop-n.marks c.pass.new.marks c.loop-n.invariant.0 c.pass.ensures.0, c.pass.auto.1.1.0 ∙ c.loop-n.invariant.1)
+loop-n-preserved c = (spread_more c.args.graph.now c.args.n c.args.marks.now c.loop-n.marks c.pass.new.marks c.loop-n.invariant.0 c.pass.ensures.marks_after, c.pass.auto.marks ∙ c.loop-n.invariant.1)

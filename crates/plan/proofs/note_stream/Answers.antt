@@ -9,7 +9,7 @@ use native.Mathlib.Omega.{arith}
 use Rattle.plan.proofs.note_stream.Goals as goal
 
 pub returns-then-not-keeps : goal.returns-then-not-keeps
-returns-then-not-keeps c = (sym (sym c.keeps.ensures ∙ not-true c.keeps.result c.if-not-keeps.true-raw), noted_broken c.args.n c.args.i c.args.f c.args.graph.now (sym c.keeps.ensures ∙ not-true c.keeps.result c.if-not-keeps.true-raw))
+returns-then-not-keeps c = record { value = sym (sym c.keeps.ensures ∙ not-true c.keeps.result c.if-not-keeps.true-raw); graph_after = noted_broken c.args.n c.args.i c.args.f c.args.graph.now (sym c.keeps.ensures ∙ not-true c.keeps.result c.if-not-keeps.true-raw) }
 
 pub overflow_cast-f : goal.overflow_cast-f
 overflow_cast-f c = omega (arith, arg_small (uses_a c.args.f.op) c.args.n c.args.f.a (first_ok c.args.n c.args.f.op c.args.f.a c.args.f.b c.args.f.k c.args.f.out (sym c.keeps.ensures ∙ not-false c.keeps.result c.if-not-keeps.false-raw)) 256 (lit< tt) (omega arith))
@@ -18,4 +18,4 @@ pub overflow_cast-f-2 : goal.overflow_cast-f-2
 overflow_cast-f-2 c = omega (arith, arg_small (uses_b c.args.f.op) c.args.n c.args.f.b (second_ok c.args.n c.args.f.op c.args.f.a c.args.f.b c.args.f.k c.args.f.out (sym c.keeps.ensures ∙ not-false c.keeps.result c.if-not-keeps.false-raw)) 256 (lit< tt) (omega arith))
 
 pub returns : goal.returns
-returns c = (sym (sym c.keeps.ensures ∙ not-false c.keeps.result c.if-not-keeps.false-raw), c.note.ensures ∙ noted_kept c.args.n c.args.i c.args.f c.args.graph.now (sym c.keeps.ensures ∙ not-false c.keeps.result c.if-not-keeps.false-raw))
+returns c = record { value = sym (sym c.keeps.ensures ∙ not-false c.keeps.result c.if-not-keeps.false-raw); graph_after = c.note.ensures ∙ noted_kept c.args.n c.args.i c.args.f c.args.graph.now (sym c.keeps.ensures ∙ not-false c.keeps.result c.if-not-keeps.false-raw) }

@@ -2,6 +2,7 @@
 use borrow.Enum.Refused.{opened}
 use mathlib.Core.Path.{◌≡◌, sym, ap, ◌∙◌}
 use mathlib.Core.Bool.{true, false}
+use borrow.Enum.Refused.{opened}
 use Rattle.layout.specs.Record.{dec_raw, num, op_f}
 use Rattle.operators.specs.Operators.{group_of, is_last, is_delay, is_signal, is_window}
 use Rattle.operators.proofs.Arms.{keepless}
