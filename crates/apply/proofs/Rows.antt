@@ -25,7 +25,7 @@ use Rattle.apply.specs.Named.{unary, calculation, binary}
 
 -- a value that passed through its bits
 pub back : (z : ℤ) → mag z < 2 ^ 63 → to_z w64 (of_z w64 z) ≡ z
-back z h = to_z-of_z (record { sfits = h })
+back z h = to_z-of_z {w = w64} (record { sfits = h })
 
 -- a call on two values, passed as their bits
 pub called : (f : ℤ → ℤ → Answer) {v w : ℤ} {r : Answer} → SFits w64 v → SFits w64 w → r ≡ f (to_z w64 (of_z w64 v)) (to_z w64 (of_z w64 w)) → r ≡ f v w

@@ -34,8 +34,11 @@ beside = one neg 1 ∷ one neg 2 ∷ one time 1 ∷ []
 
 not_first : (s a : ℕ) → Memᴰ a (undelayed (eqn_at beside s)) → 0 < a
 not_first zero a (Memᴰ.head e) = omega arith
+not_first zero a (Memᴰ.tail x) = elim x [ ]
 not_first (suc zero) a (Memᴰ.head e) = omega arith
+not_first (suc zero) a (Memᴰ.tail x) = elim x [ ]
 not_first (suc (suc zero)) a (Memᴰ.head e) = omega arith
+not_first (suc (suc zero)) a (Memᴰ.tail x) = elim x [ ]
 not_first (suc (suc (suc s))) a m = absurd (Memᴰ.not-nil m)
 
 never_first : {s z : ℕ} → Leads beside s z → 0 < z

@@ -13,13 +13,13 @@ told : (cap : ℕ) (s : List ℕ) (f : Fault) → Found cap s f → (f.number �
 told cap s f h = (found_number cap s f h, h)
 
 pub returns-then-text-gt-TEXT : goal.returns-then-text-gt-TEXT
-returns-then-text-gt-TEXT c = told c.args.most c.args.text.now (fault 1 0 0) (found_long c.args.most c.args.text.now c.if-text-gt-TEXT.true)
+returns-then-text-gt-TEXT c = let t = told c.args.most c.args.text.now (fault 1 0 0) (found_long c.args.most c.args.text.now c.if-text-gt-TEXT.true) in record { number_value = t.0; found = t.1 }
 
 pub plan_fault-requires : goal.plan_fault-requires
 plan_fault-requires c = (c.requires, head_fits c.args.most c.args.text.now c.in-Streams.n c.in-Streams.at (sym c.read_head.ensures ∙ c.in-Streams.is), sym c.read_head.ensures ∙ c.in-Streams.is)
 
 pub returns-in-Streams : goal.returns-in-Streams
-returns-in-Streams c = told c.args.most c.args.text.now c.plan_fault.result (found_after c.args.most c.args.text.now c.if-text-gt-TEXT.false c.in-Streams.n c.in-Streams.at (sym c.read_head.ensures ∙ c.in-Streams.is) c.plan_fault.result c.plan_fault.ensures)
+returns-in-Streams c = let t = told c.args.most c.args.text.now c.plan_fault.result (found_after c.args.most c.args.text.now c.if-text-gt-TEXT.false c.in-Streams.n c.in-Streams.at (sym c.read_head.ensures ∙ c.in-Streams.is) c.plan_fault.result c.plan_fault.ensures) in record { number_value = t.0; found = t.1 }
 
 pub returns-in-Refused : goal.returns-in-Refused
-returns-in-Refused c = told c.args.most c.args.text.now (fault c.in-Refused.r c.head_line-line.result 0) (found_head c.args.most c.args.text.now c.if-text-gt-TEXT.false c.in-Refused.r (sym c.read_head.ensures ∙ c.in-Refused.is) c.head_line-line.result c.head_line-line.ensures)
+returns-in-Refused c = let t = told c.args.most c.args.text.now (fault c.in-Refused.r c.head_line-line.result 0) (found_head c.args.most c.args.text.now c.if-text-gt-TEXT.false c.in-Refused.r (sym c.read_head.ensures ∙ c.in-Refused.is) c.head_line-line.result c.head_line-line.ensures) in record { number_value = t.0; found = t.1 }

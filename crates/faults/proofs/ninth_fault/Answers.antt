@@ -1,13 +1,13 @@
 -- `faults::ninth_fault` meets its contract.
 use Prim.Native.Nat.{◌-◌}
 use mathlib.Core.Path.{sym, ◌∙◌}
-use mathlib.Core.Logic.{⊎_elim}
 use native.Mathlib.Nat.{sub-zero}
 use lib.Dec.{lit<}
 use Rattle.faults.specs.Faults.{ninth_rule}
 use Rattle.faults.proofs.Walk.{first_halt, first_end, ninth_window, ninth_other, ninth_broken}
 use native.Mathlib.Omega.{arith}
 use Rattle.faults.proofs.ninth_fault.Goals as goal
+use Rattle.faults.proofs.ninth_fault.Goals.{then-is_window+else-w-ge-WINDOWS, else-is_window}
 
 pub loop-i-init : goal.loop-i-init
 loop-i-init c = (omega arith, (omega arith, simp sub-zero))
@@ -28,7 +28,10 @@ pub loop-i-smaller : goal.loop-i-smaller
 loop-i-smaller c = omega arith
 
 pub loop-i-preserved : goal.loop-i-preserved
-loop-i-preserved c = ⊎_elim (λ x. rw x.2 (omega arith, (omega (arith, x.1.left), ninth_window c.args.text.now c.args.n c.loop-i.w c.loop-i.i c.loop-i.p (omega arith) c.in-Stream.f (sym c.read_stream.ensures ∙ c.in-Stream.is) (sym c.is_window.ensures ∙ x.0.taken) (omega (arith, x.1.left)) ∙ c.loop-i.invariant.1.1))) (λ x. rw x.1 (omega arith, (omega arith, ninth_other c.args.text.now c.args.n c.loop-i.w c.loop-i.i c.loop-i.p (omega arith) c.in-Stream.f (sym c.read_stream.ensures ∙ c.in-Stream.is) (sym c.is_window.ensures ∙ x.0.left) ∙ c.loop-i.invariant.1.1))) c.if-is_window.branch
+loop-i-preserved c = elim c.if-is_window.branch [
+      then-is_window+else-w-ge-WINDOWS x ↦ rw x.w-is (omega arith, (omega (arith, x.if-w-ge-WINDOWS.false), ninth_window c.args.text.now c.args.n c.loop-i.w c.loop-i.i c.loop-i.p (omega arith) c.in-Stream.f (sym c.read_stream.ensures ∙ c.in-Stream.is) (sym c.is_window.ensures ∙ x.if-is_window.true) (omega (arith, x.if-w-ge-WINDOWS.false)) ∙ c.loop-i.invariant.1.1))
+    | else-is_window x ↦ rw x.w-is (omega arith, (omega arith, ninth_other c.args.text.now c.args.n c.loop-i.w c.loop-i.i c.loop-i.p (omega arith) c.in-Stream.f (sym c.read_stream.ensures ∙ c.in-Stream.is) (sym c.is_window.ensures ∙ x.if-is_window.false) ∙ c.loop-i.invariant.1.1))
+    ]
 
 pub returns-after-loop-i : goal.returns-after-loop-i
 returns-after-loop-i c = first_end ninth_rule c.args.text.now c.args.n c.loop-i.w c.loop-i.i c.loop-i.p (omega arith) ∙ c.loop-i.invariant.1.1

@@ -25,7 +25,7 @@ pub loop-i-smaller : goal.loop-i-smaller
 loop-i-smaller c = omega arith
 
 pub loop-i-preserved : goal.loop-i-preserved
-loop-i-preserved c = (omega arith, (kept_next c.args.text.now c.args.n c.loop-i.i c.loop-i.p (omega arith) c.loop-i.invariant.1.0 c.in-Stream.f (sym c.read_stream.ensures ∙ c.in-Stream.is), (noted_next c.args.text.now c.args.n c.loop-i.i c.loop-i.p (omega arith) c.loop-i.invariant.1.0 c.in-Stream.f (sym c.read_stream.ensures ∙ c.in-Stream.is) c.loop-i.graph c.note.new.graph c.note.ensures ∙ c.loop-i.invariant.1.1.0, c.note.auto.0 ∙ c.loop-i.invariant.1.1.1)))
+loop-i-preserved c = (omega arith, (kept_next c.args.text.now c.args.n c.loop-i.i c.loop-i.p (omega arith) c.loop-i.invariant.1.0 c.in-Stream.f (sym c.read_stream.ensures ∙ c.in-Stream.is), (noted_next c.args.text.now c.args.n c.loop-i.i c.loop-i.p (omega arith) c.loop-i.invariant.1.0 c.in-Stream.f (sym c.read_stream.ensures ∙ c.in-Stream.is) c.loop-i.graph c.note.new.graph c.note.ensures ∙ c.loop-i.invariant.1.1.0, c.note.auto.graph ∙ c.loop-i.invariant.1.1.1)))
 
 pub returns-after-loop-i : goal.returns-after-loop-i
 returns-after-loop-i c = noted_end c.args.text.now c.args.n c.loop-i.i c.loop-i.p (omega arith) c.loop-i.graph ∙ c.loop-i.invariant.1.1.0

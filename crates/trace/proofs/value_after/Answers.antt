@@ -1,4 +1,5 @@
 -- `trace::value_after` meets its contract.
+use mir.Syntax.{w64}
 use mir.Facts.{to_z-of_z}
 use mir.Syntax.{w64}
 use Rattle.trace.specs.declared.Record.TheVariants.{Reading}

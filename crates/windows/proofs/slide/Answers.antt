@@ -33,4 +33,4 @@ pub loop-i-preserved : goal.loop-i-preserved
 loop-i-preserved c = let s = c.loop-i.invariant.1 in (omega arith, slides_more c.args.k c.args.c c.args.w.now c.args.v.now (latest_of c.args.k (kept c.args.n c.args.w.now ++ map (to_z w64) (take c.args.c c.args.v.now))) c.loop-i.i c.loop-i.m c.loop-i.w (omega arith) (omega arith) c.loop-i.invariant.1 (omega arith) (omega arith) _ c.push-m.result c.push-m.new.w refl (omega (arith, c.shared_slice_known-in-loop-i-1.given c.loop-i.i)) (λ j. omega (arith, c.slice_known-in-loop-i-1.given j)) c.push-m.ensures.0 c.push-m.ensures.1)
 
 pub returns : goal.returns
-returns c = (slides_done c.args.k c.args.c c.args.w.now c.args.v.now (latest_of c.args.k (kept c.args.n c.args.w.now ++ map (to_z w64) (take c.args.c c.args.v.now))) c.loop-i.i c.loop-i.m c.loop-i.w (omega arith) (omega arith) c.loop-i.invariant.1 (omega arith), (slides_many c.args.k c.args.c c.args.w.now c.args.v.now (latest_of c.args.k (kept c.args.n c.args.w.now ++ map (to_z w64) (take c.args.c c.args.v.now))) c.loop-i.i c.loop-i.m c.loop-i.w (omega arith) (omega arith) c.loop-i.invariant.1 (omega arith), c.loop-i.invariant.1.most))
+returns c = record { slid = slides_done c.args.k c.args.c c.args.w.now c.args.v.now (latest_of c.args.k (kept c.args.n c.args.w.now ++ map (to_z w64) (take c.args.c c.args.v.now))) c.loop-i.i c.loop-i.m c.loop-i.w (omega arith) (omega arith) c.loop-i.invariant.1 (omega arith); many = (slides_many c.args.k c.args.c c.args.w.now c.args.v.now (latest_of c.args.k (kept c.args.n c.args.w.now ++ map (to_z w64) (take c.args.c c.args.v.now))) c.loop-i.i c.loop-i.m c.loop-i.w (omega arith) (omega arith) c.loop-i.invariant.1 (omega arith), c.loop-i.invariant.1.most) }
