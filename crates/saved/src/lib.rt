@@ -1,12 +1,12 @@
 // A saved state that was read from a file: all its bytes, or only the first of them, as the firmware need not save the zeros at
 // its end.
 #![tactic(auto)]
+
 ghost use Rattle.std.specs.Prelude.{◌≡◌, ◌≤◌, length};
 ghost use Rattle.io.specs.Counts.{IsPrefixLen};
 ghost use Rattle.operators.specs.Limits.{long_length};
 ghost use Rattle.saved.specs.Saved.{is_short, length_of};
 
-use libc::STDERR_FILENO;
 use operators::Plan;
 use valid::Tested;
 
@@ -43,8 +43,6 @@ pub fn length_of(room: &[u8], n: usize) -> usize
 }
 
 // Says on the standard error which number refused it.
-pub fn refuse(number: u32) {
-    io::write_all(STDERR_FILENO, b"refused=");
-    io::print_decimal(STDERR_FILENO, number as u64);
-    io::write_all(STDERR_FILENO, b"\n");
+pub fn refuse(rt: &impl Eprint, number: u32) {
+    let _ = eprintln!(rt; "refused={number}");
 }
