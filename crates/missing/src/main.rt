@@ -3,6 +3,7 @@
 // refused there is said on the standard error, as `replay` does. Without one, it is the saved state on the standard input; where
 // that is no state, the standard error has its number, `refused=15`.
 #![tactic(auto)]
+
 ghost use Rattle.std.specs.Prelude.{◌+◌, ◌*◌, ◌≤◌, ◌≡◌, length};
 ghost use Rattle.io.specs.Counts.{IsPrefixLen};
 ghost use Rattle.operators.specs.Limits.{most_streams};
@@ -10,8 +11,11 @@ ghost use Rattle.decimal.specs.Put.{Put};
 ghost use Rattle.counts.specs.Missing.{missing_reply};
 ghost use Rattle.missing.specs.Listing.{field, counts_text, counts_room, listing};
 
-use libc::{STDIN_FILENO, STDOUT_FILENO};
 use operators::Plan;
+use std::env::FillError;
+use std::io;
+use std::io::Write;
+use std::rt::{Env, Files};
 
 // As much room as is asked for to put the line of a stream.
 const ROOM: usize = 75;
@@ -80,37 +84,45 @@ fn put_all(out: &mut [u8], state: &[u8]) -> usize
 }
 
 // Prints the lines of all streams of a state.
-fn tell(state: &[u8]) {
+fn tell(rt: &impl Print, state: &[u8]) {
     let mut text = [0u8; Plan::MOST * ROOM];
     let end = put_all(&mut text, state);
-    io::write_all(STDOUT_FILENO, &text[..end]);
+    let _ = rt.write_all(&text[..end]);
 }
 
 // Of a saved state.
-fn tell_saved() {
+fn tell_saved(rt: &(impl Input + Print + Eprint)) {
     let mut room = [0u8; saved::ROOM];
-    let n = io::read_full(STDIN_FILENO, &mut room);
+    let n = intake::read_full(&mut rt.reader(), &mut room);
     let end = saved::length_of(&room, n);
     let first = ask(&room[..end], 0);
     if first.number == 15 {
-        saved::refuse(first.number);
+        saved::refuse(rt, first.number);
     }
-    tell(&room[..end]);
+    tell(rt, &room[..end]);
 }
 
-// Of a replay, whose own lines go nowhere.
-fn tell_replayed() {
+// Of a replay, whose own lines go nowhere; what is refused is said to `err`.
+fn tell_replayed<R: Files + Env + Print, E: Write>(rt: &R, err: &mut E) {
     let mut state = [0u8; Plan::LONG];
-    let nowhere = os::open_overwrite(b"/dev/null");
-    playing::replay(&mut state, Plan::MOST as u32, nowhere);
-    libc::close(nowhere);
-    tell(&state);
+    playing::replay(rt, &mut state, Plan::MOST as u32, &mut io::sink(), err);
+    tell(rt, &state);
 }
 
-fn main() {
-    if os::arg_count() < 2 {
-        tell_saved();
+// Whether the program was started with an argument.
+fn has_argument<R: Env>(rt: &R) -> bool {
+    let mut first = [0u8; 1];
+    match rt.arg(1, &mut first) {
+        Ok(_) => true,
+        Err(FillError::TooLong) => true,
+        Err(FillError::NotPresent) => false,
+    }
+}
+
+fn main(rt: HostRuntime) {
+    if !has_argument(&rt) {
+        tell_saved(&rt);
         return;
     }
-    tell_replayed();
+    tell_replayed(&rt, &mut rt.stderr());
 }

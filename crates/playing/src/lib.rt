@@ -1,7 +1,8 @@
 // Replays a trace on a plan, for a program: reads plan.txt and trace.txt of the working folder, or of the folder that its first
-// argument names, and prints every event of every output to a file, `out`. What was refused is said on the standard error too:
-// the plan, or which line.
+// argument names, and prints every event of every output to a writer, `out`. What was refused is said to another, `err`, too: the
+// plan, or which line. What fails to be written is left out, and a read that fails ends a file.
 #![tactic(auto)]
+
 ghost use Rattle.std.specs.Prelude.{ℕ, ◌*◌, ◌-◌, ◌<◌, ◌≤◌, ◌≡◌, true, false, List, length, take};
 ghost use Rattle.operators.specs.Limits.{capacity};
 ghost use Rattle.engine.specs.Load.{load_reply};
@@ -11,9 +12,11 @@ ghost use Rattle.replaying.specs.Whole.{Printed};
 ghost use Rattle.playing.specs.Played.{Goes, Settles, Follows, Trailed, Played};
 ghost use Rattle.playing.specs.Hand.{hand, line_after, Through, Advances};
 
-use libc::STDERR_FILENO;
 use operators::Plan;
 use replaying::Place;
+use std::fs;
+use std::io::{Read, Write};
+use std::rt::{Env, Files};
 use trace::Line;
 
 // The longest line of a trace, with its ending byte.
@@ -38,22 +41,27 @@ enum Left {
     Done,
 }
 
-// Says on the standard error what was refused, if it was: the words, and behind them the line of the refusal.
-fn say(words: &[u8], refusal: &[u8]) {
+// Writes bytes, or, where a write fails, some of them.
+fn put<W: Write>(to: &mut W, bytes: &[u8]) {
+    let _ = to.write_all(bytes);
+}
+
+// Says what was refused, if it was: the words, and behind them the line of the refusal.
+fn say<E: Write>(err: &mut E, words: &[u8], refusal: &[u8]) {
     if refusal.len() == 0 {
         return;
     }
-    io::write_all(STDERR_FILENO, words);
-    io::write_all(STDERR_FILENO, refusal);
+    put(err, words);
+    put(err, refusal);
 }
 
 // Says which line of the trace was refused, if it was.
-fn say_line(line: u64, refusal: &[u8]) {
+fn say_line<E: Write>(err: &mut E, line: u64, refusal: &[u8]) {
     let mut words = [0u8; WORDS];
     let a = decimal::put_word(&mut words, 0, b"line=");
     let b = decimal::put_number(&mut words, a, line);
     let end = decimal::put_byte(&mut words, b, b' ');
-    say(&words[..end], refusal);
+    say(err, &words[..end], refusal);
 }
 
 // The number of the next line. The count stops at the greatest number, which no trace gets to.
@@ -67,20 +75,20 @@ fn next_line(line: u64) -> u64
 }
 
 // Goes on from a place, through n streams, for as many events as a buffer holds, and prints them.
-fn print_some(state: &mut [u8], n: u32, place: Place, out: i32) -> Place
+fn print_some<O: Write>(state: &mut [u8], n: u32, place: Place, out: &mut O) -> Place
     requires { n * 256 ≤ length state.old }
     ensures goes { Goes n place state.old result state.new }
     ensures nearer { is_rest place ≡ false → rank n result state.new < rank n place state.old }
 {
-    let mut printed = io::buffer();
+    let mut printed = [0u8; 4096];
     let stand = replaying::fill(state, n, place, &mut printed);
     let end = stand.end;
-    io::write_all(out, &printed[..end]);
+    put(out, &printed[..end]);
     stand.place
 }
 
 // Runs to rest and prints what is collected of n streams, until nothing moves or waits.
-fn settle(state: &mut [u8], n: u32, out: i32)
+fn settle<O: Write>(state: &mut [u8], n: u32, out: &mut O)
     requires { n * 256 ≤ length state.old }
     ensures { Settles n state.old state.new }
 {
@@ -92,16 +100,24 @@ fn settle(state: &mut [u8], n: u32, out: i32)
 
 // Replays the line at a position, and answers what was read. A bad line prints its number and changes nothing. `number` says
 // which line of the trace it is.
-fn replay_line(state: &mut [u8], n: u32, text: &[u8], at: usize, number: u64, out: i32) -> Line
+fn replay_line<O: Write, E: Write>(
+    state: &mut [u8],
+    n: u32,
+    text: &[u8],
+    at: usize,
+    number: u64,
+    out: &mut O,
+    err: &mut E,
+) -> Line
     requires { n * 256 ≤ length state.old }
     ensures found { result ≡ line text.now at }
     ensures follows { Follows n result state.old state.new }
 {
-    let mut printed = io::buffer();
+    let mut printed = [0u8; 4096];
     let passed = replaying::line(state, text, at, &mut printed);
     let end = passed.end;
-    io::write_all(out, &printed[..end]);
-    say_line(number, &printed[..end]);
+    put(out, &printed[..end]);
+    say_line(err, number, &printed[..end]);
     let found = passed.found;
     let Line::Read(_, _) = found else {
         return found;
@@ -112,14 +128,15 @@ fn replay_line(state: &mut [u8], n: u32, text: &[u8], at: usize, number: u64, ou
 
 // Replays all whole lines of the text in hand from a position on: those that end in it whatever follows, and if it is the last
 // of the trace, all. `first` is the number of the first one.
-fn replay_lines(
+fn replay_lines<O: Write, E: Write>(
     state: &mut [u8],
     n: u32,
     text: &[u8],
     at: usize,
     last: bool,
     first: u64,
-    out: i32,
+    out: &mut O,
+    err: &mut E,
 ) -> Stop
     requires { (n * 256 ≤ length state.old) × (at ≤ length text.now) }
     ensures { Through n text.now at last first state.old result state.new }
@@ -132,7 +149,7 @@ fn replay_lines(
                 return Stop::Before(from, line);
             }
         }
-        let Line::Read(_, next) = replay_line(state, n, text, from, line, out) else {
+        let Line::Read(_, next) = replay_line(state, n, text, from, line, out, err) else {
             return Stop::Bad;
         };
         from = next;
@@ -142,34 +159,36 @@ fn replay_lines(
 }
 
 // Moves what is left in hand to the start of the buffer, reads on behind it, and answers where that ends.
-fn ready(fd: i32, buffer: &mut [u8], from: usize, end: usize) -> usize
+fn ready<F: Read>(file: &mut F, buffer: &mut [u8], from: usize, end: usize) -> usize
     requires { (from ≤ end) × (end ≤ length buffer.old) }
     ensures inside { (end - from ≤ result) × (result ≤ length buffer.new) }
     ensures kept { take (end - from) buffer.new ≡ hand buffer.old from end }
 {
     let left = end - from;
     le::shift(buffer, 0, from, left);
-    let got = io::read_full(fd, &mut buffer[left..]);
+    let got = intake::read_full(file, &mut buffer[left..]);
     left + got
 }
 
 // Reads on, and replays all whole lines of what is then in hand. A buffer that is not full holds the last of the trace.
-fn advance(
-    fd: i32,
+fn advance<F: Read, O: Write, E: Write>(
+    file: &mut F,
     state: &mut [u8],
     n: u32,
     buffer: &mut [u8],
     from: usize,
     end: usize,
     line: u64,
-    out: i32,
+    out: &mut O,
+    err: &mut E,
 ) -> Left
     requires { (n * 256 ≤ length state.old) × (from ≤ end) × (end ≤ length buffer.old) }
     ensures { Advances n line (hand buffer.old from end) state.old result buffer.new state.new }
 {
-    let filled = ready(fd, buffer, from, end);
+    let filled = ready(file, buffer, from, end);
     let last = filled < buffer.len();
-    let Stop::Before(p, next) = replay_lines(state, n, &buffer[..filled], 0, last, line, out) else {
+    let Stop::Before(p, next) = replay_lines(state, n, &buffer[..filled], 0, last, line, out, err)
+    else {
         return Left::Done;
     };
     if last {
@@ -184,11 +203,17 @@ fn advance(
 
 // Replays the trace, and answers whether it came to its end. A proved loop has to end, and nothing says that a file does: it
 // counts its reads down, from a number that no trace uses up.
-fn replay_trace(fd: i32, state: &mut [u8], n: u32, out: i32) -> bool
+fn replay_trace<F: Read, O: Write, E: Write>(
+    file: &mut F,
+    state: &mut [u8],
+    n: u32,
+    out: &mut O,
+    err: &mut E,
+) -> bool
     requires { n * 256 ≤ length state.old }
     ensures { Trailed n state.old result state.new }
 {
-    let mut buffer = io::buffer();
+    let mut buffer = [0u8; 4096];
     let mut from: usize = 0;
     let mut end: usize = 0;
     let mut line: u64 = 1;
@@ -198,7 +223,7 @@ fn replay_trace(fd: i32, state: &mut [u8], n: u32, out: i32) -> bool
             from: p,
             end: e,
             line: l,
-        } = advance(fd, state, n, &mut buffer, from, end, line, out)
+        } = advance(file, state, n, &mut buffer, from, end, line, out, err)
         else {
             return true;
         };
@@ -222,67 +247,91 @@ fn join(path: &mut [u8], n: usize, name: &[u8]) -> usize
     decimal::put_word(path, p, name)
 }
 
-// Opens a file of the folder that the first argument names; without one, of the working folder.
-fn open(name: &[u8]) -> i32 {
-    let mut path = io::buffer();
-    let n = os::arg(1, &mut path);
-    if n == 0 {
-        return os::open_read(name);
+// Puts the first argument, a folder, at the start of the path, and answers its length; 0 if there is none that fits.
+fn folder<R: Env>(rt: &R, path: &mut [u8]) -> usize
+    ensures { result ≤ length path.new }
+{
+    match rt.arg(1, path) {
+        Ok(n) => n,
+        Err(_) => 0,
     }
-    let end = join(&mut path, n, name);
-    os::open_read(&path[..end])
+}
+
+// Opens a file of the folder that the first argument names; without one, of the working folder. A path has to be UTF-8.
+fn open<R: Files + Env>(rt: &R, name: &str) -> Option<R::File> {
+    let mut path = [0u8; 4096];
+    let n = folder(rt, &mut path);
+    if n == 0 {
+        return fs::open(rt, name).ok();
+    }
+    let end = join(&mut path, n, name.as_bytes());
+    let Ok(text) = str::from_utf8(&path[..end]) else {
+        return None;
+    };
+    fs::open(rt, text).ok()
 }
 
 // Reads the start of a file, as much as the buffer holds, and answers how many bytes. A file that can't be opened counts as empty.
-fn read_start(name: &[u8], buffer: &mut [u8]) -> usize
+fn read_start<R: Files + Env>(rt: &R, name: &str, buffer: &mut [u8]) -> usize
     ensures { result ≤ length buffer.new }
 {
-    let fd = open(name);
-    if fd < 0 {
+    let Some(mut file) = open(rt, name) else {
         return 0;
-    }
-    let n = io::read_full(fd, buffer);
-    libc::close(fd);
-    n
+    };
+    intake::read_full(&mut file, buffer)
 }
 
 // Loads the plan, of whose text one byte more is read than a plan has, and prints the number of its refusal.
-fn load(state: &mut [u8], out: i32) -> u32
+fn load<R: Files + Env, O: Write, E: Write>(
+    rt: &R,
+    state: &mut [u8],
+    out: &mut O,
+    err: &mut E,
+) -> u32
     ensures { (plan : List ℕ) × (result ≡ (load_reply plan state.old).number) × (state.new ≡ (load_reply plan state.old).buffer) }
 {
     let mut text = [0u8; Plan::TEXT + 1];
-    let n = read_start(b"plan.txt", &mut text);
-    let mut printed = io::buffer();
+    let n = read_start(rt, "plan.txt", &mut text);
+    let mut printed = [0u8; 4096];
     let loaded = replaying::load(state, &text[..n], &mut printed);
     let end = loaded.end;
-    io::write_all(out, &printed[..end]);
-    say(b"plan ", &printed[..end]);
+    put(out, &printed[..end]);
+    say(err, b"plan ", &printed[..end]);
     loaded.number
 }
 
 // Settles, and replays the trace; a file that can't be opened counts as empty. Answers whether the trace came to its end.
-fn play(state: &mut [u8], n: u32, out: i32) -> bool
+fn play<R: Files + Env, O: Write, E: Write>(
+    rt: &R,
+    state: &mut [u8],
+    n: u32,
+    out: &mut O,
+    err: &mut E,
+) -> bool
     requires { n * 256 ≤ length state.old }
     ensures { Played n state.old result state.new }
 {
     settle(state, n, out);
-    let fd = open(b"trace.txt");
-    if fd < 0 {
+    let Some(mut file) = open(rt, "trace.txt") else {
         return true;
-    }
-    let whole = replay_trace(fd, state, n, out);
-    libc::close(fd);
-    whole
+    };
+    replay_trace(&mut file, state, n, out, err)
 }
 
 // Loads the plan, and plays the trace on it unless it is refused. Answers whether the trace came to its end.
-pub fn replay(state: &mut [u8], n: u32, out: i32) -> bool
+pub fn replay<R: Files + Env, O: Write, E: Write>(
+    rt: &R,
+    state: &mut [u8],
+    n: u32,
+    out: &mut O,
+    err: &mut E,
+) -> bool
     requires { n ≡ capacity (length state.old) }
     ensures { result ≡ true → ((plan : List ℕ) × (trace : List ℕ) × (w : List ℕ) × Printed plan trace state.old w state.new) }
 {
-    let number = load(state, out);
+    let number = load(rt, state, out, err);
     if number != 0 {
         return true;
     }
-    play(state, n, out)
+    play(rt, state, n, out, err)
 }
