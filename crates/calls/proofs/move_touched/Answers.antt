@@ -38,7 +38,7 @@ pub move_one-requires : goal.move_one-requires
 move_one-requires c = let a = c.args in let s = a.state.now in let n = a.n in let h = c.requires.0 in let l = c.loop-j in let k = c.requires.1 (omega arith) in let f = In.area_for_lem s (λ j. omega (arith, c.slice_known-1.given j)) n h in (rw (ap length l.invariant.1) f, omega arith)
 
 pub returns-then-move_one : goal.returns-then-move_one
-returns-then-move_one c = let a = c.args in let s = a.state.now in let n = a.n in let h = c.requires.0 in let l = c.loop-j in let k = c.requires.1 (omega arith) in inl (omega arith, Turns.turn_moved s (λ j. omega (arith, c.slice_known-1.given j)) n h l.state c.move_one.new.state l.invariant.1 c.move_one.result l.j (omega arith) c.move_one.ensures.0 c.move_one.ensures.1 c.if-move_one.true l.invariant.2)
+returns-then-move_one c = let a = c.args in let s = a.state.now in let n = a.n in let h = c.requires.0 in let l = c.loop-j in let k = c.requires.1 (omega arith) in inl (omega arith, Turns.turn_moved s (λ j. omega (arith, c.slice_known-1.given j)) n h l.state c.move_one.new.state l.invariant.1 c.move_one.result l.j (omega arith) c.move_one.ensures.can c.move_one.ensures.moved c.if-move_one.true l.invariant.2)
 
 pub overflow_add-j : goal.overflow_add-j
 overflow_add-j c = let a = c.args in let s = a.state.now in let n = a.n in let h = c.requires.0 in omega (arith, Searches.byte_number s (λ j. omega (arith, c.slice_known-1.given j)) n h a.s c.requires.1)
