@@ -1,5 +1,5 @@
 -- The searches of a move as code does them: over the held events, and not over all stamps.
-use mathlib.Core.Path.{◌≡◌, refl}
+use mathlib.Core.Path.{◌≡◌, refl, subst}
 use mathlib.Core.Logic.{◌⊎◌, inl, inr}
 use mathlib.Core.Bool.{Bool, true, false, not, cond, ◌&&◌, ◌||◌}
 use mathlib.Core.Option.{Option, none, some}
@@ -213,7 +213,7 @@ gives_in_lem (delay _ _) o a b t l h = go (point_in o b t)
         let n = is_size (t - pred z) v (T-and-r (ltb 0 z) (is (t - pred z) v) fired) in
         let p = ltb→lt 0 z (T-and-l (ltb 0 z) (is (t - pred z) v) fired) in
         let e : due_at o a z ≡ t = omega (arith, below) in
-        rw e at (in_each (due_at o a) zs z k)
+        subst (λ (x : ℕ). T (any (eqb x) (map (due_at o a) zs))) e (in_each (due_at o a) zs z k)
 
 -- the first event's stamp, over the held events alone
 pub first_pick : (e : Eqn) (o a b : Cell) → o.kept.since ≤ o.bound → first e o a b ≡ pick (λ t. has (gives e o a b t)) o.bound (reach e o a b) (wanted e o a b)

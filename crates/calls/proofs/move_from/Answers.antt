@@ -16,7 +16,7 @@ pub move_one-requires : goal.move_one-requires
 move_one-requires c = let a = c.args in let s = a.state.now in let n = a.n in let h = c.requires.0 in let l = c.loop-i in let f = In.area_for_lem s (λ j. omega (arith, c.slice_known-1.given j)) n h in (rw (ap length l.invariant.1) f, omega arith)
 
 pub returns-then-move_one : goal.returns-then-move_one
-returns-then-move_one c = let a = c.args in let s = a.state.now in let n = a.n in let h = c.requires.0 in let l = c.loop-i in inl (omega arith, Turns.turn_moved s (λ j. omega (arith, c.slice_known-1.given j)) n h l.state c.move_one.new.state l.invariant.1 c.move_one.result l.i (omega arith) c.move_one.ensures.0 c.move_one.ensures.1 c.if-move_one.true l.invariant.2)
+returns-then-move_one c = let a = c.args in let s = a.state.now in let n = a.n in let h = c.requires.0 in let l = c.loop-i in inl (omega arith, Turns.turn_moved s (λ j. omega (arith, c.slice_known-1.given j)) n h l.state c.move_one.new.state l.invariant.1 c.move_one.result l.i (omega arith) c.move_one.ensures.can c.move_one.ensures.moved c.if-move_one.true l.invariant.2)
 
 pub overflow_add-i : goal.overflow_add-i
 overflow_add-i c = omega arith
@@ -25,7 +25,7 @@ pub loop-i-smaller : goal.loop-i-smaller
 loop-i-smaller c = omega arith
 
 pub loop-i-preserved : goal.loop-i-preserved
-loop-i-preserved c = let a = c.args in let s = a.state.now in let n = a.n in let h = c.requires.0 in let l = c.loop-i in let p = Turns.turn_stays s (λ j. omega (arith, c.slice_known-1.given j)) n h l.state c.move_one.new.state l.invariant.1 c.move_one.result l.i (omega arith) c.move_one.ensures.0 c.move_one.ensures.1 c.if-move_one.false in (omega arith, p.0, below_more _ _ l.invariant.2 p.1)
+loop-i-preserved c = let a = c.args in let s = a.state.now in let n = a.n in let h = c.requires.0 in let l = c.loop-i in let p = Turns.turn_stays s (λ j. omega (arith, c.slice_known-1.given j)) n h l.state c.move_one.new.state l.invariant.1 c.move_one.result l.i (omega arith) c.move_one.ensures.can c.move_one.ensures.moved c.if-move_one.false in (omega arith, p.0, below_more _ _ l.invariant.2 p.1)
 
 pub returns : goal.returns
 returns c = let l = c.loop-i in inr (refl, (l.invariant.1, λ j h. l.invariant.2 j (omega arith)))

@@ -12,6 +12,7 @@ use Rattle.roundtrip.proofs.In
 use Rattle.calls.proofs.Turns
 use Rattle.calls.proofs.Searches
 use Rattle.calls.proofs.move_touched.Goals as goal
+use Rattle.calls.proofs.move_touched.Goals.{then-touched+else-move_one, else-touched}
 
 pub row_at-row-requires : goal.row_at-row-requires
 row_at-row-requires c = let a = c.args in let s = a.state.now in let n = a.n in let h = c.requires.0 in Searches.row_fits s (λ j. omega (arith, c.slice_known-1.given j)) n h a.s c.requires.1
@@ -38,7 +39,7 @@ pub move_one-requires : goal.move_one-requires
 move_one-requires c = let a = c.args in let s = a.state.now in let n = a.n in let h = c.requires.0 in let l = c.loop-j in let k = c.requires.1 (omega arith) in let f = In.area_for_lem s (λ j. omega (arith, c.slice_known-1.given j)) n h in (rw (ap length l.invariant.1) f, omega arith)
 
 pub returns-then-move_one : goal.returns-then-move_one
-returns-then-move_one c = let a = c.args in let s = a.state.now in let n = a.n in let h = c.requires.0 in let l = c.loop-j in let k = c.requires.1 (omega arith) in inl (omega arith, Turns.turn_moved s (λ j. omega (arith, c.slice_known-1.given j)) n h l.state c.move_one.new.state l.invariant.1 c.move_one.result l.j (omega arith) c.move_one.ensures.0 c.move_one.ensures.1 c.if-move_one.true l.invariant.2)
+returns-then-move_one c = let a = c.args in let s = a.state.now in let n = a.n in let h = c.requires.0 in let l = c.loop-j in let k = c.requires.1 (omega arith) in inl (omega arith, Turns.turn_moved s (λ j. omega (arith, c.slice_known-1.given j)) n h l.state c.move_one.new.state l.invariant.1 c.move_one.result l.j (omega arith) c.move_one.ensures.can c.move_one.ensures.moved c.if-move_one.true l.invariant.2)
 
 pub overflow_add-j : goal.overflow_add-j
 overflow_add-j c = let a = c.args in let s = a.state.now in let n = a.n in let h = c.requires.0 in omega (arith, Searches.byte_number s (λ j. omega (arith, c.slice_known-1.given j)) n h a.s c.requires.1)
@@ -47,7 +48,7 @@ pub loop-j-smaller : goal.loop-j-smaller
 loop-j-smaller c = omega arith
 
 pub loop-j-preserved : goal.loop-j-preserved
-loop-j-preserved c = let a = c.args in let s = a.state.now in let n = a.n in let h = c.requires.0 in let l = c.loop-j in let k = c.requires.1 (omega arith) in let p : (c.if-touched.state ≡ s) × (can_move l.j (state_in s) ≡ false) = ⊎_elim (λ x. let p = Turns.turn_stays s (λ j. omega (arith, c.slice_known-1.given j)) n h l.state x.2.last.0 l.invariant.1 x.2.result l.j (omega arith) x.2.ensures.0 x.2.ensures.1 x.5.left in (x.6 ∙ p.0, p.1)) (λ x. (x.1 ∙ l.invariant.1, Searches.untouched_rests s (λ j. omega (arith, c.slice_known-1.given j)) n h a.s l.j c.byte_at-a.result c.byte_at-b.result c.row_at-row.result.now c.row_at.result.now l.state k (omega arith) c.requires.2 c.row_at-row.ensures.0 c.byte_at-a.ensures.0 c.byte_at-b.ensures.0 l.invariant.1 c.row_at.ensures.0 (c.touched.ensures x.0.left))) c.if-touched.branch in (omega arith, p.0, below_more _ _ l.invariant.2 p.1)
+loop-j-preserved c = let a = c.args in let s = a.state.now in let n = a.n in let h = c.requires.0 in let l = c.loop-j in let k = c.requires.1 (omega arith) in let p : (c.if-touched.state ≡ s) × (can_move l.j (state_in s) ≡ false) = elim c.if-touched.branch [ then-touched+else-move_one x ↦ let p = Turns.turn_stays s (λ j. omega (arith, c.slice_known-1.given j)) n h l.state x.move_one.new.state l.invariant.1 x.move_one.result l.j (omega arith) x.move_one.ensures.can x.move_one.ensures.moved x.if-move_one.false in (x.state-is ∙ p.0, p.1) | else-touched x ↦ (x.state-is ∙ l.invariant.1, Searches.untouched_rests s (λ j. omega (arith, c.slice_known-1.given j)) n h a.s l.j c.byte_at-a.result c.byte_at-b.result c.row_at-row.result.now c.row_at.result.now l.state k (omega arith) c.requires.2 c.row_at-row.ensures.0 c.byte_at-a.ensures.0 c.byte_at-b.ensures.0 l.invariant.1 c.row_at.ensures.0 (c.touched.ensures x.if-touched.false)) ] in (omega arith, p.0, below_more _ _ l.invariant.2 p.1)
 
 pub returns : goal.returns
 returns c = let l = c.loop-j in let m = l.invariant.0 in inr (refl, (l.invariant.1, λ j h. l.invariant.2 j (omega arith)))

@@ -6,6 +6,7 @@ use lib.ListN.{length}
 use Rattle.le.specs.Bytes.{Bytes}
 use Rattle.machine.specs.Touched.{Still}
 use Rattle.roundtrip.specs.In.{state_in, IsState}
+use Rattle.calls.proofs.Turns
 use Rattle.calls.proofs.run.Given as goal
 
 abbrev pub invariant-loop-made : goal.invariant-loop-made

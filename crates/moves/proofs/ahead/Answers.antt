@@ -21,7 +21,7 @@ use Rattle.moves.proofs.ahead.Goals as goal
 
 pub returns-in-Window : goal.returns-in-Window
 unfolding value_of look_of to_cell
-returns-in-Window c = let a = c.args in let n = a.n in let s = a.state.now in let st = decode n s in let ew = c.width_of.ensures.0 ∙ ap width_in (back c.in-Window.k (omega arith)) in let ea = c.argument.ensures.0 in (c.window_ahead.ensures.0 ∙ (λ z. fit_row (folding c.in-Window.f) (ew z) a.i a.s.bound (max a.s.bound (look_of (row_at st (ea z))).bound) (held_of (row_at st (ea z))) st) ∙ ap (λ (o : Op). found_raw n a.i (equation o) (own_of a.s) st) (sym c.in-Window.is), c.window_ahead.ensures.1)
+returns-in-Window c = let a = c.args in let n = a.n in let s = a.state.now in let st = decode n s in let ew = c.width_of.ensures.0 ∙ ap width_in (back c.in-Window.k (omega arith)) in let ea = c.argument.ensures.0 in record { next = c.window_ahead.ensures.next ∙ (λ z. fit_row (folding c.in-Window.f) (ew z) a.i a.s.bound (max a.s.bound (look_of (row_at st (ea z))).bound) (held_of (row_at st (ea z))) st) ∙ ap (λ (o : Op). found_raw n a.i (equation o) (own_of a.s) st) (sym c.in-Window.is); known = c.window_ahead.ensures.known }
 
 pub returns : goal.returns
-returns c = let a = c.args in let n = a.n in let s = a.state.now in let st = decode n s in let e = equation a.s.op in let ma : dec_raw c.row_at-a.result.now ≡ row_at st (arg_in n (arg_a e)) = record_row n s c.row_at-a.result.now c.argument-2.result (omega arith) c.row_at-a.ensures.0 ∙ ap (row_at st) (c.argument-2.ensures.0 ∙ ap (arg_in n) c.first.ensures) in let mb : dec_raw c.row_at-b.result.now ≡ row_at st (arg_in n (arg_b e)) = record_row n s c.row_at-b.result.now c.argument-3.result (omega arith) c.row_at-b.ensures.0 ∙ ap (row_at st) (c.argument-3.ensures.0 ∙ ap (arg_in n) c.second.ensures) in (c.find_next.ensures.0 ∙ (λ j. machine.decide (plain a.s.op) (own_of a.s) (look_of (ma j)) (look_of (mb j))) ∙ Decides.found_other n a.i a.s.op (own_of a.s) st (opened c.in_default.in_default-own.keys2), c.find_next.ensures.1)
+returns c = let a = c.args in let n = a.n in let s = a.state.now in let st = decode n s in let e = equation a.s.op in let ma : dec_raw c.row_at-a.result.now ≡ row_at st (arg_in n (arg_a e)) = record_row n s c.row_at-a.result.now c.argument-2.result (omega arith) c.row_at-a.ensures.0 ∙ ap (row_at st) (c.argument-2.ensures.0 ∙ ap (arg_in n) c.first.ensures) in let mb : dec_raw c.row_at-b.result.now ≡ row_at st (arg_in n (arg_b e)) = record_row n s c.row_at-b.result.now c.argument-3.result (omega arith) c.row_at-b.ensures.0 ∙ ap (row_at st) (c.argument-3.ensures.0 ∙ ap (arg_in n) c.second.ensures) in record { next = c.find_next.ensures.next ∙ (λ j. machine.decide (plain a.s.op) (own_of a.s) (look_of (ma j)) (look_of (mb j))) ∙ Decides.found_other n a.i a.s.op (own_of a.s) st (opened c.in_default.in_default-own.keys2); known = c.find_next.ensures.known }

@@ -14,12 +14,12 @@ returns-then-not-is_in c = let a = c.args in let r = dec_raw a.r.now in let i : 
 
 pub returns-then-not-fits : goal.returns-then-not-fits
 unfolding progress_row
-returns-then-not-fits c = let a = c.args in let r = dec_raw a.r.now in let i : is_in (group_of (num op_f r)) ≡ true = sym (c.is_in.ensures ∙ ap is_in (c.group_of.ensures ∙ ap group_of c.byte_at-op.ensures.0)) ∙ not-false c.is_in.result c.if-not-is_in.false-raw in let h = leb-false c.new.result.stamp horizon (sym c.fits2.ensures ∙ not-true c.fits2.result c.if-not-fits.true-raw) in sym (rw (i, lt-ltb horizon a.y (omega (arith, c.new.ensures))))
+returns-then-not-fits c = let a = c.args in let r = dec_raw a.r.now in let i : is_in (group_of (num op_f r)) ≡ true = sym (c.is_in.ensures ∙ ap is_in (c.group_of.ensures ∙ ap group_of c.byte_at-op.ensures.0)) ∙ not-false c.is_in.result c.if-not-is_in.false-raw in let h = leb-false c.new.result.stamp horizon (sym c.fits.ensures ∙ not-true c.fits.result c.if-not-fits.true-raw) in sym (rw (i, lt-ltb horizon a.y (omega (arith, c.new.ensures))))
 
 pub returns-then-y-bound : goal.returns-then-y-bound
 unfolding progress_row
-returns-then-y-bound c = let a = c.args in let r = dec_raw a.r.now in let i : is_in (group_of (num op_f r)) ≡ true = sym (c.is_in.ensures ∙ ap is_in (c.group_of.ensures ∙ ap group_of c.byte_at-op.ensures.0)) ∙ not-false c.is_in.result c.if-not-is_in.false-raw in let h = leb-true c.new.result.stamp horizon (sym c.fits2.ensures ∙ not-false c.fits2.result c.if-not-fits.false-raw) in sym (rw (i, le-ltb horizon a.y (omega (arith, c.new.ensures)), lt-ltb a.y (num bound_f r) (omega arith)))
+returns-then-y-bound c = let a = c.args in let r = dec_raw a.r.now in let i : is_in (group_of (num op_f r)) ≡ true = sym (c.is_in.ensures ∙ ap is_in (c.group_of.ensures ∙ ap group_of c.byte_at-op.ensures.0)) ∙ not-false c.is_in.result c.if-not-is_in.false-raw in let h = leb-true c.new.result.stamp horizon (sym c.fits.ensures ∙ not-false c.fits.result c.if-not-fits.false-raw) in sym (rw (i, le-ltb horizon a.y (omega (arith, c.new.ensures)), lt-ltb a.y (num bound_f r) (omega arith)))
 
 pub returns : goal.returns
 unfolding progress_row
-returns c = let a = c.args in let r = dec_raw a.r.now in let i : is_in (group_of (num op_f r)) ≡ true = sym (c.is_in.ensures ∙ ap is_in (c.group_of.ensures ∙ ap group_of c.byte_at-op.ensures.0)) ∙ not-false c.is_in.result c.if-not-is_in.false-raw in let h = leb-true c.new.result.stamp horizon (sym c.fits2.ensures ∙ not-false c.fits2.result c.if-not-fits.false-raw) in sym (rw (i, le-ltb horizon a.y (omega (arith, c.new.ensures)), le-ltb a.y (num bound_f r) (omega arith)))
+returns c = let a = c.args in let r = dec_raw a.r.now in let i : is_in (group_of (num op_f r)) ≡ true = sym (c.is_in.ensures ∙ ap is_in (c.group_of.ensures ∙ ap group_of c.byte_at-op.ensures.0)) ∙ not-false c.is_in.result c.if-not-is_in.false-raw in let h = leb-true c.new.result.stamp horizon (sym c.fits.ensures ∙ not-false c.fits.result c.if-not-fits.false-raw) in sym (rw (i, le-ltb horizon a.y (omega (arith, c.new.ensures)), le-ltb a.y (num bound_f r) (omega arith)))
