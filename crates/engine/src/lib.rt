@@ -15,8 +15,7 @@ use operators::Plan;
 use valid::Tested;
 
 // Loads a plan text: on 0 the state is fresh, with the plan's streams; on any other number it is as it was.
-#[unsafe(no_mangle)]
-pub extern "C" fn tessla_load(state: &mut [u8], text: &[u8]) -> u32
+pub fn tessla_load(state: &mut [u8], text: &[u8]) -> u32
     ensures number { result ≡ (load_reply text.now state.old).number }
     ensures buffer { state.new ≡ (load_reply text.now state.old).buffer }
 {
@@ -33,8 +32,7 @@ pub extern "C" fn tessla_load(state: &mut [u8], text: &[u8]) -> u32
 }
 
 // Offers a reading (stream, stamp, value) of an input.
-#[unsafe(no_mangle)]
-pub extern "C" fn tessla_offer_reading(state: &mut [u8], stream: u32, stamp: u32, value: i64) -> u32
+pub fn tessla_offer_reading(state: &mut [u8], stream: u32, stamp: u32, value: i64) -> u32
     ensures number { result ≡ (reply (reading stream stamp value) state.old).number }
     ensures buffer { state.new ≡ (reply (reading stream stamp value) state.old).buffer }
 {
@@ -45,8 +43,7 @@ pub extern "C" fn tessla_offer_reading(state: &mut [u8], stream: u32, stamp: u32
 }
 
 // Offers progress (stream, new bound) of an input.
-#[unsafe(no_mangle)]
-pub extern "C" fn tessla_offer_progress(state: &mut [u8], stream: u32, bound: u64) -> u32
+pub fn tessla_offer_progress(state: &mut [u8], stream: u32, bound: u64) -> u32
     ensures number { result ≡ (reply (progress stream bound) state.old).number }
     ensures buffer { state.new ≡ (reply (progress stream bound) state.old).buffer }
 {
@@ -57,8 +54,7 @@ pub extern "C" fn tessla_offer_progress(state: &mut [u8], stream: u32, bound: u6
 }
 
 // Collects the oldest waiting event of an output.
-#[unsafe(no_mangle)]
-pub extern "C" fn tessla_collect(
+pub fn tessla_collect(
     state: &mut [u8],
     stream: u32,
     stamp: &mut u32,
@@ -80,8 +76,7 @@ pub extern "C" fn tessla_collect(
 }
 
 // Moves one equation.
-#[unsafe(no_mangle)]
-pub extern "C" fn tessla_move(state: &mut [u8], stream: u32) -> u32
+pub fn tessla_move(state: &mut [u8], stream: u32) -> u32
     ensures number { result ≡ (reply (moving stream) state.old).number }
     ensures buffer { state.new ≡ (reply (moving stream) state.old).buffer }
 {
@@ -92,8 +87,7 @@ pub extern "C" fn tessla_move(state: &mut [u8], stream: u32) -> u32
 }
 
 // Moves the lowest-numbered equation that can, again and again, at most n times; `moves` says how often.
-#[unsafe(no_mangle)]
-pub extern "C" fn tessla_run(state: &mut [u8], n: u32, moves: &mut u32) -> u32
+pub fn tessla_run(state: &mut [u8], n: u32, moves: &mut u32) -> u32
     ensures number { result ≡ (reply (running n) state.old).number }
     ensures moves { moves.new ≡ (reply (running n) state.old).moves }
     ensures buffer { state.new ≡ (reply (running n) state.old).buffer }
@@ -111,8 +105,7 @@ pub extern "C" fn tessla_run(state: &mut [u8], n: u32, moves: &mut u32) -> u32
 }
 
 // Writes the plan of a state as text into a lent buffer; `length` says how many bytes it has.
-#[unsafe(no_mangle)]
-pub extern "C" fn tessla_plan_text(state: &[u8], text: &mut [u8], length: &mut u64) -> u32
+pub fn tessla_plan_text(state: &[u8], text: &mut [u8], length: &mut u64) -> u32
     ensures number { result ≡ (plan_text state.now text.old).number }
     ensures length { length.new ≡ (plan_text state.now text.old).length }
     ensures buffer { text.new ≡ (plan_text state.now text.old).buffer }
@@ -128,8 +121,7 @@ pub extern "C" fn tessla_plan_text(state: &[u8], text: &mut [u8], length: &mut u
 
 // Reads the two counts of a stream: at how many stamps below its bound an event is missing because its result is outside the
 // range, and because the divisor is zero.
-#[unsafe(no_mangle)]
-pub extern "C" fn tessla_missing(
+pub fn tessla_missing(
     state: &[u8],
     stream: u32,
     outside: &mut u32,
@@ -150,8 +142,7 @@ pub extern "C" fn tessla_missing(
 }
 
 // Copies a state into a longer buffer, where it goes on from the same point.
-#[unsafe(no_mangle)]
-pub extern "C" fn tessla_widen(from: &[u8], to: &mut [u8]) -> u32
+pub fn tessla_widen(from: &[u8], to: &mut [u8]) -> u32
     ensures number { result ≡ (widen_reply from.now to.old).number }
     ensures buffer { to.new ≡ (widen_reply from.now to.old).buffer }
 {
@@ -159,8 +150,7 @@ pub extern "C" fn tessla_widen(from: &[u8], to: &mut [u8]) -> u32
 }
 
 // Writes a byte of the reader board's block; writing the command starts it.
-#[unsafe(no_mangle)]
-pub extern "C" fn tessla_register_write(
+pub fn tessla_register_write(
     state: &mut [u8],
     block: &mut [u8],
     at: u32,
@@ -174,8 +164,7 @@ pub extern "C" fn tessla_register_write(
 }
 
 // Whether the board's line is up.
-#[unsafe(no_mangle)]
-pub extern "C" fn tessla_register_line(block: &[u8], up: &mut u32) -> u32
+pub fn tessla_register_line(block: &[u8], up: &mut u32) -> u32
     ensures number { result ≡ (board.line block.now).number }
     ensures up { up.new ≡ (board.line block.now).up }
 {

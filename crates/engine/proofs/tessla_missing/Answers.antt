@@ -11,4 +11,4 @@ pub returns-in-State : goal.returns-in-State
 returns-in-State c = let s = c.args.state.now in rw (reply_state c.args.stream s (tested_state s _ (sym c.in-State.is ∙ c.streams.ensures)).is_valid) c.missing.ensures
 
 pub returns-in-NoState : goal.returns-in-NoState
-returns-in-NoState c = let s = c.args.state.now in rw (reply_none c.args.stream s (tested_none s (sym c.in-NoState.is ∙ c.streams.ensures))) (refl, (refl, refl))
+returns-in-NoState c = let s = c.args.state.now in rw (reply_none c.args.stream s (tested_none s (sym c.in-NoState.is ∙ c.streams.ensures))) record { number = refl; outside = refl; zero = refl }

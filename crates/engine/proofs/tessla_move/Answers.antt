@@ -9,7 +9,7 @@ pub move_stream-requires : goal.move_stream-requires
 move_stream-requires c = tested_state _ _ (sym c.in-State.is ∙ c.streams.ensures)
 
 pub returns-in-State : goal.returns-in-State
-returns-in-State c = let a = c.args in let s = a.state.now in rw (reply_state (moving a.stream) s (tested_state s _ (sym c.in-State.is ∙ c.streams.ensures)).is_valid) (c.move_stream.ensures.0, c.move_stream.ensures.1.0)
+returns-in-State c = let a = c.args in let s = a.state.now in rw (reply_state (moving a.stream) s (tested_state s _ (sym c.in-State.is ∙ c.streams.ensures)).is_valid) record { number = c.move_stream.ensures.number; buffer = c.move_stream.ensures.buffer }
 
 pub returns-in-NoState : goal.returns-in-NoState
-returns-in-NoState c = let a = c.args in let s = a.state.now in rw (reply_none (moving a.stream) s (tested_none s (sym c.in-NoState.is ∙ c.streams.ensures))) (refl, refl)
+returns-in-NoState c = let a = c.args in let s = a.state.now in rw (reply_none (moving a.stream) s (tested_none s (sym c.in-NoState.is ∙ c.streams.ensures))) record { number = refl; buffer = refl }

@@ -9,7 +9,7 @@ pub offer_progress-requires : goal.offer_progress-requires
 offer_progress-requires c = tested_state _ _ (sym c.in-State.is ∙ c.streams.ensures)
 
 pub returns-in-State : goal.returns-in-State
-returns-in-State c = let a = c.args in let s = a.state.now in rw (reply_state (progress a.stream a.bound) s (tested_state s _ (sym c.in-State.is ∙ c.streams.ensures)).is_valid) (c.offer_progress.ensures.0, c.offer_progress.ensures.1.0)
+returns-in-State c = let a = c.args in let s = a.state.now in rw (reply_state (progress a.stream a.bound) s (tested_state s _ (sym c.in-State.is ∙ c.streams.ensures)).is_valid) record { number = c.offer_progress.ensures.number; buffer = c.offer_progress.ensures.buffer }
 
 pub returns-in-NoState : goal.returns-in-NoState
-returns-in-NoState c = let a = c.args in let s = a.state.now in rw (reply_none (progress a.stream a.bound) s (tested_none s (sym c.in-NoState.is ∙ c.streams.ensures))) (refl, refl)
+returns-in-NoState c = let a = c.args in let s = a.state.now in rw (reply_none (progress a.stream a.bound) s (tested_none s (sym c.in-NoState.is ∙ c.streams.ensures))) record { number = refl; buffer = refl }

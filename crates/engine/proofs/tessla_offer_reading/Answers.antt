@@ -11,7 +11,7 @@ pub offer_reading-requires : goal.offer_reading-requires
 offer_reading-requires c = tested_state _ _ (sym c.in-State.is ∙ c.streams.ensures)
 
 pub returns-in-State : goal.returns-in-State
-returns-in-State c = let a = c.args in let s = a.state.now in let same = to_z-of_z {w = w64} c.ranges.value in rw (reply_state (reading a.stream a.stamp a.value) s (tested_state s _ (sym c.in-State.is ∙ c.streams.ensures)).is_valid) (rw same at c.offer_reading.ensures.0, rw same at c.offer_reading.ensures.1.0)
+returns-in-State c = let a = c.args in let s = a.state.now in let same = to_z-of_z {w = w64} c.ranges.value in rw (reply_state (reading a.stream a.stamp a.value) s (tested_state s _ (sym c.in-State.is ∙ c.streams.ensures)).is_valid) record { number = rw same at c.offer_reading.ensures.number; buffer = rw same at c.offer_reading.ensures.buffer }
 
 pub returns-in-NoState : goal.returns-in-NoState
-returns-in-NoState c = let a = c.args in let s = a.state.now in rw (reply_none (reading a.stream a.stamp a.value) s (tested_none s (sym c.in-NoState.is ∙ c.streams.ensures))) (refl, refl)
+returns-in-NoState c = let a = c.args in let s = a.state.now in rw (reply_none (reading a.stream a.stamp a.value) s (tested_none s (sym c.in-NoState.is ∙ c.streams.ensures))) record { number = refl; buffer = refl }

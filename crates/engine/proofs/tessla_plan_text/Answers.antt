@@ -11,4 +11,4 @@ pub returns-in-State : goal.returns-in-State
 returns-in-State c = let s = c.args.state.now in rw (text_state s c.args.text.now (tested_state s _ (sym c.in-State.is ∙ c.streams.ensures)).is_valid) c.write.ensures
 
 pub returns-in-NoState : goal.returns-in-NoState
-returns-in-NoState c = let s = c.args.state.now in rw (text_none s c.args.text.now (tested_none s (sym c.in-NoState.is ∙ c.streams.ensures))) (refl, (refl, refl))
+returns-in-NoState c = let s = c.args.state.now in rw (text_none s c.args.text.now (tested_none s (sym c.in-NoState.is ∙ c.streams.ensures))) record { number = refl; length = refl; buffer = refl }

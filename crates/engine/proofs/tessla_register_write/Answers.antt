@@ -2,4 +2,4 @@
 use Rattle.engine.proofs.tessla_register_write.Goals as goal
 
 pub returns : goal.returns
-returns c = c.write.ensures
+returns c = let h = c.write.ensures in record { number = h.number; block = h.block; buffer = h.state }

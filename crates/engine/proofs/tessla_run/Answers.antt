@@ -10,7 +10,7 @@ pub run-requires : goal.run-requires
 run-requires c = tested_state _ _ (sym c.in-State.is ∙ c.streams.ensures)
 
 pub returns-in-State : goal.returns-in-State
-returns-in-State c = let a = c.args in let s = a.state.now in rw (reply_state (running a.n) s (tested_state s _ (sym c.in-State.is ∙ c.streams.ensures)).is_valid) (sym (run_done a.n s), (c.run.ensures.0, c.run.ensures.1.0))
+returns-in-State c = let a = c.args in let s = a.state.now in rw (reply_state (running a.n) s (tested_state s _ (sym c.in-State.is ∙ c.streams.ensures)).is_valid) record { number = sym (run_done a.n s); moves = c.run.ensures.moves; buffer = c.run.ensures.buffer }
 
 pub returns-in-NoState : goal.returns-in-NoState
-returns-in-NoState c = let a = c.args in let s = a.state.now in rw (reply_none (running a.n) s (tested_none s (sym c.in-NoState.is ∙ c.streams.ensures))) (refl, (refl, refl))
+returns-in-NoState c = let a = c.args in let s = a.state.now in rw (reply_none (running a.n) s (tested_none s (sym c.in-NoState.is ∙ c.streams.ensures))) record { number = refl; moves = refl; buffer = refl }
