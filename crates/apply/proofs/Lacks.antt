@@ -1,7 +1,7 @@
 -- Why an event is missing: the arms of the code are what the equation says.
 use Prim.Native.Nat.{ℕ}
-use mathlib.Core.Path.{◌≡◌, refl, sym, ap, ap₂, ◌∙◌}
-use mathlib.Core.Bool.{Bool, false}
+use mathlib.Core.Path.{◌≡◌, refl, sym, ap}
+use mathlib.Core.Bool.{false}
 use mathlib.Core.Option.{Option, none, some}
 use lib.IntN.{ℤ}
 use Rattle.num.specs.declared.Answer.{Answer}
@@ -11,14 +11,11 @@ use Rattle.meaning.specs.Plan as plan
 use Rattle.meaning.specs.Table.{calculated, two_at}
 use Rattle.meaning.specs.Missing.{Reason, outside, divisor, lacks, said_for, one_says, calc_says, two_says}
 use Rattle.meaning.proofs.Missing.{one_lacks, valued_lacks}
-use Rattle.queue.specs.declared.Found.{Found}
-use Rattle.queue.specs.Found.{as_option}
 use Rattle.apply.specs.declared.Unary.{Unary}
 use Rattle.apply.specs.declared.Unary.TheVariants.{Time, Set, Plus, Neg}
 use Rattle.apply.specs.declared.Calc.{Calc}
 use Rattle.apply.specs.declared.Binary.{Binary}
 use Rattle.apply.specs.declared.Binary.TheVariants.{Arith, Keep, Merge}
-use Rattle.apply.specs.declared.Lack.{Lack}
 use Rattle.apply.specs.declared.Lack.TheVariants.{Outside, ZeroDivisor}
 use Rattle.apply.specs.Named.{unary, calculation, binary}
 use Rattle.apply.specs.Lack.{lack_for}

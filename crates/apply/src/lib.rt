@@ -1,5 +1,6 @@
 // The rows of the operator table that compute: what an equation has at a stamp, from what its arguments have there.
 #![tactic(auto)]
+
 ghost use Rattle.std.specs.Prelude.{◌≡◌, ℕ, ◌≤◌};
 ghost use Rattle.num.specs.Arithmetic.{is_zero};
 ghost use Rattle.meaning.specs.Events.{horizon, or_else};

@@ -1,5 +1,6 @@
 // The reader board's block of 24 bytes: the only functions that know where a register lies, the interrupt flags, and the line.
 #![tactic(auto)]
+
 ghost use Rattle.std.specs.Prelude.{◌≡◌, false, cond, ◌&&◌, ◌||◌, ◌<◌, length, set};
 ghost use Rattle.block.specs.Block.{bit, with_flags, stream_in, stamp_in, value_in};
 ghost use Rattle.block.specs.Block as board;

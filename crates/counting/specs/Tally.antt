@@ -3,7 +3,6 @@ use Rattle.std.specs.Prelude.{ℕ, ◌+◌, ◌*◌, ◌/◌, ◌%◌, ◌^◌, 
 use Rattle.meaning.specs.Plan.{nil}
 use Rattle.meaning.specs.Events.{found, has}
 use Rattle.meaning.specs.Missing.{Said, Reason, outside, divisor, said_for, count_limit}
-use Rattle.machine.specs.State.{Cell}
 use Rattle.machine.specs.Step.{hears}
 use Rattle.machine.specs.Counting.{tallied}
 use Rattle.layout.specs.Record.{Raw, dec_raw, num, with_num, counts_f}

@@ -1,6 +1,7 @@
 // What a move counts: at how many of the stamps that its bound passes an event is missing, and why. Of all equations but windows,
 // for which nil stands here: crates/windows has theirs.
 #![tactic(auto)]
+
 ghost use Rattle.std.specs.Prelude.{◌≡◌, cond, ◌&&◌, not, false, true, [], suc, ◌+◌, ◌≤◌, ◌<◌, ◌^◌, length};
 ghost use Rattle.meaning.specs.Events.{found, has, horizon};
 ghost use Rattle.meaning.specs.Missing.{Reason, said_for, signal_says};

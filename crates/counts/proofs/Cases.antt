@@ -11,8 +11,8 @@ use borrow.Author.Tests.{lt-ltb, le-ltb}
 use Rattle.meaning.specs.Missing.{outside, divisor}
 use Rattle.machine.specs.State.{State, cell_at}
 use Rattle.machine.specs.Calls.{Missing, no_counts, missing}
-use Rattle.le.specs.Bytes.{Bytes, part}
-use Rattle.layout.specs.Record.{Raw, dec_raw, num, decode, row_at, counts_f}
+use Rattle.le.specs.Bytes.{part}
+use Rattle.layout.specs.Record.{Raw, dec_raw, num, counts_f}
 use Rattle.layout.proofs.Laws.{record_row}
 use Rattle.encoding.specs.Back.{state_of}
 use Rattle.encoding.proofs.Cells.{state_length_lem, state_counts}

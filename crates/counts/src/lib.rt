@@ -1,5 +1,6 @@
 // The counts of missing events of a stream, read from a state.
 #![tactic(auto)]
+
 ghost use Rattle.std.specs.Prelude.{◌≡◌};
 ghost use Rattle.machine.specs.Calls as machine;
 ghost use Rattle.roundtrip.specs.In.{state_in, IsState};

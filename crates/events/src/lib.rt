@@ -1,5 +1,6 @@
 // What an equation has at a stamp, from its bound on: from its arguments' held events and what it keeps.
 #![tactic(auto)]
+
 ghost use Rattle.std.specs.Prelude.{◌≡◌, suc, pred, ◌≤◌, ◌<◌, ◌^◌, ◌||◌, length};
 ghost use Rattle.meaning.specs.Events.{found, has, horizon};
 ghost use Rattle.meaning.specs.Table.{last_at, delay_at, signal_at, unit_at};

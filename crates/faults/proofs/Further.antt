@@ -16,9 +16,7 @@ use Rattle.lines.specs.declared.Numeral.TheVariants.{Number, Fault}
 use Rattle.lines.specs.Form.{skip, field, value_line}
 use Rattle.text.specs.declared.Fields.{Fields}
 use Rattle.text.specs.declared.Lines.{Lines}
-use Rattle.text.specs.declared.Lines.TheVariants as Lines
 use Rattle.text.specs.declared.Head.{Head}
-use Rattle.text.specs.declared.Head.TheVariants as Head
 use Rattle.text.specs.Grammar.{plan_line, first_key, second_key, stream, head}
 use Rattle.render.proofs.Ranges.{same_stream, not_refused}
 use Rattle.faults.specs.declared.Fault as declared

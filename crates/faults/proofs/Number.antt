@@ -14,7 +14,6 @@ use Rattle.operators.specs.Limits.{text_limit}
 use Rattle.lines.specs.Form.{skip}
 use Rattle.text.specs.declared.Fields.{Fields}
 use Rattle.text.specs.declared.Head.{Head}
-use Rattle.text.specs.declared.Head.TheVariants as Head
 use Rattle.text.specs.Grammar.{plan_line, head}
 use Rattle.plan.specs.Rules.{all_keep, Form, refused, formed, streams, plan_from, windows_ok, number_after, number_of_head, number, declared}
 use Rattle.plan.proofs.Rendered.{same_plan}

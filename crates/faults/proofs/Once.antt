@@ -12,7 +12,6 @@ use Rattle.meaning.specs.Plan.{Plan}
 use Rattle.meaning.specs.CycleTest.{acyclic}
 use Rattle.operators.specs.Limits.{text_limit}
 use Rattle.text.specs.declared.Head.{Head}
-use Rattle.text.specs.declared.Head.TheVariants as Head
 use Rattle.text.specs.Grammar.{head}
 use Rattle.faults.specs.declared.Fault.{Fault}
 use Rattle.faults.specs.Faults.{fault, none, in_stream, or_next, form_fault, rule_fault, window_fault, Lowest, cycle_fault, plan_of, fault_of_head, fault_with, Found}

@@ -22,12 +22,9 @@ use Rattle.lines.specs.declared.Numeral.{Numeral}
 use Rattle.lines.specs.declared.Numeral.TheVariants.{Number, Fault}
 use Rattle.lines.specs.Form.{skip, field, value_line, out_line}
 use Rattle.text.specs.declared.Name.{Name}
-use Rattle.text.specs.declared.Name.TheVariants as Name
 use Rattle.text.specs.declared.Fields.{Fields}
 use Rattle.text.specs.declared.Lines.{Lines}
-use Rattle.text.specs.declared.Lines.TheVariants as Lines
 use Rattle.text.specs.declared.Head.{Head}
-use Rattle.text.specs.declared.Head.TheVariants as Head
 use Rattle.text.specs.Grammar.{plan_line, streams_key, first_key, second_key, op_line, next, fields_after, stream_after, stream, counts, head_after, head}
 use Rattle.text.proofs.Heads.{no_bytes, some_bytes}
 use Rattle.plan.specs.Rules.{keeps, all_keep, Form, refused, formed, put, others, streams, plan_from, all_widths, windows_ok}

@@ -10,7 +10,6 @@ use Rattle.operators.specs.Operators.{group_of, is_window}
 use Rattle.operators.specs.Limits.{window_limit}
 use Rattle.text.specs.declared.Fields.{Fields}
 use Rattle.text.specs.declared.Lines.{Lines}
-use Rattle.text.specs.declared.Lines.TheVariants as Lines
 use Rattle.text.specs.Grammar.{stream}
 use Rattle.faults.specs.Faults.{fault, none, in_stream, stream_line, stream_or, form_fault, Rule, first_broken, ninth_rule}
 

@@ -11,15 +11,11 @@ use Rattle.operators.specs.Windows.{width_ok}
 use Rattle.lines.specs.declared.Word.{Word}
 use Rattle.lines.specs.declared.Word.TheVariants.{Past, Absent}
 use Rattle.lines.specs.declared.Numeral.{Numeral}
-use Rattle.lines.specs.declared.Numeral.TheVariants as Numeral
 use Rattle.lines.specs.Form.{skip, field, value_line}
 use Rattle.text.specs.declared.Name.{Name}
-use Rattle.text.specs.declared.Name.TheVariants as Name
 use Rattle.text.specs.declared.Fields.{Fields}
 use Rattle.text.specs.declared.Lines.{Lines}
-use Rattle.text.specs.declared.Lines.TheVariants as Lines
 use Rattle.text.specs.declared.Head.{Head}
-use Rattle.text.specs.declared.Head.TheVariants as Head
 use Rattle.text.specs.Grammar.{plan_line, first_key, second_key, op_line, stream, head}
 use Rattle.plan.specs.Rules.{keeps, declared}
 use Rattle.faults.specs.declared.Fault.{Fault}

@@ -1,5 +1,6 @@
 // Where a plan text is wrong: its number, the line and the stream.
 #![tactic(auto)]
+
 ghost use Rattle.std.specs.Prelude.{◌≡◌, ◌*◌, ◌<◌, ◌≤◌, length};
 ghost use Rattle.lines.specs.Form.{skip};
 ghost use Rattle.text.specs.declared.Head.TheVariants as Head;

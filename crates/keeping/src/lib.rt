@@ -1,5 +1,6 @@
 // A moved stream's own kept data: brought up to date from the held events, and stored in its record.
 #![tactic(auto)]
+
 ghost use Rattle.std.specs.Prelude.{◌≡◌, ◌+◌, ◌≤◌, ◌<◌, List, length};
 ghost use Rattle.meaning.specs.Plan.{Calc, last, delay, signal};
 ghost use Rattle.meaning.specs.Events.{Event};

@@ -4,15 +4,15 @@ use mathlib.Core.Path.{◌≡◌, refl, sym, ap, ap₂, ◌∙◌}
 use mathlib.Core.List.{List, [], ◌∷◌, ◌++◌, append_assoc}
 use native.Mathlib.Omega.{arith}
 use native.Mathlib.Nat.{add-zero}
-use borrow.Rule.Slice.PartMut.{mid_of, put_mid}
+use borrow.Rule.Slice.PartMut.{put_mid}
 use lib.ListN.{length, get_or, set, take, drop, length-append, length-drop, take-append-drop}
-use lib.Seq.{sets, sets-eq, length-sets, length-take-le, drop-drop, drop-append-le, take_at}
+use lib.Seq.{sets, sets-eq, length-take-le, drop-drop, drop-append-le, take_at}
 use Rattle.operators.specs.Limits.{width_limit, window_limit}
 use Rattle.le.specs.Bytes.{le, enc, part, Bytes}
 use Rattle.le.specs.Layout.{enc_rows, dec_rows}
 use Rattle.le.proofs.Laws.{length_enc, enc_le, le_enc, take_bytes, drop_bytes, part_below}
-use Rattle.le.proofs.Fields.{sets_left, sets_right, sets_whole, length_rows, rows_set, rows_dec, length_dec_rows, rows_get, part_part}
-use Rattle.le.proofs.RoundTrip.{All, rows_enc, rows_all, rows_split, rows_drop, sets_append}
+use Rattle.le.proofs.Fields.{sets_left, sets_right, sets_whole, length_rows, rows_set, rows_dec, length_dec_rows, rows_get}
+use Rattle.le.proofs.RoundTrip.{All, rows_enc, rows_split, rows_drop, sets_append}
 use Rattle.layout.specs.Record.{no_raw, enc_raw, dec_raw, encode, decode}
 use Rattle.layout.specs.Windows.{window_length, area_length, enc_window, dec_window, enc_windows, window_start, window_at, with_window, pushed_word}
 use Rattle.layout.proofs.Laws.{raw_len, raw_dec}

@@ -1,5 +1,6 @@
 // Records in bytes: the only functions that know where a field lies.
 #![tactic(auto)]
+
 ghost use Rattle.std.specs.Prelude.{◌≡◌, ◌+◌, ◌*◌, ◌≤◌, ◌<◌, ◌^◌, length, get_or, set};
 ghost use Rattle.le.specs.Bytes.{part};
 ghost use Rattle.machine.specs.State.{room};

@@ -10,7 +10,6 @@ use Rattle.layout.specs.Record.{Raw, Raws, with_num, row_at, change, enc_raw, de
 use Rattle.layout.proofs.Laws.{RawOk, raw_ok, raws_ok, num_ok, leaf_then, row_ok_lem, change_ok, lent, decode_encode}
 use Rattle.text.specs.declared.Fields.{Fields}
 use Rattle.text.specs.declared.Lines.{Lines}
-use Rattle.text.specs.declared.Lines.TheVariants as Lines
 use Rattle.text.specs.Grammar.{stream}
 use Rattle.load.specs.Filled.{stored, next, written}
 

@@ -30,7 +30,6 @@ use Rattle.encoding.specs.View.{KeptNums, no_nums, kept_nums, flag, pad_to, raw_
 use Rattle.roundtrip.proofs.Windows.{none_window, none_windows}
 use Rattle.text.specs.declared.Fields.{Fields}
 use Rattle.text.specs.declared.Lines.{Lines}
-use Rattle.text.specs.declared.Lines.TheVariants as Lines
 use Rattle.text.specs.declared.Head.{Head}
 use Rattle.text.specs.Grammar.{stream}
 use Rattle.render.proofs.Heads.{head_fits}

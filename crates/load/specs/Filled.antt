@@ -3,9 +3,7 @@ use Rattle.std.specs.Prelude.{ℕ, zero, suc, ◌+◌, ◌%◌, List, length, re
 use Rattle.layout.specs.Record.{Raw, Raws, with_num, change, encode, decode, op_f, a_f, b_f, out_f, k_f}
 use Rattle.text.specs.declared.Fields.{Fields}
 use Rattle.text.specs.declared.Lines.{Lines}
-use Rattle.text.specs.declared.Lines.TheVariants as Lines
 use Rattle.text.specs.declared.Head.{Head}
-use Rattle.text.specs.declared.Head.TheVariants as Head
 use Rattle.text.specs.Grammar.{stream, head}
 
 -- a record with a stream's fields

@@ -1,5 +1,6 @@
 // Fills a state with the streams of a plan text: a second pass over a text whose number is 0.
 #![tactic(auto)]
+
 ghost use Rattle.std.specs.Prelude.{◌≡◌, ◌*◌, ◌≤◌, length};
 ghost use Rattle.layout.specs.Record.{enc_raw, dec_raw, encode, decode};
 ghost use Rattle.load.specs.Filled.{stored, written, filled};

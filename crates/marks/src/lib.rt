@@ -1,5 +1,6 @@
 // The lowest stream on a cycle: marks the streams that undelayed arguments lead to, over the graph of a plan in bytes.
 #![tactic(auto)]
+
 ghost use Rattle.std.specs.Prelude.{◌≡◌, ◌||◌, ◌<◌, ◌≤◌, length};
 ghost use Rattle.operators.specs.Limits.{most_streams};
 ghost use Rattle.marks.specs.Marks.{marked, args_marked, turned, passed, Grown, Spread, Back, LowestBack};

@@ -1,5 +1,6 @@
 // The names of the operators, put into a lent buffer, and how long they are.
 #![tactic(auto)]
+
 ghost use Rattle.std.specs.Prelude.{◌≡◌, ◌+◌, ◌≤◌, length};
 ghost use Rattle.operators.specs.Operators.{name_of};
 ghost use Rattle.text.specs.Lookup.{pack};

@@ -12,7 +12,6 @@ use Rattle.operators.specs.Limits.{most_streams, window_limit}
 use Rattle.cycle.specs.Graph.{Walk, walked, cleared}
 use Rattle.text.specs.declared.Fields.{Fields}
 use Rattle.plan.specs.declared.Checked.{Checked}
-use Rattle.plan.specs.declared.Checked.TheVariants as Checked
 use Rattle.plan.specs.Rules.{all_keep, Form, refused, formed, streams, plan_from, windows_ok, number_after}
 use Rattle.plan.specs.Pass.{noted_all, weights, pass_of, checked_of, Noted}
 use Rattle.plan.proofs.Noted.{cleared_plan}

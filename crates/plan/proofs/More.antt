@@ -2,7 +2,7 @@
 use Prim.Native.Nat.{ℕ, ◌≤◌}
 use mathlib.Core.Path.{◌≡◌, refl, sym, ap, ◌∙◌}
 use mathlib.Core.Bool.{Bool, true, false, cond, ◌&&◌}
-use mathlib.Core.List.{List, [], ◌∷◌, map}
+use mathlib.Core.List.{List, [], ◌∷◌}
 use native.Mathlib.Omega.{arith}
 use native.Mathlib.Decide.{ℕ_discrete}
 use lib.Dec.{eqb, ltb, leb}
@@ -17,10 +17,9 @@ use Rattle.lines.specs.declared.Numeral.{Numeral}
 use Rattle.lines.specs.declared.Numeral.TheVariants.{Number, Fault}
 use Rattle.lines.specs.Form.{skip, field}
 use Rattle.text.specs.declared.Head.{Head}
-use Rattle.text.specs.declared.Head.TheVariants as Head
 use Rattle.text.specs.Grammar.{plan_line, streams_key, counts, head_after, head}
 use Rattle.render.proofs.Heads.{head_fits}
-use Rattle.plan.specs.Rules.{all_keep, Form, refused, formed, streams, declared_from, plan_from, windows_ok, number_after, number_of_head, number, declared}
+use Rattle.plan.specs.Rules.{all_keep, Form, refused, formed, streams, declared_from, plan_from, windows_ok, number_after, number, declared}
 use Rattle.plan.specs.Taken.{KeepsRules}
 use Rattle.plan.proofs.Noted.{read_sound}
 use Rattle.plan.proofs.Rendered.{render_taken}

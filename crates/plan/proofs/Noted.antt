@@ -20,7 +20,6 @@ use Rattle.cycle.proofs.Tied.{args_at}
 use Rattle.cycle.proofs.Graphs.{entry_length, graph_acyclic}
 use Rattle.text.specs.declared.Fields.{Fields}
 use Rattle.text.specs.declared.Lines.{Lines}
-use Rattle.text.specs.declared.Lines.TheVariants as Lines
 use Rattle.text.specs.Grammar.{stream}
 use Rattle.render.proofs.Ranges.{op_range}
 use Rattle.plan.specs.Rules.{keeps, all_keep, Form, refused, formed, put, others, streams, eqn_from, plan_from}

@@ -10,12 +10,9 @@ use Rattle.operators.specs.Limits.{window_limit}
 use Rattle.cycle.specs.Graph.{entry_of}
 use Rattle.text.specs.declared.Fields.{Fields}
 use Rattle.text.specs.declared.Lines.{Lines}
-use Rattle.text.specs.declared.Lines.TheVariants as Lines
 use Rattle.text.specs.Grammar.{stream}
 use Rattle.plan.specs.declared.Checked.{Checked}
-use Rattle.plan.specs.declared.Checked.TheVariants as Checked
 use Rattle.plan.specs.declared.Turn.{Turn}
-use Rattle.plan.specs.declared.Turn.TheVariants as Turn
 use Rattle.plan.specs.Rules.{keeps, all_keep, Form, refused, formed, put, others, streams}
 use Rattle.plan.specs.Pass.{noted_all, noted_stream, noted_lines, weight_of, weights, turn, Pass, halted, through, pass_of, checked_of, Noted}
 use Rattle.plan.proofs.Weights.{weight_most}

@@ -1,5 +1,5 @@
 -- A plan that keeps the rules renders within the limit, its text is taken, and reading the text gives the plan back.
-use Prim.Native.Nat.{ℕ, zero, suc, ◌+◌, ◌*◌, ◌-◌, ◌^◌, ◌<◌, ◌≤◌}
+use Prim.Native.Nat.{ℕ, zero, suc, ◌*◌, ◌-◌, ◌^◌, ◌<◌, ◌≤◌}
 use mathlib.Core.Path.{◌≡◌, refl, sym, ap, ◌∙◌}
 use mathlib.Core.Bool.{Bool, true, false, ◌&&◌, true≢false}
 use mathlib.Core.List.{List, [], ◌∷◌, ◌++◌, append_assoc, append-nil, map}
@@ -18,7 +18,7 @@ use Rattle.meaning.specs.CycleTest.{acyclic}
 use Rattle.meaning.proofs.Within.{reads_within}
 use Rattle.meaning.proofs.CycleTest.{test_complete}
 use Rattle.machine.specs.State.{Declared, declared_plan}
-use Rattle.operators.specs.Operators.{name_of, eqn_of, number_of, value_of}
+use Rattle.operators.specs.Operators.{eqn_of, number_of, value_of}
 use Rattle.operators.specs.Limits.{most_streams, window_limit, text_limit}
 use Rattle.operators.specs.Windows.{width_ok, IsWidth, windows}
 use Rattle.operators.proofs.Rules.{out_pass, fields_pass}
@@ -27,11 +27,9 @@ use Rattle.operators.proofs.Widths.{width_pass}
 use Rattle.text.specs.declared.Fields.{Fields}
 use Rattle.text.specs.declared.Lines.TheVariants as Lines
 use Rattle.text.specs.declared.Head.{Head}
-use Rattle.text.specs.declared.Head.TheVariants as Head
-use Rattle.lines.specs.Form.{value_key, out_key, ending}
-use Rattle.text.specs.Grammar.{plan_line, streams_key, op_key, first_key, second_key, stream, head}
-use Rattle.decimal.specs.Decimal.{decimal, value_text}
-use Rattle.render.specs.Render.{bit_text, line, stream_text, declared_text, all_text, opening, render}
+use Rattle.text.specs.Grammar.{stream, head}
+use Rattle.decimal.specs.Decimal.{value_text}
+use Rattle.render.specs.Render.{declared_text, all_text, opening, render}
 use Rattle.decimal.proofs.Digits.{digits_few}
 use Rattle.render.proofs.Streams.{bits_of, out_of, name_short, stream_written}
 use Rattle.render.proofs.Heads.{head_written}

@@ -12,7 +12,6 @@ use Rattle.operators.proofs.Rules.{arg_small, first_ok, second_ok}
 use Rattle.operators.proofs.Tests.{left, right}
 use Rattle.text.specs.declared.Fields.{Fields}
 use Rattle.text.specs.declared.Lines.{Lines}
-use Rattle.text.specs.declared.Lines.TheVariants as Lines
 use Rattle.text.specs.Grammar.{stream}
 use Rattle.render.proofs.Heads.{head_fits}
 use Rattle.plan.specs.Rules.{keeps, all_keep, Form, refused, formed, put, others, streams}

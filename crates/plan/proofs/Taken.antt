@@ -27,9 +27,7 @@ use Rattle.operators.proofs.Rules.{fields_first, fields_second, fields_value, fi
 use Rattle.operators.proofs.Tests.{left, right}
 use Rattle.text.specs.declared.Fields.{Fields}
 use Rattle.text.specs.declared.Lines.{Lines}
-use Rattle.text.specs.declared.Lines.TheVariants as Lines
 use Rattle.text.specs.declared.Head.{Head}
-use Rattle.text.specs.declared.Head.TheVariants as Head
 use Rattle.text.specs.Grammar.{stream, head}
 use Rattle.render.specs.Render.{stream_text, declared_text, all_text, opening, render}
 use Rattle.render.proofs.Ranges.{stream_refused}

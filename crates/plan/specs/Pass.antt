@@ -7,12 +7,8 @@ use Rattle.operators.specs.Windows.{width_ok}
 use Rattle.cycle.specs.Graph.{entry_of}
 use Rattle.text.specs.declared.Fields.{Fields}
 use Rattle.text.specs.declared.Lines.{Lines}
-use Rattle.text.specs.declared.Lines.TheVariants as Lines
-use Rattle.text.specs.declared.Head.TheVariants as Head
 use Rattle.plan.specs.declared.Checked.{Checked}
-use Rattle.plan.specs.declared.Checked.TheVariants as Checked
 use Rattle.plan.specs.declared.Turn.{Turn}
-use Rattle.plan.specs.declared.Turn.TheVariants as Turn
 use Rattle.plan.specs.Rules.{keeps, all_keep, Form, refused, formed}
 
 -- what is noted of stream i: nothing if it breaks rule 5, since the text is refused anyway

@@ -11,12 +11,8 @@ use Rattle.operators.specs.Limits.{window_limit, text_limit}
 use Rattle.operators.specs.Windows.{width_ok, windows}
 use Rattle.text.specs.declared.Fields.{Fields}
 use Rattle.text.specs.declared.Lines.{Lines}
-use Rattle.text.specs.declared.Lines.TheVariants as Lines
 use Rattle.text.specs.declared.Head.{Head}
-use Rattle.text.specs.declared.Head.TheVariants as Head
 use Rattle.text.specs.Grammar.{stream, head}
-use Rattle.plan.specs.declared.Checked.TheVariants as Checked
-use Rattle.plan.specs.declared.Turn.TheVariants as Turn
 
 -- ## "Then 5, an unused field not 0, a used argument not below N, or out=1 on in."
 

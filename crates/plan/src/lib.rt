@@ -1,5 +1,6 @@
 // The number of a plan text: its form line by line, then rules 5, 18 and 6.
 #![tactic(auto)]
+
 ghost use Rattle.std.specs.Prelude.{◌≡◌, true, ◌&&◌, ◌+◌, ◌*◌, ◌<◌, ◌≤◌, length};
 ghost use Rattle.text.specs.Grammar.{stream};
 ghost use Rattle.operators.specs.Limits.{most_streams};

@@ -1,5 +1,6 @@
 // What the replay program prints, put into a lent buffer: an event as `s=5 t=3 v=1`, a refusal as `refused=16`, each with byte 10.
 #![tactic(auto)]
+
 ghost use Rattle.std.specs.Prelude.{◌+◌, ◌≤◌, length};
 ghost use Rattle.decimal.specs.Put.{Put};
 ghost use Rattle.printer.specs.Print.{event_text, refused_text, event_room, refused_room};

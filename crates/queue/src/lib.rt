@@ -1,6 +1,7 @@
 // The queue of a stream, where it lies in its record: an event appended, how many there are, the first not below a stamp, the
 // oldest dropped, and searches.
 #![tactic(auto)]
+
 ghost use Rattle.std.specs.Prelude.{◌≡◌, ◌≤◌, min, length};
 ghost use Rattle.meaning.specs.Events.{found};
 ghost use Rattle.meaning.specs.Table.{latest};

@@ -1,6 +1,6 @@
 -- The loops' turns, and the steps of the whole buffer one after the other.
-use Prim.Native.Nat.{ℕ, zero, suc, ◌+◌, ◌*◌, ◌-◌, ◌^◌, ◌<◌, ◌≤◌, min}
-use mathlib.Core.Path.{◌≡◌, refl, sym, ap, ap₂, ◌∙◌}
+use Prim.Native.Nat.{ℕ, zero, suc, ◌*◌, ◌-◌, ◌^◌, ◌<◌, ◌≤◌, min}
+use mathlib.Core.Path.{◌≡◌, refl, sym, ap, ◌∙◌}
 use mathlib.Core.List.{List, [], ◌∷◌}
 use mathlib.Core.Bool.{Bool, true, false, cond}
 use native.Mathlib.Omega.{arith}
@@ -12,7 +12,7 @@ use Rattle.meaning.specs.Events.{horizon}
 use Rattle.meaning.proofs.Tests.{is_true}
 use Rattle.machine.specs.State.{room}
 use Rattle.le.specs.Bytes.{part, Bytes}
-use Rattle.layout.specs.Record.{Raw, Raws, no_raw, num, dec_raw, encode, decode, row_at, change, change_all, slot_at, out_f, count_f, bound_f, next_f}
+use Rattle.layout.specs.Record.{Raw, Raws, no_raw, num, dec_raw, encode, decode, row_at, change, change_all, slot_at, count_f, bound_f}
 use Rattle.layout.proofs.Laws.{rows_many, row_at_lem, record_row, raws_ok, row_ok_lem, change_ok, change_all_ok, whole_then}
 use Rattle.readers.specs.Step.{reads_row, told_row, lowered, least_row, last_reader, waits_before, waiting_row, released_row, offered}
 use Rattle.queue.specs.Queue.{pushed, released}

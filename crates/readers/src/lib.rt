@@ -1,5 +1,6 @@
 // One step on bytes: an event appended, the readers told, and what nobody waits for let go.
 #![tactic(auto)]
+
 ghost use Rattle.std.specs.Prelude.{◌≡◌, ◌*◌, ◌+◌, ◌≤◌, ◌<◌, length};
 ghost use Rattle.layout.specs.Record as layout;
 ghost use Rattle.layout.specs.Record.{enc_raw, dec_raw, encode, decode, change_all, num, op_f};

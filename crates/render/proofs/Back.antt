@@ -20,11 +20,9 @@ use Rattle.lines.specs.declared.Word.TheVariants.{Past, Absent}
 use Rattle.lines.specs.declared.Numeral.{Numeral}
 use Rattle.lines.specs.declared.Numeral.TheVariants.{Number, Fault}
 use Rattle.text.specs.declared.Name.{Name}
-use Rattle.text.specs.declared.Name.TheVariants as Name
 use Rattle.lines.specs.declared.Scanned.{Scanned}
 use Rattle.text.specs.declared.Fields.{Fields}
 use Rattle.text.specs.declared.Lines.{Lines}
-use Rattle.text.specs.declared.Lines.TheVariants as Lines
 use Rattle.lines.specs.Form.{ending, value_key, out_key, stands, skip, after, digit, scanned, scan, counted, or_zero, whole, ended_at, ended, field, positive, negative, signed_after, signed, value_line, bit, out_line}
 use Rattle.text.specs.Grammar.{op_key, first_key, second_key, letter, name_at, same_name, place, names, number_named, op_line, stream}
 use Rattle.lines.proofs.Turns.{grows}

@@ -14,7 +14,6 @@ use Rattle.lines.specs.declared.Word.TheVariants.{Past, Absent}
 use Rattle.lines.specs.declared.Numeral.{Numeral}
 use Rattle.lines.specs.declared.Numeral.TheVariants.{Number, Fault}
 use Rattle.text.specs.declared.Head.{Head}
-use Rattle.text.specs.declared.Head.TheVariants as Head
 use Rattle.lines.specs.Form.{skip, field}
 use Rattle.text.specs.Grammar.{plan_line, streams_key, counts, head_after, head}
 use Rattle.decimal.specs.Decimal.{decimal}

@@ -12,10 +12,8 @@ use Rattle.lines.specs.declared.Word.TheVariants.{Past, Absent}
 use Rattle.lines.specs.declared.Numeral.{Numeral}
 use Rattle.lines.specs.declared.Numeral.TheVariants.{Number, Fault}
 use Rattle.text.specs.declared.Name.{Name}
-use Rattle.text.specs.declared.Name.TheVariants as Name
 use Rattle.text.specs.declared.Fields.{Fields}
 use Rattle.text.specs.declared.Lines.{Lines}
-use Rattle.text.specs.declared.Lines.TheVariants as Lines
 use Rattle.lines.specs.Form.{ending, skip, field, value_line, out_line}
 use Rattle.text.specs.Grammar.{op_key, first_key, second_key, same_name, place, names, number_named, known, named, name_at, name_after, op_line, next, fields_after, stream_after, stream}
 

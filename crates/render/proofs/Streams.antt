@@ -16,11 +16,9 @@ use Rattle.lines.specs.declared.Word.TheVariants.{Past, Absent}
 use Rattle.lines.specs.declared.Numeral.{Numeral}
 use Rattle.lines.specs.declared.Numeral.TheVariants.{Number}
 use Rattle.text.specs.declared.Name.{Name}
-use Rattle.text.specs.declared.Name.TheVariants as Name
 use Rattle.text.specs.declared.Lines.{Lines}
-use Rattle.text.specs.declared.Lines.TheVariants as Lines
 use Rattle.lines.specs.Form.{ending, value_key, out_key, skip, whole, positive, negative, signed, value_line, bit, out_line}
-use Rattle.text.specs.Grammar.{op_key, first_key, second_key, place, letter, name_at, number_named, known, named, op_line, next, fields_after, stream}
+use Rattle.text.specs.Grammar.{op_key, first_key, second_key, place, letter, name_at, number_named, known, named, op_line, fields_after, stream}
 use Rattle.decimal.specs.Decimal.{decimal, value_text}
 use Rattle.render.specs.Render.{bit_text, line, stream_text}
 use Rattle.decimal.proofs.Digits.{digits_first, digits_some, digit_one}

@@ -1,18 +1,18 @@
 -- Records that pass and windows that pass are those of the cells that they give, and the cells are sound; and back.
-use Prim.Native.Nat.{ℕ, zero, suc, ◌+◌, ◌*◌, ◌-◌, ◌<◌, ◌≤◌}
+use Prim.Native.Nat.{ℕ, zero, suc, ◌*◌, ◌-◌, ◌≤◌}
 use mathlib.Core.Path.{◌≡◌, refl, sym, ap, ap₂, ◌∙◌}
 use mathlib.Core.List.{List, [], ◌∷◌, ◌++◌, map}
-use mathlib.Core.Bool.{Bool, true, false, cond, ◌&&◌, true≢false}
+use mathlib.Core.Bool.{Bool, true, false, ◌&&◌, true≢false}
 use native.Mathlib.Omega.{arith}
 use lib.IntN.{ℤ}
 use lib.ListN.{length, take, drop, replicate, length-map, length-drop, take-append-drop}
 use lib.Seq.{length-take-le, take_at, drop_at}
 use mir.Syntax.{w64}
-use mir.Val.{to_z, of_z}
+use mir.Val.{of_z}
 use Rattle.meaning.specs.Plan.{Eqn, input, nil, unit, one, two, last, delay, signal, window, Plan}
 use Rattle.meaning.specs.Table.{width}
 use Rattle.machine.specs.State.{Passed, Cell, State, plan_of, with_passed}
-use Rattle.operators.specs.Operators.{group_of, is_window, value_of, eqn_group, number_of}
+use Rattle.operators.specs.Operators.{group_of, is_window, value_of}
 use Rattle.operators.specs.Limits.{width_limit}
 use Rattle.operators.specs.Windows.{IsWidth, is_window_eqn, windows}
 use Rattle.operators.proofs.Laws.{group_of_lem, window_by_number}
@@ -25,7 +25,7 @@ use Rattle.layout.specs.Windows.{window_length, enc_window}
 use Rattle.layout.proofs.Windows.{window_len}
 use Rattle.encoding.specs.View.{windows_of, words_of, of_cell}
 use Rattle.encoding.specs.Back.{to_cell, window_in, cells}
-use Rattle.encoding.specs.Sound.{AllValues, WindowKept, IsPassed, SoundCell, Own}
+use Rattle.encoding.specs.Sound.{AllValues, IsPassed, SoundCell, Own}
 use Rattle.encoding.proofs.Widths.{cell_back}
 use Rattle.encoding.proofs.Cells.{cells_window, cells_other, cells_none}
 use Rattle.valid.proofs.Tests.{left, right}

@@ -27,7 +27,7 @@ use Rattle.le.specs.Layout.{dec_fields}
 use Rattle.layout.specs.Record.{Raw, no_slot, num, slot_at, dec_raw, op_f, a_f, b_f, out_f, count_f, flag_f, prior_flag_f, k_f, bound_f, next_f, kept_f, value_f, prior_f, counts_f}
 use Rattle.layout.proofs.Laws.{RawOk, raw_ok}
 use Rattle.layout.proofs.Slots.{slots_many}
-use Rattle.encoding.specs.View.{flag, KeptNums, no_nums, last_nums, delay_nums, signal_nums, window_nums, kept_nums, slot_of, pad_to, of_cell}
+use Rattle.encoding.specs.View.{KeptNums, no_nums, last_nums, delay_nums, signal_nums, window_nums, kept_nums, slot_of, pad_to, of_cell}
 use Rattle.encoding.specs.Back.{event_of, held_of, kept_of, to_cell, counts_in}
 use Rattle.encoding.specs.Sound.{IsValue, Rising, IsNext, LastKept, DelayKept, SignalKept, IsKept, IsPassed, SoundCell, Own}
 use Rattle.valid.specs.Valid.{next_ok, last_ok, own_ok, delay_ok, signal_ok, window_ok, none_ok, kept_ok}

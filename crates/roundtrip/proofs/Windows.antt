@@ -2,38 +2,30 @@
 use Prim.Native.Nat.{ℕ, zero, suc, ◌+◌, ◌*◌, ◌-◌, ◌^◌, ◌<◌, ◌≤◌}
 use mathlib.Core.Path.{◌≡◌, refl, sym, ap, ap₂, ◌∙◌}
 use mathlib.Core.List.{List, [], ◌∷◌, ◌++◌, map, append-nil}
-use mathlib.Core.Bool.{Bool, true, false, cond, ◌&&◌, true≢false}
+use mathlib.Core.Bool.{Bool, true, cond, ◌&&◌}
 use native.Mathlib.Omega.{arith}
-use native.Mathlib.Nat.{zero-add}
 use lib.IntN.{ℤ}
-use lib.ListN.{length, get_or, take, drop, replicate, length-map, length-append, length-drop, length-replicate, take-append-drop, replicate-append-replicate}
-use lib.Seq.{length-take-le, take-take, drop-drop, take_at, drop_at, get_or-take}
+use lib.ListN.{length, get_or, take, drop, replicate, length-map, length-drop, take-append-drop, replicate-append-replicate}
+use lib.Seq.{length-take-le, take-take, take_at, drop_at, get_or-take}
 use mir.Syntax.{w64}
 use mir.Val.{of_z, to_z}
 use mir.Facts.{of_z-to_z}
-use Rattle.meaning.specs.Plan.{Eqn}
-use Rattle.meaning.specs.Table.{width}
-use Rattle.machine.specs.State.{Passed, Cell, State, plan_of, with_passed}
-use Rattle.operators.specs.Operators.{group_of, is_window, number_of, eqn_group}
-use Rattle.operators.specs.Limits.{width_limit, window_limit}
-use Rattle.operators.specs.Windows.{is_window_eqn, windows}
-use Rattle.operators.proofs.Laws.{group_of_lem}
-use Rattle.le.specs.Bytes.{le, enc, part, Bytes, all_zero}
+use Rattle.operators.specs.Operators.{group_of, is_window}
+use Rattle.operators.specs.Limits.{width_limit}
+use Rattle.le.specs.Bytes.{le, enc, Bytes, all_zero}
 use Rattle.le.specs.Layout.{enc_rows, dec_rows}
-use Rattle.le.proofs.Laws.{length_enc, le_enc, le_one, take_bytes, drop_bytes}
+use Rattle.le.proofs.Laws.{length_enc, le_enc, le_one}
 use Rattle.le.proofs.Fields.{length_rows}
 use Rattle.le.proofs.RoundTrip.{All, rows_split, drop_take}
 use Rattle.layout.specs.Record.{Raw, num, dec_raw, op_f, flag_f}
 use Rattle.layout.specs.Windows.{window_length, enc_window, dec_window}
 use Rattle.layout.proofs.Laws.{byte_get}
-use Rattle.layout.proofs.Windows.{window_len, window_dec, window_many, window_small, window_split}
-use Rattle.encoding.specs.View.{windows_of, words_of, of_cell}
+use Rattle.layout.proofs.Windows.{window_dec, window_many, window_small, window_split}
+use Rattle.encoding.specs.View.{words_of}
 use Rattle.encoding.specs.Back.{window_in}
-use Rattle.encoding.specs.Sound.{IsValue, AllValues, SoundCell}
-use Rattle.encoding.proofs.Widths.{bits_below, value_back, cell_back}
-use Rattle.encoding.proofs.Cells.{cells_window, cells_other, cells_none}
+use Rattle.encoding.specs.Sound.{AllValues}
+use Rattle.encoding.proofs.Widths.{bits_below, value_back}
 use Rattle.valid.specs.Valid.{windows_in, area_ok}
-use Rattle.valid.proofs.Tests.{left, right}
 use Rattle.roundtrip.proofs.Passes.{zeros_zero}
 use Rattle.roundtrip.proofs.Tail.{zero_list, bits_value}
 

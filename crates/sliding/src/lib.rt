@@ -1,5 +1,6 @@
 // A window's part of a move, in place on the bytes of n records and of the windows behind them.
 #![tactic(auto)]
+
 ghost use Rattle.std.specs.Prelude.{◌≡◌, suc, ◌+◌, ◌*◌, ◌^◌, ◌≤◌, ◌<◌, cond, length};
 ghost use Rattle.operators.specs.Limits.{width_limit, window_limit};
 ghost use Rattle.layout.specs.Record.{encode, decode, row_at};

@@ -1,5 +1,5 @@
 -- How: a raw record read as a cell with its bound and its set point within their ranges, and the struct that it is rebuilt into.
-use Rattle.std.specs.Prelude.{ℕ, ◌≤◌, min, ◌≡◌, false, List, []}
+use Rattle.std.specs.Prelude.{ℕ, ◌≤◌, min, ◌≡◌, false, List}
 use Rattle.meaning.specs.Plan.{Eqn, input, nil, unit, one, two, last, delay, signal, window}
 use Rattle.meaning.specs.Events.{Event, horizon}
 use Rattle.machine.specs.State.{Cell, Kept, absent, fresh, with_bound, with_held, with_kept, with_since}

@@ -1,5 +1,6 @@
 // Trace lines, read in place at a position of the lent text: a reading `s=0 t=3 v=7` or a progress `s=0 p=6`.
 #![tactic(auto)]
+
 ghost use Rattle.std.specs.Prelude.{◌≡◌, ◌<◌};
 ghost use Rattle.trace.specs.Trace.{value_after, stamp_after, bound_after, input_after, line};
 

@@ -15,7 +15,6 @@ use Rattle.layout.specs.Record.{Slot, Raw, num, slot_at, dec_raw, op_f, a_f, b_f
 use Rattle.layout.specs.Windows.{window_length, area_length, window_start}
 use Rattle.encoding.specs.Back.{area_of, state_of}
 use Rattle.valid.specs.declared.Tested.{Tested}
-use Rattle.valid.specs.declared.Tested.TheVariants as Tested
 
 -- nothing where there is nothing to keep it for
 abbrev pub none_if : ℕ → ℕ → Bool

@@ -1,5 +1,6 @@
 // Number 15: whether bytes are a state.
 #![tactic(auto)]
+
 ghost use Rattle.std.specs.Prelude.{◌≡◌, ◌+◌, ◌*◌, ◌≤◌, ◌<◌, length, drop};
 ghost use Rattle.operators.specs.Limits.{most_streams, window_limit, capacity};
 ghost use Rattle.machine.specs.State.{room};

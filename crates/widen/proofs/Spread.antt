@@ -7,7 +7,7 @@ use native.Mathlib.Omega.{arith}
 use native.Mathlib.Nat.{zero-add}
 use lib.ListN.{length, take, drop, replicate, length-append, length-drop, length-replicate, replicate-append-replicate}
 use lib.Seq.{sets, take_at, drop_at, take_all, length-take-le}
-use Rattle.operators.specs.Limits.{window_limit, capacity}
+use Rattle.operators.specs.Limits.{window_limit}
 use Rattle.machine.specs.State.{State}
 use Rattle.le.specs.Bytes.{Bytes, part}
 use Rattle.le.specs.Layout.{enc_rows}

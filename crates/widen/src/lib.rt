@@ -1,5 +1,6 @@
 // A state copied into a longer buffer, where it goes on from the same point.
 #![tactic(auto)]
+
 ghost use Rattle.std.specs.Prelude.{◌≡◌, ◌≤◌, length};
 ghost use Rattle.layout.specs.Windows.{area_length};
 ghost use Rattle.widen.specs.Spread.{spread};

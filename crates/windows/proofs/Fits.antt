@@ -16,7 +16,7 @@ use Rattle.meaning.specs.Plan.{Fold}
 use Rattle.meaning.specs.Events.{Event}
 use Rattle.meaning.specs.Table.{latest_of, folded, value_of}
 use Rattle.machine.specs.State.{room}
-use Rattle.machine.specs.Reach.{Next, event, silent}
+use Rattle.machine.specs.Reach.{event, silent}
 use Rattle.machine.specs.Step.{drop_below}
 use Rattle.machine.specs.Windows.{fits_at, first_fit}
 use Rattle.layout.specs.Record.{Slot, Raw, no_slot, num, count_f, slot_at}

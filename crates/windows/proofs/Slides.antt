@@ -1,13 +1,11 @@
 -- A window slides: the words of the held events are gathered, and come in one by one.
-use Prim.Native.Nat.{ℕ, zero, suc, ◌+◌, ◌-◌, ◌^◌, ◌<◌, ◌≤◌, min}
+use Prim.Native.Nat.{ℕ, suc, ◌+◌, ◌-◌, ◌^◌, ◌<◌, ◌≤◌, min}
 use mathlib.Core.Path.{◌≡◌, refl, sym, ap, ap₂, ◌∙◌}
-use mathlib.Core.Bool.{Bool, true, false, cond}
 use mathlib.Core.List.{List, [], ◌∷◌, ◌++◌, map, map-append, append_assoc, append-nil}
 use native.Mathlib.Omega.{arith}
-use lib.Dec.{ltb}
 use lib.IntN.{ℤ}
 use lib.ListN.{length, get_or, take, drop, set, length-set, length-map, length-append, length-drop, take-append-drop}
-use lib.Seq.{slice, slice-cons, slice_empty, length-take-le, set_split, take-suc-set, take_at, drop_at, drop-drop}
+use lib.Seq.{slice-cons, slice_empty, length-take-le, set_split, take-suc-set, take_at, drop_at, drop-drop}
 use mir.Syntax.{w64}
 use mir.Val.{to_z}
 use mir.Facts.{of_z-to_z}

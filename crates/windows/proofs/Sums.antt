@@ -13,7 +13,7 @@ use mir.Syntax.{w64}
 use mir.Val.{to_z}
 use mir.Facts.{to_z_pos}
 use borrow.Author.Tests.{lt-ltb}
-use Rattle.num.specs.declared.Answer.TheVariants.{Value, Outside}
+use Rattle.num.specs.declared.Answer.TheVariants.{Value}
 use Rattle.num.specs.Arithmetic.{fit}
 use Rattle.num.proofs.Arith.{less, fit_pos, fit_neg, too_big, too_big_plain}
 use Rattle.num.proofs.Signed.{to_z_high}

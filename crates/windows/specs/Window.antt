@@ -1,5 +1,5 @@
 -- How: what a window's bytes and the slots of a record hold, their values raised, and the folds over them.
-use Rattle.std.specs.Prelude.{ℕ, ◌+◌, ◌-◌, ◌*◌, ◌/◌, ◌%◌, ◌^◌, min, max, Bool, true, false, cond, List, [], ◌∷◌, ◌++◌, map, ltb, ℤ, pos, ◌-ℤ◌, take}
+use Rattle.std.specs.Prelude.{ℕ, ◌+◌, ◌-◌, ◌*◌, ◌/◌, ◌%◌, ◌^◌, min, max, Bool, true, false, cond, List, [], ◌∷◌, map, ltb, ℤ, pos, ◌-ℤ◌, take}
 use Rattle.std.proofs.Math.Seq.{slice}
 use Rattle.std.specs.Int.{w64}
 use Rattle.std.proofs.Common.{to_z}

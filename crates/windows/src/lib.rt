@@ -1,6 +1,7 @@
 // A window on bytes: what its latest values and the held events of its argument fold to, where that first is a value, and how it
 // slides. Values are worked on raised by 2^63, so that none is below 0: the controller has no wider type for a sum.
 #![tactic(auto)]
+
 ghost use Rattle.std.specs.Prelude.{◌≡◌, cond, [], ◌∷◌, ◌++◌, map, suc, ◌+◌, ◌-◌, ◌*◌, ◌/◌, ◌%◌, ◌^◌, ◌≤◌, ◌<◌, min, length, take, drop};
 ghost use Rattle.std.specs.Int.{w64};
 ghost use Rattle.std.proofs.Common.{to_z};

@@ -1,13 +1,13 @@
 -- The lines of a state's records are the text of its plan.
-use Prim.Native.Nat.{ℕ, zero, suc, ◌*◌, ◌<◌, ◌≤◌}
-use mathlib.Core.Path.{◌≡◌, refl, sym, ap, ap₂, ◌∙◌, subst}
+use Prim.Native.Nat.{ℕ, suc, ◌*◌, ◌<◌, ◌≤◌}
+use mathlib.Core.Path.{◌≡◌, refl, sym, ap, ap₂, ◌∙◌}
 use mathlib.Core.Bool.{Bool, true, false}
 use mathlib.Core.List.{List, [], ◌∷◌, ◌++◌, map}
 use native.Mathlib.Omega.{arith}
 use lib.Dec.{eqb}
 use lib.ListN.{length, length-map}
 use Rattle.le.specs.Bytes.{Bytes}
-use Rattle.layout.specs.Record.{Raw, Raws, decode}
+use Rattle.layout.specs.Record.{Raws}
 use Rattle.machine.specs.State.{Cell, State, declares, declared_in, cell_at}
 use Rattle.operators.specs.Limits.{capacity}
 use Rattle.encoding.specs.View.{flag, of_cell, raws_of, bytes_of}

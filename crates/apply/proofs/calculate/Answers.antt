@@ -2,7 +2,6 @@ use mathlib.Core.Path.{◌∙◌}
 use Rattle.num.specs.Arithmetic.{added, subtracted, multiplied, divided, remainder, less, at_most, equal}
 use Rattle.meaning.specs.Table.{calculated}
 use Rattle.apply.proofs.Rows
-use Rattle.num.proofs.add.Reads as add_reads
 use Rattle.apply.proofs.calculate.Goals as goal
 
 pub returns-in-Add : goal.returns-in-Add

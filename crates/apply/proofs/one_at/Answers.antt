@@ -7,7 +7,6 @@ use Rattle.num.specs.Arithmetic.{negated, added}
 use Rattle.meaning.specs.Table.{one_at, value_of}
 use native.Mathlib.Omega.{arith}
 use Rattle.apply.proofs.Rows
-use Rattle.num.proofs.add.Reads as add_reads
 use Rattle.apply.proofs.one_at.Goals as goal
 
 pub returns-in_default : goal.returns-in_default

@@ -4,7 +4,6 @@ use Rattle.num.specs.Arithmetic.{negated, added}
 use Rattle.meaning.specs.Missing.{lacks}
 use Rattle.apply.proofs.Rows
 use Rattle.apply.proofs.Lacks as law
-use Rattle.num.proofs.add.Reads as add_reads
 use Rattle.apply.proofs.one_lack.Goals as goal
 
 pub returns-in_default : goal.returns-in_default

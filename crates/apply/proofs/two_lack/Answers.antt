@@ -1,6 +1,5 @@
 use mathlib.Core.Path.{◌∙◌}
 use Rattle.queue.specs.Found.{as_option}
-use Rattle.apply.proofs.Rows
 use Rattle.apply.proofs.Lacks as law
 use Rattle.apply.proofs.two_lack.Goals as goal
 

@@ -3,7 +3,6 @@ use mathlib.Core.Path.{◌∙◌}
 use Rattle.meaning.specs.Missing.{outside, divisor}
 use native.Mathlib.Omega.{arith}
 use Rattle.counting.proofs.Laws as law
-use Rattle.counting.proofs.none.Reads as none_reads
 use Rattle.counting.proofs.missed.Goals as goal
 
 pub returns-in-In : goal.returns-in-In

@@ -1,6 +1,6 @@
 -- `counting::tally_held` meets its contract.
 use mathlib.Core.Path.{◌≡◌, ap}
-use Prim.Native.Nat.{ℕ, ◌+◌, ◌-◌}
+use Prim.Native.Nat.{ℕ, ◌+◌}
 use mathlib.Core.Bool.{Bool}
 use Rattle.meaning.specs.Missing.{Reason, outside, divisor}
 use Rattle.machine.specs.Step.{drop_below}
@@ -16,7 +16,6 @@ use Rattle.windows.proofs.Fits.{events_in, held_from}
 use Rattle.counting.specs.Tally.{count_in, asked_in}
 use native.Mathlib.Omega.{arith}
 use Rattle.counting.proofs.Laws as law
-use Rattle.counting.proofs.none.Reads as none_reads
 use Rattle.counting.proofs.tally_held.Goals as goal
 
 pub loop-i-init : goal.loop-i-init

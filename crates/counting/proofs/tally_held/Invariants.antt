@@ -1,7 +1,7 @@
 -- `counting::tally_held` meets its contract.
 use mathlib.Core.Path.{◌≡◌}
 use Prim.Native.Nat.{◌+◌, ◌-◌, ◌≤◌}
-use Rattle.meaning.specs.Missing.{Reason, outside}
+use Rattle.meaning.specs.Missing.{Reason}
 use Rattle.machine.specs.State.{room}
 use Rattle.machine.specs.Step.{drop_below}
 use Rattle.machine.specs.Windows.{take_below}

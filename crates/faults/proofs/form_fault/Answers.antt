@@ -1,5 +1,4 @@
 -- `faults::form_fault` meets its contract.
-use Prim.Native.Nat.{◌-◌}
 use mathlib.Core.Path.{sym, ap, ◌∙◌}
 use native.Mathlib.Nat.{sub-zero}
 use Rattle.faults.specs.Faults.{in_stream}

@@ -1,5 +1,4 @@
 -- `faults::ninth_fault` meets its contract.
-use Prim.Native.Nat.{◌-◌}
 use mathlib.Core.Path.{sym, ◌∙◌}
 use native.Mathlib.Nat.{sub-zero}
 use lib.Dec.{lit<}
@@ -29,9 +28,9 @@ loop-i-smaller c = omega arith
 
 pub loop-i-preserved : goal.loop-i-preserved
 loop-i-preserved c = elim c.if-is_window.branch [
-      then-is_window+else-w-ge-WINDOWS x ↦ rw x.w-is (omega arith, (omega (arith, x.if-w-ge-WINDOWS.false), ninth_window c.args.text.now c.args.n c.loop-i.w c.loop-i.i c.loop-i.p (omega arith) c.in-Stream.f (sym c.read_stream.ensures ∙ c.in-Stream.is) (sym c.is_window.ensures ∙ x.if-is_window.true) (omega (arith, x.if-w-ge-WINDOWS.false)) ∙ c.loop-i.invariant.1.1))
-    | else-is_window x ↦ rw x.w-is (omega arith, (omega arith, ninth_other c.args.text.now c.args.n c.loop-i.w c.loop-i.i c.loop-i.p (omega arith) c.in-Stream.f (sym c.read_stream.ensures ∙ c.in-Stream.is) (sym c.is_window.ensures ∙ x.if-is_window.false) ∙ c.loop-i.invariant.1.1))
-    ]
+  | then-is_window+else-w-ge-WINDOWS x ↦ rw x.w-is (omega arith, (omega (arith, x.if-w-ge-WINDOWS.false), ninth_window c.args.text.now c.args.n c.loop-i.w c.loop-i.i c.loop-i.p (omega arith) c.in-Stream.f (sym c.read_stream.ensures ∙ c.in-Stream.is) (sym c.is_window.ensures ∙ x.if-is_window.true) (omega (arith, x.if-w-ge-WINDOWS.false)) ∙ c.loop-i.invariant.1.1))
+  | else-is_window x ↦ rw x.w-is (omega arith, (omega arith, ninth_other c.args.text.now c.args.n c.loop-i.w c.loop-i.i c.loop-i.p (omega arith) c.in-Stream.f (sym c.read_stream.ensures ∙ c.in-Stream.is) (sym c.is_window.ensures ∙ x.if-is_window.false) ∙ c.loop-i.invariant.1.1))
+]
 
 pub returns-after-loop-i : goal.returns-after-loop-i
 returns-after-loop-i c = first_end ninth_rule c.args.text.now c.args.n c.loop-i.w c.loop-i.i c.loop-i.p (omega arith) ∙ c.loop-i.invariant.1.1

@@ -1,6 +1,5 @@
 -- `faults::note_all` meets its contract.
 use mathlib.Core.Path.{refl, sym, ◌∙◌}
-use Prim.Native.Nat.{◌-◌}
 use native.Mathlib.Nat.{sub-zero}
 use Rattle.faults.proofs.Noting.{first_small, second_small, kept_stream, kept_here, kept_next, noted_next, noted_end}
 use native.Mathlib.Omega.{arith}

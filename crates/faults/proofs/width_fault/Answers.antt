@@ -1,6 +1,5 @@
 -- `faults::width_fault` meets its contract.
 -- `faults::width_fault` meets its contract.
-use Prim.Native.Nat.{◌-◌}
 use mathlib.Core.Path.{sym, ◌∙◌}
 use native.Mathlib.Nat.{sub-zero}
 use lib.Dec.{lit<}

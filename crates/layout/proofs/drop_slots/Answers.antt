@@ -1,6 +1,5 @@
 use Rattle.layout.proofs.Slots.{slots_drop}
 use native.Mathlib.Omega.{arith}
-use Rattle.le.proofs.clear.Reads as clear_reads
 use Rattle.layout.proofs.drop_slots.Goals as goal
 
 pub returns : goal.returns

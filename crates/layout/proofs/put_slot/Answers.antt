@@ -1,6 +1,5 @@
 use native.Mathlib.Omega.{arith}
 use Rattle.layout.proofs.Slots.{slot_put}
-use Rattle.le.proofs.put.Reads as put_reads
 use Rattle.layout.proofs.put_slot.Goals as goal
 
 pub returns : goal.returns

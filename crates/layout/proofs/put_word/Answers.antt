@@ -1,7 +1,6 @@
 use mathlib.Core.Path.{◌∙◌}
 use native.Mathlib.Omega.{arith}
 use Rattle.layout.proofs.Laws.{word_put}
-use Rattle.le.proofs.put.Reads as put_reads
 use Rattle.layout.proofs.put_word.Goals as goal
 
 pub returns : goal.returns

@@ -1,7 +1,5 @@
 -- `marks::lowest` meets its contract.
-use Prim.Native.Nat.{◌-◌}
 use mathlib.Core.Path.{subst}
-use mathlib.Core.Bool.{false}
 use borrow.Author.Count.{below_more}
 use Rattle.marks.specs.Marks.{Back}
 use native.Mathlib.Omega.{arith}

@@ -1,6 +1,5 @@
 -- `marks::pass` meets its contract.
 use mathlib.Core.Path.{refl, sym, ◌∙◌, subst}
-use Prim.Native.Nat.{◌-◌}
 use native.Mathlib.Nat.{sub-zero}
 use Rattle.marks.specs.Marks.{Grown}
 use Rattle.marks.proofs.Grown.{grown_none, grown_both, passed_go, passed_end}

@@ -1,7 +1,5 @@
 -- `plan::form` meets its contract.
 use mathlib.Core.Path.{sym, ◌∙◌, refl}
-use mathlib.Core.Bool.{true}
-use Prim.Native.Nat.{◌-◌}
 use native.Mathlib.Nat.{sub-zero}
 use lib.ListN.{length}
 use Rattle.text.specs.Grammar.{stream}

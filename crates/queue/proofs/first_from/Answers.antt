@@ -1,4 +1,3 @@
-use Prim.Native.Nat.{◌-◌}
 use Rattle.layout.specs.Record.{dec_raw}
 use Rattle.layout.proofs.Slots.{slots_many}
 use native.Mathlib.Nat.{zero-add, sub-zero}

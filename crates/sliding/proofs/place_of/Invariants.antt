@@ -1,5 +1,5 @@
 -- `sliding::place_of` meets its contract.
-use Prim.Native.Nat.{◌+◌, ◌-◌, ◌≤◌}
+use Prim.Native.Nat.{◌+◌, ◌≤◌}
 use mathlib.Core.Path.{◌≡◌}
 use Rattle.layout.specs.Record.{decode}
 use Rattle.sliding.specs.Slide.{windows_before}

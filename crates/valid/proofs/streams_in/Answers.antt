@@ -1,5 +1,4 @@
 -- `valid::streams_in` meets its contract.
-use Prim.Native.Nat.{◌-◌}
 use native.Mathlib.Nat.{sub-zero, zero-add}
 use native.Mathlib.Omega.{arith}
 use Rattle.valid.proofs.Tests

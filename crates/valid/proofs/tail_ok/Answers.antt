@@ -1,7 +1,4 @@
 -- `valid::tail_ok` meets its contract.
-use Prim.Native.Nat.{◌-◌}
-use Prim.Native.Nat.{◌-◌}
-use Prim.Native.Nat.{◌-◌}
 use Rattle.valid.proofs.Area.{tail_rubbish, tail_then}
 use Rattle.valid.proofs.tail_ok.Goals as goal
 

@@ -1,7 +1,5 @@
 -- `valid::windows_ok` meets its contract.
-use Prim.Native.Nat.{◌-◌}
 use mathlib.Core.Path.{sym, ◌∙◌}
-use Prim.Native.Nat.{◌-◌}
 use mathlib.Core.Path.{sym, ◌∙◌}
 use borrow.Author.Tests.{not-true, not-false}
 use Rattle.valid.proofs.Area.{left_first, left_turn, left_end, counted_few, is_window_lem}

@@ -6,7 +6,6 @@ use lib.Seq.{length-take-le}
 use Rattle.layout.specs.Windows.{area_length}
 use Rattle.widen.proofs.Spread.{copied}
 use native.Mathlib.Omega.{arith}
-use Rattle.le.proofs.clear.Reads as clear_reads
 use Rattle.widen.proofs.copy.Goals as goal
 
 pub slice_bounds-put_word-end : goal.slice_bounds-put_word-end

@@ -1,5 +1,5 @@
 -- `windows::best_slot` meets its contract.
-use Prim.Native.Nat.{ℕ, ◌+◌, ◌-◌}
+use Prim.Native.Nat.{ℕ, ◌+◌}
 use mathlib.Core.Path.{◌≡◌, refl, sym, ap, ◌∙◌}
 use Rattle.layout.specs.Record.{dec_raw}
 use Rattle.windows.specs.Window.{slot_words, raised, heights, best_of}

@@ -1,5 +1,5 @@
 -- `windows::best_word` meets its contract.
-use Prim.Native.Nat.{ℕ, ◌+◌, ◌-◌}
+use Prim.Native.Nat.{ℕ, ◌+◌}
 use mathlib.Core.Path.{◌≡◌, refl, sym, ap, ◌∙◌}
 use Rattle.layout.specs.Windows.{dec_window}
 use Rattle.layout.proofs.Windows.{window_many}

@@ -2,7 +2,7 @@
 use mir.Syntax.{w64}
 use mir.Facts.{to_z-of_z}
 use Rattle.machine.specs.Reach.{event}
-use Prim.Native.Nat.{ℕ, ◌-◌}
+use Prim.Native.Nat.{ℕ}
 use mathlib.Core.Path.{◌≡◌, sym, ap, ap₂, ◌∙◌}
 use Rattle.machine.specs.Windows.{first_fit}
 use Rattle.layout.specs.Record.{dec_raw}

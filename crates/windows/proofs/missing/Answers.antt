@@ -1,4 +1,4 @@
-use Prim.Native.Nat.{ℕ, ◌+◌, ◌-◌}
+use Prim.Native.Nat.{ℕ, ◌+◌}
 use mathlib.Core.Path.{◌≡◌, ap, ap₂}
 use Rattle.meaning.specs.Events.{has}
 use Rattle.machine.specs.Step.{drop_below}

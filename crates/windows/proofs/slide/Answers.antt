@@ -1,5 +1,4 @@
 -- `windows::slide` meets its contract.
-use Prim.Native.Nat.{◌-◌}
 use mathlib.Core.Path.{refl}
 use mathlib.Core.List.{◌++◌, map}
 use lib.ListN.{take}

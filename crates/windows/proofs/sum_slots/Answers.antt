@@ -1,5 +1,5 @@
 -- `windows::sum_slots` meets its contract.
-use Prim.Native.Nat.{ℕ, ◌-◌}
+use Prim.Native.Nat.{ℕ}
 use mathlib.Core.Path.{◌≡◌, sym, ap, subst, ◌∙◌}
 use Rattle.windows.proofs.Sums.{Summed, summed_none, summed_more, summed_all}
 use Rattle.layout.specs.Record.{dec_raw}

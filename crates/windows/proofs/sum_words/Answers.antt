@@ -1,5 +1,5 @@
 -- `windows::sum_words` meets its contract.
-use Prim.Native.Nat.{ℕ, ◌-◌}
+use Prim.Native.Nat.{ℕ}
 use mathlib.Core.Path.{◌≡◌, ap, subst, ◌∙◌}
 use Rattle.windows.proofs.Sums.{Summed, summed_none, summed_more, summed_all}
 use Rattle.layout.specs.Windows.{dec_window}

@@ -1,5 +1,5 @@
 -- `writing::streams_length` meets its contract.
-use Prim.Native.Nat.{ℕ, ◌-◌}
+use Prim.Native.Nat.{ℕ}
 use mathlib.Core.Path.{ap}
 use lib.ListN.{length}
 use Rattle.writing.proofs.Turns.{rest_few, rest_length, rest_none}
