@@ -1,5 +1,6 @@
 // The lines of a text, read in place at a position of the lent text: words, numbers, a key with its number.
 #![tactic(auto)]
+
 ghost use Rattle.std.specs.Prelude.{◌≡◌, ◌<◌, ◌≤◌};
 ghost use Rattle.lines.specs.Form.{skip, scan, whole, ended, field, signed, value_line, out_line};
 

@@ -1,32 +1,30 @@
 -- Counting over held events, by rising stamp, is counting over all stamps: where no event is held there is nothing to work on. And
 -- at the stamp of an event that a move finds nothing is missing.
 use mathlib.Core.Path.{◌≡◌, refl, sym, ◌∙◌, ap, ap₂}
-use mathlib.Core.Bool.{Bool, true, false, not, cond, ◌&&◌, ◌||◌}
+use mathlib.Core.Bool.{Bool, true, false, not, cond, ◌&&◌}
 use mathlib.Core.Option.{Option, none, some}
 use mathlib.Core.List.{List, [], ◌∷◌, ◌++◌, append_assoc}
-use Prim.Native.Nat.{ℕ, zero, suc, ◌+◌, ◌≤◌, ◌<◌, min}
+use Prim.Native.Nat.{ℕ, zero, suc, ◌+◌, ◌≤◌, min}
 use native.Mathlib.Omega.{arith}
-use native.Mathlib.Decide.{dec_lt}
-use lib.Dec.{T, leb, ltb, ltb→lt, nltb→le, leb→le, nleb→lt}
+use lib.Dec.{leb, ltb, leb→le, nleb→lt}
 use lib.ListN.{length}
 use lib.IntN.{ℤ}
-use Rattle.num.specs.declared.Answer.{Answer}
-use Rattle.num.specs.declared.Answer.TheVariants.{Value, Outside, ZeroDivisor}
+use Rattle.num.specs.declared.Answer.TheVariants.{Value, Outside}
 use Rattle.num.specs.Arithmetic.{fit, least_value, past_values}
 use lib.Signed.{le_z, lt_z}
 use Rattle.meaning.specs.Plan.{Unary, time, neg, set, plus, Calc, Fold, wsum, wmin, wmax, Eqn, input, nil, unit, one, two, calc, keep, merge, Binary, last, delay, signal, window}
 use Rattle.meaning.specs.Events.{Event, Stream, here, found, events, has}
-use Rattle.meaning.specs.Table.{two_at, value_of, folded, total, latest, latest_of, values, width}
-use Rattle.meaning.specs.Missing.{Said, one_says, calc_says, two_says, signal_says, window_says, shown, Reason, outside, divisor, lacks, said_for, tally, count_limit}
-use Rattle.meaning.proofs.Tests.{Is, yes!, no!, look, true_is, false_is, eqb_self}
-use Rattle.meaning.proofs.Missing.{one_row, two_row, signal_row_lem, window_row_lem, valued_lacks, shown_lacks, window_lacks, tally_cong, tally_zero}
+use Rattle.meaning.specs.Table.{two_at, value_of, folded, total, latest_of, values, width}
+use Rattle.meaning.specs.Missing.{one_says, calc_says, two_says, signal_says, window_says, Reason, outside, divisor, lacks, said_for, tally, count_limit}
+use Rattle.meaning.proofs.Tests.{Is, yes!, no!, look, eqb_self}
+use Rattle.meaning.proofs.Missing.{one_row, two_row, signal_row_lem, window_row_lem, valued_lacks, shown_lacks, window_lacks, tally_zero}
 use Rattle.meaning.proofs.Options.{none_some}
 use Rattle.machine.specs.State.{Cell, room}
 use Rattle.machine.specs.Reach.{view, from, slid, held_latest, gives, reach, first, Next, event, silent, next_of, decide}
 use Rattle.machine.specs.Step.{hears, counted, drop_below, new_bound}
 use Rattle.machine.specs.Windows.{take_below}
-use Rattle.machine.specs.Counting.{tally_of, sum_tally, window_tally, passing, tallied, end_of}
-use Rattle.machine.proofs.Rising.{Rising, found_low, found_rest, found_drop, rising_dropped, events_first, events_under}
+use Rattle.machine.specs.Counting.{tally_of, sum_tally, passing, tallied, end_of}
+use Rattle.machine.proofs.Rising.{Rising, found_rest, found_drop, rising_dropped, events_first, events_under}
 use Rattle.machine.proofs.Lasts.{from_yes, from_no}
 use Rattle.machine.proofs.Windows.{events_taken, from_dropped}
 

@@ -1,20 +1,19 @@
 -- The least reader bound tells, for every stamp, whether some reader waits for an event there; no other number does.
 use Prim.Native.Nat.{ℕ, zero, suc, ◌≤◌, ◌<◌}
-use mathlib.Core.Path.{◌≡◌, refl}
+use mathlib.Core.Path.{◌≡◌}
 use mathlib.Core.Logic.{◌⊎◌, inl, inr}
-use mathlib.Core.Bool.{Bool, true, false, not, ◌||◌}
+use mathlib.Core.Bool.{Bool, true, false, not}
 use mathlib.Core.List.{List, [], ◌∷◌, map}
 use native.Mathlib.Omega.{arith}
 use native.Mathlib.Decide.{dec_lt}
 use lib.Dec.{T, eqb, eqb→eq, eqb_refl}
-use lib.ListN.{length}
 use Rattle.meaning.specs.Arguments.{Argument, arguments}
 use Rattle.meaning.specs.Plan.{Eqn}
 use Rattle.meaning.specs.Events.{horizon}
 use Rattle.meaning.proofs.Tests.{Is, yes!, no!, look, T-or, T-or-l, T-or-r}
-use Rattle.machine.specs.State.{Cell, State, cell_at}
-use Rattle.machine.specs.Step.{any_from, any_of, reads_it, least_reader}
-use Rattle.machine.specs.Waiting.{Among, Reader, Waits, SomeReaderWaits, TellsWaiting, SpaceTest, LeastBound}
+use Rattle.machine.specs.State.{State, cell_at}
+use Rattle.machine.specs.Step.{any_of, reads_it, least_reader}
+use Rattle.machine.specs.Waiting.{Among, Reader, TellsWaiting, SpaceTest, LeastBound}
 use Rattle.machine.proofs.Release.{reader_top, reader_le, reader_who}
 
 -- ---- the test for an argument finds just the arguments

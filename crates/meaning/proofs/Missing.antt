@@ -7,7 +7,7 @@ use Prim.Native.Nat.{ℕ, zero, suc, ◌+◌, ◌≤◌, ◌<◌, min}
 use native.Mathlib.Nat.{lt-suc_self, add-zero}
 use native.Mathlib.Omega.{arith}
 use native.Mathlib.Decide.{dec_le}
-use lib.Dec.{T, leb, leb→le, le→leb, not_T}
+use lib.Dec.{leb, leb→le, le→leb, not_T}
 use lib.IntN.{ℤ}
 use lib.Signed.{le_z, lt_z}
 use Rattle.meaning.specs.Plan.{Unary, time, neg, set, plus, Calc, add, sub, mul, div, rem, lt, le, eq, Binary, calc, keep, merge, Fold, wsum, wmin, wmax, Eqn, input, nil, unit, one, two, last, delay, signal, window}

@@ -5,7 +5,7 @@ use Rattle.num.specs.declared.Answer.{Answer}
 use Rattle.num.specs.declared.Answer.TheVariants.{Value, Outside, ZeroDivisor}
 use Rattle.num.specs.Arithmetic.{negated, added}
 use Rattle.meaning.specs.Plan.{Unary, time, neg, set, plus, Calc, add, sub, mul, div, rem, lt, le, eq, Binary, calc, keep, merge, Fold, wsum, wmin, wmax, Eqn, input, nil, unit, one, two, last, delay, signal, window}
-use Rattle.meaning.specs.Events.{Streams, has, or_else, events}
+use Rattle.meaning.specs.Events.{Streams, has, events}
 use Rattle.meaning.specs.Table.{value_of, calculated, two_at, unit_at, latest, last_at, latest_of, values, width, folded, fires, delay_at}
 
 -- ---- "The arithmetic, plus, neg, signal forms and wsum included, now says which of the two it was"

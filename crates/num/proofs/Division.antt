@@ -8,7 +8,7 @@ use native.Mathlib.Numerals.{add-one}
 use native.Mathlib.Nat.{suc-mul, add-zero, sub-zero, zero-div, div-le_self, mod-lt, div-add-mod', div-eq_of_lt, mul-add-div_right}
 use lib.IntN.{ℤ, pos, negsuc, neg_ℤ, ◌+ℤ◌, ◌-ℤ◌, ◌*ℤ◌, neg_ℤ-+ℤ, neg_ℤ-neg_ℤ, +ℤ_comm, *ℤ-negsuc, -ℤ-+ℤ_cancel, +ℤ-neg_ℤ_cancel}
 use lib.Signed.{clash_ℤ}
-use lib.Dec.{leb→le, le→leb, lt→ltb, ltb→lt}
+use lib.Dec.{leb→le, le→leb, ltb→lt}
 use mir.Syntax.{w64}
 use mir.Val.{Fits}
 use borrow.Author.Tests.{lt-ltb, le-ltb}
@@ -16,6 +16,7 @@ use Rattle.num.specs.Arithmetic.{fit, divided, remainder, down, quotient, rest}
 use Rattle.num.specs.Division.{Below, Divides}
 use Rattle.num.specs.Parts.{signed, lowered}
 use Rattle.num.proofs.Arith.{less, zero_not}
+use Rattle.num.proofs.Below.{below_pos, below_neg}
 
 -- ---- what is left
 
@@ -57,13 +58,6 @@ rest_neg x n =
     ∙ ap neg_ℤ (down_leaves (neg_ℤ x) n)
 
 -- ---- the laws hold
-
-below_pos : (k n : ℕ) → k < suc n → Below (pos (suc n)) (pos k)
-below_pos k n h = inl (record { le = le→leb 0 k zero-le }, record { lt = lt→ltb k (suc n) h })
-
-below_neg : (k n : ℕ) → k < suc n → Below (negsuc n) (neg_ℤ (pos k))
-below_neg zero n h = inr (record { lt = tt }, record { le = tt })
-below_neg (suc k) n h = inr (record { lt = lt→ltb k n (omega arith) }, record { le = tt })
 
 rest_below : (x y : ℤ) → (y ≡ pos 0 → ⊥) → Below y (rest x y)
 rest_below x (pos zero) h = absurd (h refl)

@@ -1,4 +1,5 @@
 pub mod Signed
 pub mod Arith
+pub mod Below
 pub mod Division
 pub mod Values

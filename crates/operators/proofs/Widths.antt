@@ -3,14 +3,14 @@ use Prim.Native.Nat.{ℕ, ◌+◌, ◌-◌, ◌≤◌}
 use mathlib.Core.Path.{◌≡◌, refl, sym, ap, ◌∙◌, subst}
 use mathlib.Core.Bool.{Bool, true, false, cond, ◌&&◌, true≢false}
 use native.Mathlib.Omega.{arith}
-use borrow.Author.Tests.{leb-true, leb-false, le-leb}
+use borrow.Author.Tests.{leb-true, le-leb}
 use lib.Dec.{leb}
 use lib.IntN.{ℤ, pos, negsuc}
 use lib.ListN.{get_or}
 use mir.Syntax.{w64}
 use mir.Val.{to_z, of_z}
 use mir.Facts.{to_z_pos}
-use Rattle.meaning.specs.Plan.{Fold, wsum, Eqn, input, nil, unit, one, two, last, delay, signal, window}
+use Rattle.meaning.specs.Plan.{wsum, Eqn, input, nil, unit, one, two, last, delay, signal, window}
 use Rattle.meaning.specs.Table.{width}
 use Rattle.operators.specs.Operators.{group_of, is_window, folds, eqn_of, number_of, value_of, eqn_group}
 use Rattle.operators.specs.Limits.{width_limit}

@@ -1,5 +1,5 @@
 -- Believe: the rules for windows: "18, a width outside 1 to 64 or a ninth window".
-use Rattle.std.specs.Prelude.{ℕ, suc, ◌≤◌, Bool, true, cond, ◌&&◌, List, [], ◌∷◌, leb}
+use Rattle.std.specs.Prelude.{ℕ, suc, ◌≤◌, Bool, true, cond, ◌&&◌, [], ◌∷◌, leb}
 use Rattle.meaning.specs.Plan.{Eqn, input, nil, unit, one, two, last, delay, signal, window, Plan}
 use Rattle.meaning.specs.Table.{width}
 use Rattle.operators.specs.Operators.{group_of, eqn_group, is_window}

@@ -1,5 +1,6 @@
 // The operators and the plan: one table of names, stored numbers, groups and equations, in specs/; and the limits of a plan.
 #![tactic(auto)]
+
 ghost use Rattle.std.specs.Prelude.{◌≡◌, ◌&&◌, eqb, ltb};
 ghost use Rattle.operators.specs.Limits.{state_length, long_length, stream_limit, most_streams, width_limit, window_limit, text_limit, capacity, count_fits};
 ghost use Rattle.operators.specs.Operators.{group_of, uses_k, lacks_at, is_present, is_in, is_window, takes_first, takes_second, delays_first};

@@ -1,5 +1,4 @@
 -- `decimal::put_bits` meets its contract.
-use Prim.Native.Nat.{◌-◌}
 use mathlib.Core.Path.{sym, ap}
 use lib.ListN.{length}
 use Rattle.decimal.proofs.Puts.{put_then, put_length, value_plain, value_minus}

@@ -1,7 +1,6 @@
 -- `decimal::put_word` meets its contract.
 use Rattle.decimal.proofs.Puts.{word_turn, word_end}
 use mathlib.Core.Path.{refl, sym, ◌∙◌}
-use Prim.Native.Nat.{◌-◌}
 use lib.ListN.{length-set}
 use native.Mathlib.Omega.{arith}
 use Rattle.decimal.proofs.put_word.Goals as goal

@@ -1,6 +1,6 @@
 -- `lines::digits` meets its contract.
 use mathlib.Core.Path.{◌∙◌}
-use Prim.Native.Nat.{◌<◌, ◌+◌, ◌-◌}
+use Prim.Native.Nat.{◌+◌, ◌-◌}
 use lib.Dec.{lit<}
 use native.Mathlib.Nat.{sub-zero}
 use Rattle.lines.proofs.Turns.{scan_past, scan_low, scan_high, scan_go, scan_end, grows, fits}

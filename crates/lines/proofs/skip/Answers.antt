@@ -1,6 +1,5 @@
 -- `lines::skip` meets its contract.
 use mathlib.Core.Path.{refl, ◌∙◌}
-use Prim.Native.Nat.{◌-◌}
 use Rattle.lines.proofs.Turns.{skip_past, skip_other, skip_go, skip_end}
 use native.Mathlib.Omega.{arith}
 use Rattle.lines.proofs.skip.Goals as goal
