@@ -1,6 +1,7 @@
 // The five calls on a state: each asks for bytes that are one and promises that they still are, so that whoever makes several
 // calls tests the bytes once.
 #![tactic(auto)]
+
 ghost use Rattle.std.specs.Prelude.{◌≡◌, false, ◌*◌, ◌≤◌, ◌<◌, length};
 ghost use Rattle.machine.specs.Calls.{reading, progress, moving, running, collecting};
 ghost use Rattle.machine.specs.Touched.{Still};

@@ -1,5 +1,6 @@
 // The cycle test: follows undelayed arguments from stream to stream over a graph in bytes.
 #![tactic(auto)]
+
 ghost use Rattle.std.specs.Prelude.{◌≡◌, ◌+◌, ◌*◌, ◌<◌, [], ◌∷◌, length, get_or, eqb, ◌&&◌};
 ghost use Rattle.std.proofs.lemmas.List.Edits.{sets};
 ghost use Rattle.cycle.specs.Graph.{present, walked, followed, cleared, entry_of};

@@ -1,6 +1,7 @@
 // The decision of a move: how far the equation sees, and the first event that it has there. Of all equations but windows, for
 // which nil stands here: crates/windows has theirs.
 #![tactic(auto)]
+
 ghost use Rattle.std.specs.Prelude.{◌≡◌, true, List, ◌≤◌, ◌<◌, length};
 ghost use Rattle.meaning.specs.Events.{Event, horizon};
 ghost use Rattle.machine.specs.Reach as machine;

@@ -1,6 +1,7 @@
 // The calls that the firmware links. Each works on lent buffers, asks nothing of its caller, and is promised equal to a
 // definition (`load_reply`, `reply`, `plan_text`, `missing_reply`, `widen_reply`, `write`, `line`): its number, its results and the buffers it leaves.
 #![tactic(auto)]
+
 ghost use Rattle.std.specs.Prelude.{◌≡◌};
 ghost use Rattle.block.specs.Block as board;
 ghost use Rattle.registers.specs.Write.{write};
@@ -54,12 +55,7 @@ pub fn tessla_offer_progress(state: &mut [u8], stream: u32, bound: u64) -> u32
 }
 
 // Collects the oldest waiting event of an output.
-pub fn tessla_collect(
-    state: &mut [u8],
-    stream: u32,
-    stamp: &mut u32,
-    value: &mut i64,
-) -> u32
+pub fn tessla_collect(state: &mut [u8], stream: u32, stamp: &mut u32, value: &mut i64) -> u32
     ensures number { result ≡ (reply (collecting stream) state.old).number }
     ensures stamp { stamp.new ≡ (reply (collecting stream) state.old).stamp }
     ensures value { value.new ≡ (reply (collecting stream) state.old).value }
@@ -121,12 +117,7 @@ pub fn tessla_plan_text(state: &[u8], text: &mut [u8], length: &mut u64) -> u32
 
 // Reads the two counts of a stream: at how many stamps below its bound an event is missing because its result is outside the
 // range, and because the divisor is zero.
-pub fn tessla_missing(
-    state: &[u8],
-    stream: u32,
-    outside: &mut u32,
-    zero: &mut u32,
-) -> u32
+pub fn tessla_missing(state: &[u8], stream: u32, outside: &mut u32, zero: &mut u32) -> u32
     ensures number { result ≡ (missing_reply stream state.now).number }
     ensures outside { outside.new ≡ (missing_reply stream state.now).outside }
     ensures zero { zero.new ≡ (missing_reply stream state.now).divisors }
@@ -150,12 +141,7 @@ pub fn tessla_widen(from: &[u8], to: &mut [u8]) -> u32
 }
 
 // Writes a byte of the reader board's block; writing the command starts it.
-pub fn tessla_register_write(
-    state: &mut [u8],
-    block: &mut [u8],
-    at: u32,
-    byte: u8,
-) -> u32
+pub fn tessla_register_write(state: &mut [u8], block: &mut [u8], at: u32, byte: u8) -> u32
     ensures number { result ≡ (write state.old block.old at byte).number }
     ensures block { block.new ≡ (write state.old block.old at byte).block }
     ensures buffer { state.new ≡ (write state.old block.old at byte).state }

@@ -1,5 +1,6 @@
 // The archive that the firmware links: one export for each call of `engine`, with the clauses of the call.
 #![tactic(auto)]
+
 ghost use Rattle.std.specs.Prelude.{◌≡◌};
 ghost use Rattle.block.specs.Block as board;
 ghost use Rattle.registers.specs.Write.{write};

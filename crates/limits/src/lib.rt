@@ -1,5 +1,6 @@
 // The limits of bounds, queues and counts, each named once, with the type it belongs to. (A plan's are in `operators`.)
 #![tactic(auto)]
+
 ghost use Rattle.std.specs.Prelude.{◌≡◌, ◌+◌, ◌≤◌, min, max, leb};
 ghost use Rattle.meaning.specs.Events.{horizon};
 ghost use Rattle.meaning.specs.Missing.{count_limit};

@@ -1,6 +1,7 @@
 // The step that a move makes, in place on the bytes of n records: the event comes in or the bound goes on alone, what is kept is
 // brought up to date, readers are told, and what nobody waits for is let go.
 #![tactic(auto)]
+
 ghost use Rattle.std.specs.Prelude.{◌≡◌, [], ◌∷◌, ◌*◌, ◌≤◌, ◌<◌, length};
 ghost use Rattle.meaning.specs.Arguments.{reads};
 ghost use Rattle.meaning.specs.Events.{horizon};

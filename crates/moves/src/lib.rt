@@ -1,5 +1,6 @@
 // A move, in place on the bytes of n records: what it finds, and then what its bound passes and the step that it makes.
 #![tactic(auto)]
+
 ghost use Rattle.std.specs.Prelude.{◌≡◌, true, cond, ◌*◌, ◌+◌, ◌≤◌, ◌<◌, min, max, length};
 ghost use Rattle.meaning.specs.Events.{horizon};
 ghost use Rattle.operators.specs.Limits.{width_limit};

@@ -1,5 +1,6 @@
 // The offers' and collect's refusals and steps, on the bytes of n records.
 #![tactic(auto)]
+
 ghost use Rattle.std.specs.Prelude.{◌≡◌, ◌*◌, ◌+◌, ◌≤◌, ◌<◌, length};
 ghost use Rattle.machine.specs.State.{room};
 ghost use Rattle.layout.specs.Record as layout;

@@ -1,6 +1,7 @@
 // What stream i keeps of the stamps that its bound passes, in place on the bytes of n records: those at which an event is missing are
 // counted, and a window slides.
 #![tactic(auto)]
+
 ghost use Rattle.std.specs.Prelude.{◌≡◌, true, [], ◌*◌, ◌+◌, ◌≤◌, ◌<◌, length};
 ghost use Rattle.operators.specs.Limits.{width_limit};
 ghost use Rattle.layout.specs.Record.{encode, decode, row_at};

@@ -1,6 +1,7 @@
 // The space test done otherwise, for the measurement alone: over all readers for every event, and by the least bound without a
 // shortcut. Both leave the bytes that the engine's release leaves.
 #![tactic(auto)]
+
 ghost use Rattle.std.specs.Prelude.{◌≡◌, true, ◌*◌, ◌≤◌, ◌<◌, length};
 ghost use Rattle.machine.specs.Waiting.{SomeReaderWaits};
 ghost use Rattle.layout.specs.Record.{dec_raw, encode, decode};

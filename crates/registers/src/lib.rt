@@ -1,5 +1,6 @@
 // Writes to the reader board's block: writing the command byte starts a call on the state.
 #![tactic(auto)]
+
 ghost use Rattle.std.specs.Prelude.{◌≡◌, length};
 ghost use Rattle.machine.specs.Calls.{collecting};
 ghost use Rattle.block.specs.Block.{stream_in};

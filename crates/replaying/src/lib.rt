@@ -1,5 +1,6 @@
 // Replaying, step by step: a record is offered, and then the state is run to rest and its outputs are collected, again and again.
 #![tactic(auto)]
+
 ghost use Rattle.std.specs.Prelude.{◌≡◌, ◌+◌, ◌*◌, ◌<◌, ◌≤◌, false, length, take};
 ghost use Rattle.decimal.specs.Put.{Put};
 ghost use Rattle.printer.specs.Print.{event_room, refused_room};

@@ -11,7 +11,6 @@ use lib.ListN.{length, get_or, drop, get_or-eq_default}
 use borrow.Author.Tests.{le-leb, lt-leb, eq-eqb, ne_eqb, eqb-true, eqb-false, leb-true, ltb-true}
 use Rattle.lines.specs.declared.Word.TheVariants.{Past, Absent}
 use Rattle.text.specs.declared.Name.{Name}
-use Rattle.text.specs.declared.Name.TheVariants as Name
 use Rattle.text.specs.declared.Packed.{Packed}
 use Rattle.lines.specs.Form.{skip, ending}
 use Rattle.text.specs.Grammar.{letter, name_at, same_name, place, names, number_named, known, named}

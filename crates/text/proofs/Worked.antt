@@ -6,9 +6,7 @@ use Prim.Native.Char.{code}
 use Prim.Native.String.{String, [] as []ᵗ, ◌∷◌ as ◌∷ᵗ◌}
 use Rattle.lines.specs.Form.{skip, scan, whole, ended, field, signed, value_line, out_line}
 use Rattle.text.specs.declared.Lines.{Lines}
-use Rattle.text.specs.declared.Lines.TheVariants as Lines
 use Rattle.text.specs.declared.Head.{Head}
-use Rattle.text.specs.declared.Head.TheVariants as Head
 use Rattle.text.specs.Grammar.{name_at, place, number_named, named, op_line, fields_after, stream, head}
 
 -- the bytes of a text; all its characters here are of one byte

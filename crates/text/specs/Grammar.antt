@@ -1,6 +1,6 @@
 -- Believe: the grammar of plan text, over the form of its lines.
 use Rattle.std.specs.Prelude.{ℕ, zero, suc, ◌+◌, Bool, true, false, cond, ◌&&◌, List, [], ◌∷◌, map, eqb, leb, length, get_or}
-use Rattle.operators.specs.Operators.{Operator, operators}
+use Rattle.operators.specs.Operators.{operators}
 use Rattle.operators.specs.Limits.{count_fits}
 use Rattle.lines.specs.declared.Word.{Word}
 use Rattle.lines.specs.declared.Word.TheVariants.{Past, Absent}
@@ -8,11 +8,8 @@ use Rattle.lines.specs.declared.Numeral.{Numeral}
 use Rattle.lines.specs.declared.Numeral.TheVariants.{Number, Fault}
 use Rattle.lines.specs.Form.{ending, skip, field, value_line, out_line}
 use Rattle.text.specs.declared.Name.{Name}
-use Rattle.text.specs.declared.Name.TheVariants as Name
 use Rattle.text.specs.declared.Lines.{Lines}
-use Rattle.text.specs.declared.Lines.TheVariants as Lines
 use Rattle.text.specs.declared.Head.{Head}
-use Rattle.text.specs.declared.Head.TheVariants as Head
 
 -- ## Keys, each with its `=`
 

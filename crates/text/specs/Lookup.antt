@@ -1,8 +1,5 @@
 -- How: a name looked up: its bytes as one number, the first the lowest.
 use Rattle.std.specs.Prelude.{ℕ, ◌+◌, ◌*◌, cond, List, [], ◌∷◌, map, eqb, length}
-use Rattle.text.specs.declared.Name.TheVariants as Name
-use Rattle.text.specs.declared.Lines.TheVariants as Lines
-use Rattle.text.specs.declared.Head.TheVariants as Head
 use Rattle.text.specs.declared.Packed.{Packed}
 use Rattle.text.specs.Grammar.{name_at, names}
 

@@ -1,5 +1,6 @@
 // Plan text: the op line, a stream's five lines and the head, read in place at a position of the lent text.
 #![tactic(auto)]
+
 ghost use Rattle.std.specs.Prelude.{◌≡◌};
 ghost use Rattle.text.specs.Grammar.{op_line, fields_after, stream, counts, head};
 ghost use Rattle.text.specs.Lookup.{packed_at, number_packed};

@@ -1,5 +1,5 @@
 -- `cycle::clear` meets its contract.
-use Prim.Native.Nat.{◌≤◌, ◌-◌}
+use Prim.Native.Nat.{◌≤◌}
 use mathlib.Core.Path.{◌≡◌}
 use Rattle.cycle.specs.Graph.{cleared}
 use Rattle.cycle.proofs.clear.Given as goal

@@ -1,6 +1,6 @@
 -- `text::letters` meets its contract.
 use mathlib.Core.Path.{refl, ◌∙◌}
-use Prim.Native.Nat.{◌<◌, ◌+◌, ◌-◌}
+use Prim.Native.Nat.{◌+◌, ◌-◌}
 use lib.Dec.{lit<}
 use Rattle.text.proofs.Names.{name_past, name_low, name_high, name_go, name_end, name_start, more, heavier, light}
 use native.Mathlib.Omega.{arith}
