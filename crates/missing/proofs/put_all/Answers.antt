@@ -1,5 +1,4 @@
 -- `missing::put_all` meets its contract.
-use Prim.Native.Nat.{◌-◌}
 use mathlib.Core.Path.{refl, sym, ◌∙◌}
 use borrow.Author.Tests.{ltb-true, ltb-false}
 use lib.Seq.{length-take-le}

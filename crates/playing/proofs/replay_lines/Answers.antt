@@ -2,7 +2,6 @@
 use mathlib.Core.Path.{refl, sym, ◌∙◌}
 use mathlib.Core.Bool.{true≢false}
 use mathlib.Core.Logic.{inl, inr}
-use borrow.Author.Tests.{not-true, not-false}
 use Rattle.chunks.proofs.Held.{window_next}
 use Rattle.playing.proofs.Hand.{between_none, between_more, between_bad}
 use native.Mathlib.Omega.{arith}
@@ -19,7 +18,7 @@ pub shape_of-state-then-not-last : goal.shape_of-state-then-not-last
 shape_of-state-then-not-last g c = c.loop-from.invariant.1
 
 pub returns-then-not-last : goal.returns-then-not-last
-returns-then-not-last g c = (c.loop-from.invariant.0, λ q. absurd (true≢false (sym q ∙ not-true c.args.last c.if-not-last.true-raw)), omega arith, c.loop-from.invariant.2)
+returns-then-not-last g c = (c.loop-from.invariant.0, λ q. absurd (true≢false (sym q ∙ c.if-not-last.true)), omega arith, c.loop-from.invariant.2)
 
 pub replay_line-requires : goal.replay_line-requires
 replay_line-requires g c = let e = c.loop-from.invariant.1 in let h = c.requires.0 in omega arith
@@ -28,13 +27,13 @@ pub shape_of-state-in_default : goal.shape_of-state-in_default
 shape_of-state-in_default g c = c.replay_line.auto.state ∙ c.loop-from.invariant.1
 
 pub returns-in_default : goal.returns-in_default
-returns-in_default g c = between_bad c.loop-from-test.true (elim c.if-text-from-lt-LINE.branch [ then-text-from-lt-LINE+else-not-last w ↦ inr (not-false c.args.last w.if-not-last.false-raw) | else-text-from-lt-LINE w ↦ inl (let z = w.if-text-from-lt-LINE in omega arith) ]) c.loop-from.invariant.2 (sym c.replay_line.ensures.found ∙ c.in_default.is) (rw c.in_default.is at c.replay_line.ensures.follows)
+returns-in_default g c = between_bad c.loop-from-test.true (elim c.if-text-from-lt-LINE.branch [ then-text-from-lt-LINE+else-not-last w ↦ inr (w.if-not-last.false) | else-text-from-lt-LINE w ↦ inl (let z = w.if-text-from-lt-LINE in omega arith) ]) c.loop-from.invariant.2 (sym c.replay_line.ensures.found ∙ c.in_default.is) (rw c.in_default.is at c.replay_line.ensures.follows)
 
 pub loop-from-smaller : goal.loop-from-smaller
 loop-from-smaller g c = let w = window_next c.args.text.now c.loop-from.from c.loop-from.invariant.0 c.in-Read.field-0 c.in-Read.next (sym c.replay_line.ensures.found ∙ c.in-Read.is) in let a = w.0 in let b = w.1 in omega arith
 
 pub loop-from-preserved : goal.loop-from-preserved
-loop-from-preserved g c = let w = window_next c.args.text.now c.loop-from.from c.loop-from.invariant.0 c.in-Read.field-0 c.in-Read.next (sym c.replay_line.ensures.found ∙ c.in-Read.is) in (w.1, c.replay_line.auto.state ∙ c.loop-from.invariant.1, between_more c.loop-from.invariant.0 (elim c.if-text-from-lt-LINE.branch [ then-text-from-lt-LINE+else-not-last w ↦ inr (not-false c.args.last w.if-not-last.false-raw) | else-text-from-lt-LINE w ↦ inl (let z = w.if-text-from-lt-LINE in omega arith) ]) c.loop-from.invariant.2 c.in-Read.field-0 c.in-Read.next (sym c.replay_line.ensures.found ∙ c.in-Read.is) w.1 c.next_line-line.ensures (rw c.in-Read.is at c.replay_line.ensures.follows))
+loop-from-preserved g c = let w = window_next c.args.text.now c.loop-from.from c.loop-from.invariant.0 c.in-Read.field-0 c.in-Read.next (sym c.replay_line.ensures.found ∙ c.in-Read.is) in (w.1, c.replay_line.auto.state ∙ c.loop-from.invariant.1, between_more c.loop-from.invariant.0 (elim c.if-text-from-lt-LINE.branch [ then-text-from-lt-LINE+else-not-last w ↦ inr (w.if-not-last.false) | else-text-from-lt-LINE w ↦ inl (let z = w.if-text-from-lt-LINE in omega arith) ]) c.loop-from.invariant.2 c.in-Read.field-0 c.in-Read.next (sym c.replay_line.ensures.found ∙ c.in-Read.is) w.1 c.next_line-line.ensures (rw c.in-Read.is at c.replay_line.ensures.follows))
 
 pub shape_of-state : goal.shape_of-state
 shape_of-state g c = c.loop-from.invariant.1
