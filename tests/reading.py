@@ -22,7 +22,7 @@ def marked():
     for crate in sorted(os.listdir("crates")):
         folder = f"crates/{crate}/specs"
         for name in sorted(os.listdir(folder)) if os.path.isdir(folder) else []:
-            if name == "Lib.antt":
+            if name == "Lib.antt" or not name.endswith(".antt"):
                 continue
             with open(f"{folder}/{name}", encoding="utf-8") as f:
                 first = f.readline()
