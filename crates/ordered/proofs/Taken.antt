@@ -151,13 +151,13 @@ module _ (ds : List Declared) (f : List ℕ) (n : ℕ) (most : n ≤ 2 ^ 32) (fe
       let z = settled x g p in
       let c = reading s t v in
       let d = reading_taken z.0 z.1 to is s t v o.0 o.1 o.2 in
-      let k = goes_on {os ++ c ∷ []} y o.3 (λ j. bound_more 0 j os c ∙ ap (bound_of j c) (is j)) h.1 (offers z.0 c h.0 d) (reply_fine c t₀) in
+      let k = goes_on {os = os ++ c ∷ []} y o.3 (λ j. bound_more 0 j os c ∙ ap (bound_of j c) (is j)) h.1 (offers z.0 c h.0 d) (reply_fine c t₀) in
       (joined os c (map call_of rs) w w₀ (refusal (reply c t₀).number) v₀ k.0, k.1)
   goes_on {os} {w} {to = to} (goes {w = w₀} {t = t₀} {r = Progress s t} {rs = rs} {v = v₀} p y) o is h x g =
       let z = settled x g p in
       let c = progress s t in
       let d = progress_taken z.0 z.1 to is s t o.0 o.1 o.2 in
-      let k = goes_on {os ++ c ∷ []} y o.3 (λ j. bound_more 0 j os c ∙ ap (bound_of j c) (is j)) h.1 (offers z.0 c h.0 d) (reply_fine c t₀) in
+      let k = goes_on {os = os ++ c ∷ []} y o.3 (λ j. bound_more 0 j os c ∙ ap (bound_of j c) (is j)) h.1 (offers z.0 c h.0 d) (reply_fine c t₀) in
       (joined os c (map call_of rs) w w₀ (refusal (reply c t₀).number) v₀ k.0, k.1)
 
   -- the whole list
