@@ -2,7 +2,7 @@
 use Prim.Native.Nat.{ℕ, suc, ◌-◌, ◌<◌, ◌^◌}
 use mathlib.Core.Path.{◌≡◌, refl, sym, ap, ap₂, ◌∙◌}
 use mathlib.Core.Bool.{true, false, cond}
-use mathlib.Core.Option.{Option, none, some}
+use Rattle.std.specs.Prelude.{Option, None, Some}
 use native.Mathlib.Omega.{arith}
 use lib.Dec.{eqb}
 use lib.IntN.{ℤ, pos, negsuc}
@@ -51,21 +51,21 @@ pub or_arm : {x x' : Found} (y : Option ℤ) → x ≡ x' → or_else (as_option
 or_arm y e = sym (ap (λ (x : Found). or_else (as_option x) y) e)
 
 -- keep
-keep_is : (v w : ℤ) → two_at plan.keep (some v) (some w) ≡ cond (is_zero w) none (some v)
+keep_is : (v w : ℤ) → two_at plan.keep (Some v) (Some w) ≡ cond (is_zero w) None (Some v)
 unfolding two_at
 keep_is v w = refl
 
-pub keep_none : (v w : ℤ) → is_zero w ≡ true → none ≡ two_at plan.keep (some v) (some w)
+pub keep_none : (v w : ℤ) → is_zero w ≡ true → None ≡ two_at plan.keep (Some v) (Some w)
 keep_none v w e = sym (keep_is v w ∙ rw e)
 
-pub keep_some : (v w : ℤ) → is_zero w ≡ false → some v ≡ two_at plan.keep (some v) (some w)
+pub keep_some : (v w : ℤ) → is_zero w ≡ false → Some v ≡ two_at plan.keep (Some v) (Some w)
 keep_some v w e = sym (keep_is v w ∙ rw e)
 
 -- merge is `or else`
 pub merge_is : (x y : Option ℤ) → or_else x y ≡ two_at plan.merge x y
 unfolding two_at
-merge_is none y = refl
-merge_is (some x) y = refl
+merge_is None y = refl
+merge_is (Some x) y = refl
 
 -- no bits but those of 0 are 0
 pub zero_bits : (v : ℤ) → SFits w64 v → eqb (of_z w64 v) 0 ≡ is_zero v

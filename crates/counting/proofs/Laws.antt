@@ -3,7 +3,7 @@ use Prim.Native.Nat.{ℕ, suc, ◌+◌, ◌*◌, ◌/◌, ◌%◌, ◌^◌, ◌<
 use native.Mathlib.Omega.{arith}
 use mathlib.Core.Path.{◌≡◌, refl, sym, ap, ◌∙◌}
 use mathlib.Core.Bool.{Bool, true, false, cond, ◌||◌}
-use mathlib.Core.Option.{Option}
+use Rattle.std.specs.Prelude.{Option}
 use mathlib.Core.List.{List, []}
 use lib.Dec.{ltb, lit<}
 use lib.Seq.{set-get_or}
@@ -12,7 +12,7 @@ use lib.ListN.{length}
 use borrow.Author.Tests.{lt-ltb, le-ltb}
 use Rattle.meaning.specs.Plan.{Calc}
 use Rattle.meaning.specs.Events.{found, has}
-use Rattle.meaning.specs.Missing.{Reason, outside, divisor, said_for, calc_says, signal_says, count_limit}
+use Rattle.meaning.specs.Missing.{Reason, Outside, ZeroDivisor, said_for, calc_says, signal_says, count_limit}
 use Rattle.machine.specs.Windows.{take_below}
 use Rattle.machine.specs.Counting.{tally_of}
 use Rattle.layout.specs.Record.{Slot, Raw, dec_raw, num, with_num, slot_at, counts_f}
@@ -38,19 +38,19 @@ abbrev pub of : (m n : ℕ) → Tally
 of m n = record { outside = m; divisors = n }
 
 pub none_is : (q : Reason) → count_in q (of 0 0) ≡ 0
-none_is outside = refl
-none_is divisor = refl
+none_is Outside = refl
+none_is ZeroDivisor = refl
 
 pub more_none : (q : Reason) (c : Tally) {x : Lack} → x ≡ No → count_in q c ≡ cond (lack_for q x) (suc (count_in q c)) (count_in q c)
 more_none q c e = rw e
 
 pub more_outside : (q : Reason) (c : Tally) {x : Lack} → x ≡ Outside → count_in q (of (c.outside + 1) c.divisors) ≡ cond (lack_for q x) (suc (count_in q c)) (count_in q c)
-more_outside outside c e = rw e (omega arith)
-more_outside divisor c e = rw e
+more_outside Outside c e = rw e (omega arith)
+more_outside ZeroDivisor c e = rw e
 
 pub more_divisor : (q : Reason) (c : Tally) {x : Lack} → x ≡ ZeroDivisor → count_in q (of c.outside (c.divisors + 1)) ≡ cond (lack_for q x) (suc (count_in q c)) (count_in q c)
-more_divisor outside c e = rw e
-more_divisor divisor c e = rw e (omega arith)
+more_divisor Outside c e = rw e
+more_divisor ZeroDivisor c e = rw e (omega arith)
 
 -- ---- a signal form
 
@@ -100,8 +100,8 @@ module _ (q : Reason) (op : Op) (k : Kept) (A B : List ℕ) (t : ℕ) {second : 
 -- ---- of both arguments
 
 pub both_sum : (q : Reason) (c d : Tally) → count_in q (of (c.outside + d.outside) (c.divisors + d.divisors)) ≡ count_in q c + count_in q d
-both_sum outside c d = refl
-both_sum divisor c d = refl
+both_sum Outside c d = refl
+both_sum ZeroDivisor c d = refl
 
 -- ---- a turn of the count
 

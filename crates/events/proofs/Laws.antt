@@ -2,7 +2,7 @@
 use Prim.Native.Nat.{ℕ, zero, suc, pred, ◌-◌, ◌<◌, ◌≤◌, ◌^◌}
 use mathlib.Core.Path.{◌≡◌, refl, sym, ap, ap₂, ◌∙◌}
 use mathlib.Core.Bool.{Bool, true, false, cond, ◌&&◌, ◌||◌}
-use mathlib.Core.Option.{Option, none, some}
+use Rattle.std.specs.Prelude.{Option, None, Some}
 use mathlib.Core.List.{List}
 use native.Mathlib.Omega.{arith}
 use lib.Dec.{T, ltb, eqb}
@@ -23,7 +23,7 @@ use Rattle.events.specs.Near.{size}
 
 -- ---- a value as a number of stamps
 
-pub size_neg : (v : ℤ) → lt_z v (pos 0) ≡ true → 0 ≡ size (some v)
+pub size_neg : (v : ℤ) → lt_z v (pos 0) ≡ true → 0 ≡ size (Some v)
 size_neg (pos n) e = let h = ltb-true n 0 e in absurd (omega arith)
 size_neg (negsuc n) e = refl
 
@@ -31,23 +31,23 @@ pub size_cast : (v : ℤ) → mag v < 2 ^ 63 → lt_z v (pos 0) ≡ false → T 
 size_cast (pos n) h e = (tt, omega arith)
 size_cast (negsuc n) h e = let z : ◌≡◌ {A = ℕ} 0 1 = cc in absurd (omega arith)
 
-pub size_pos : (v : ℤ) → mag v < 2 ^ 63 → lt_z v (pos 0) ≡ false → (nat_abs v ≡ size (some v)) × (nat_abs v < 2 ^ 63)
+pub size_pos : (v : ℤ) → mag v < 2 ^ 63 → lt_z v (pos 0) ≡ false → (nat_abs v ≡ size (Some v)) × (nat_abs v < 2 ^ 63)
 size_pos (pos n) h e = (refl, omega arith)
 size_pos (negsuc n) h e = let z : ◌≡◌ {A = ℕ} 0 1 = cc in absurd (omega arith)
 
 is_size : (n : ℕ) (o : Option ℤ) → 0 < n → eqb (size o) n ≡ is n o
-is_size n none h = ne_eqb 0 n (λ e. omega arith)
-is_size n (some (pos m)) h = refl
-is_size n (some (negsuc m)) h = ne_eqb 0 n (λ e. omega arith)
+is_size n None h = ne_eqb 0 n (λ e. omega arith)
+is_size n (Some (pos m)) h = refl
+is_size n (Some (negsuc m)) h = ne_eqb 0 n (λ e. omega arith)
 
 -- ---- an event, held or kept
 
 module _ (f : Stream) (p z since : ℕ) (o v : Option ℤ) (e : o ≡ f p) (q : p ≡ pred z) where
-  pub set_kept : z ≡ since → or_else o v ≡ or_else (f (pred z)) (cond (eqb z since) v none)
-  set_kept w = ap₂ or_else (e ∙ ap f q) (sym (ap (λ b. cond b v none) (eq-eqb z since w)))
+  pub set_kept : z ≡ since → or_else o v ≡ or_else (f (pred z)) (cond (eqb z since) v None)
+  set_kept w = ap₂ or_else (e ∙ ap f q) (sym (ap (λ b. cond b v None) (eq-eqb z since w)))
 
-  pub set_held : (z ≡ since → ⊥) → o ≡ or_else (f (pred z)) (cond (eqb z since) v none)
-  set_held w = e ∙ ap f q ∙ sym (ap (λ b. or_else (f (pred z)) (cond b v none)) (ne_eqb z since w) ∙ or_none (f (pred z)))
+  pub set_held : (z ≡ since → ⊥) → o ≡ or_else (f (pred z)) (cond (eqb z since) v None)
+  set_held w = e ∙ ap f q ∙ sym (ap (λ b. or_else (f (pred z)) (cond b v None)) (ne_eqb z since w) ∙ or_none (f (pred z)))
 
 -- ---- due
 
@@ -61,11 +61,11 @@ due_some z t n o h l e =
 
 -- ---- unit
 
-pub unit_zero : (t : ℕ) → t ≡ 0 → some (pos 0) ≡ unit_at t
+pub unit_zero : (t : ℕ) → t ≡ 0 → Some (pos 0) ≡ unit_at t
 unfolding unit_at
 unit_zero t e = ap unit_at (sym e)
 
-pub unit_later : (t : ℕ) → (t ≡ 0 → ⊥) → none ≡ unit_at t
+pub unit_later : (t : ℕ) → (t ≡ 0 → ⊥) → None ≡ unit_at t
 unfolding unit_at
 unit_later zero h = absurd (h refl)
 unit_later (suc t) h = refl
@@ -78,7 +78,7 @@ gives_arm l A B t e = sym (ap (λ (o : Op). machine.gives (plain o) (own_of l.st
 
 -- a signal form, where neither argument has an event and where one has
 module _ (c : Calc) (u w x y : Option ℤ) where
-  pub signal_none : (has u || has w) ≡ false → none ≡ signal_at c u w x y
+  pub signal_none : (has u || has w) ≡ false → None ≡ signal_at c u w x y
   unfolding signal_at
   signal_none e = rw e
 

@@ -2,7 +2,7 @@
 use Prim.Native.Nat.{ℕ, ◌<◌, ◌^◌}
 use mathlib.Core.Path.{◌≡◌, refl, sym, ap, ◌∙◌}
 use mathlib.Core.Bool.{Bool, false, cond, false≢true}
-use mathlib.Core.Option.{Option, none}
+use Rattle.std.specs.Prelude.{Option, None}
 use mathlib.Core.List.{List}
 use lib.IntN.{ℤ}
 use lib.ListN.{get_or}
@@ -21,15 +21,15 @@ use Rattle.keeping.specs.Keep.{moved_cell, value_kept, delay_kept, signal_kept, 
 
 -- z is the latest set point, x a's event just below the bound
 module _ (o a b : Cell) (z : ℕ) (ez : z ≡ later o b) (x : Option ℤ) (ex : x ≡ (absorb (delay 0 0) o a b).prior) where
-  pub delay_none : z ≡ 0 → record { prev = o.kept.prev; prev_b = o.kept.prev_b; since = z; value = none; prior = x } ≡ absorb (delay 0 0) o a b
+  pub delay_none : z ≡ 0 → record { prev = o.kept.prev; prev_b = o.kept.prev_b; since = z; value = None; prior = x } ≡ absorb (delay 0 0) o a b
   delay_none h =
-      let v : none ≡ (absorb (delay 0 0) o a b).value = sym (ap (λ (c : Bool). cond c none (value_at o a (later o b))) (eq-eqb (later o b) 0 (sym ez ∙ h))) in
+      let v : None ≡ (absorb (delay 0 0) o a b).value = sym (ap (λ (c : Bool). cond c None (value_at o a (later o b))) (eq-eqb (later o b) 0 (sym ez ∙ h))) in
       λ i. record { prev = o.kept.prev; prev_b = o.kept.prev_b; since = ez i; value = v i; prior = ex i }
 
   pub delay_some : (v : Option ℤ) → v ≡ value_at o a z → (z ≡ 0 → ⊥) → record { prev = o.kept.prev; prev_b = o.kept.prev_b; since = z; value = v; prior = x } ≡ absorb (delay 0 0) o a b
   delay_some v ev h =
       let w : v ≡ (absorb (delay 0 0) o a b).value =
-      ev ∙ ap (value_at o a) ez ∙ sym (ap (λ (c : Bool). cond c none (value_at o a (later o b))) (ne_eqb (later o b) 0 (λ q. h (ez ∙ q)))) in
+      ev ∙ ap (value_at o a) ez ∙ sym (ap (λ (c : Bool). cond c None (value_at o a (later o b))) (ne_eqb (later o b) 0 (λ q. h (ez ∙ q)))) in
       λ i. record { prev = o.kept.prev; prev_b = o.kept.prev_b; since = ez i; value = w i; prior = ex i }
 
 -- no more of the cells is needed than this

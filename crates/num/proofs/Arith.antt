@@ -11,7 +11,8 @@ use mir.Val.{Fits, to_z, of_z}
 use mir.Facts.{to_z-of_z, to_z_pos, to_z-neg}
 use borrow.Author.Tests.{lt-ltb, le-ltb, le-leb, lt-leb, ne_eqb}
 use native.Mathlib.Decide.{dec_le}
-use Rattle.num.specs.declared.Answer.TheVariants.{Value, Outside, ZeroDivisor}
+use Rattle.std.specs.Prelude.{Ok, Err}
+use Rattle.num.specs.declared.Reason.TheVariants.{Outside, ZeroDivisor}
 use Rattle.num.specs.Arithmetic.{fit, is_zero, divided, remainder}
 use Rattle.num.specs.Parts.{signed}
 
@@ -20,29 +21,29 @@ never e = absurd (subst T (sym e) tt)
 
 -- ---- which numbers are values
 
-pub fit_pos : (n : ℕ) → n < 2 ^ 63 → fit (pos n) ≡ Value (pos n)
+pub fit_pos : (n : ℕ) → n < 2 ^ 63 → fit (pos n) ≡ Ok (pos n)
 unfolding fit
 fit_pos n h = rw (lt-ltb n (2 ^ 63) h)
 
-fit_pos_none : (n : ℕ) → 2 ^ 63 ≤ n → fit (pos n) ≡ Outside
+fit_pos_none : (n : ℕ) → 2 ^ 63 ≤ n → fit (pos n) ≡ Err Outside
 unfolding fit
 fit_pos_none n h = rw (le-ltb n (2 ^ 63) h)
 
-pub fit_neg : (n : ℕ) → n < 2 ^ 63 → fit (negsuc n) ≡ Value (negsuc n)
+pub fit_neg : (n : ℕ) → n < 2 ^ 63 → fit (negsuc n) ≡ Ok (negsuc n)
 unfolding fit
 fit_neg n h = rw (le-leb n (2 ^ 63 - 1) (omega arith))
 
-fit_neg_none : (n : ℕ) → 2 ^ 63 ≤ n → fit (negsuc n) ≡ Outside
+fit_neg_none : (n : ℕ) → 2 ^ 63 ≤ n → fit (negsuc n) ≡ Err Outside
 unfolding fit
 fit_neg_none n h = rw (lt-leb n (2 ^ 63 - 1) (omega arith))
 
 -- a magnitude above 2^63 is no value's, and 2^63 is none's without a sign
-pub too_big : (s : Bool) (m : ℕ) → 2 ^ 63 < m → fit (signed s m) ≡ Outside
+pub too_big : (s : Bool) (m : ℕ) → 2 ^ 63 < m → fit (signed s m) ≡ Err Outside
 too_big false m h = fit_pos_none m (omega arith)
 too_big true zero h = absurd (omega arith)
 too_big true (suc k) h = fit_neg_none k (omega arith)
 
-pub too_big_plain : (m : ℕ) → 2 ^ 63 ≤ m → fit (signed false m) ≡ Outside
+pub too_big_plain : (m : ℕ) → 2 ^ 63 ≤ m → fit (signed false m) ≡ Err Outside
 too_big_plain = fit_pos_none
 
 -- ---- sums
@@ -103,11 +104,11 @@ unfolding is_zero
 zero_not false n = ne_eqb (suc n) 0 (λ e. omega arith)
 zero_not true n = refl
 
-pub div_none : (a : ℤ) (t : Bool) (n : ℕ) → n ≡ 0 → divided a (signed t n) ≡ ZeroDivisor
+pub div_none : (a : ℤ) (t : Bool) (n : ℕ) → n ≡ 0 → divided a (signed t n) ≡ Err ZeroDivisor
 unfolding divided
 div_none a t n e = rw (zero_is t n e)
 
-pub rem_none : (a : ℤ) (t : Bool) (n : ℕ) → n ≡ 0 → remainder a (signed t n) ≡ ZeroDivisor
+pub rem_none : (a : ℤ) (t : Bool) (n : ℕ) → n ≡ 0 → remainder a (signed t n) ≡ Err ZeroDivisor
 unfolding remainder
 rem_none a t n e = rw (zero_is t n e)
 
@@ -169,24 +170,24 @@ by_halves m n h =
 
 -- ---- what the function join returns
 
-pub join_zero : (s : Bool) (m : ℕ) → m ≡ 0 → Value (pos 0) ≡ fit (signed s m)
+pub join_zero : (s : Bool) (m : ℕ) → m ≡ 0 → Ok (pos 0) ≡ fit (signed s m)
 join_zero false m e = rw e (sym (fit_pos 0 (lit< tt)))
 join_zero true m e = rw e (sym (fit_pos 0 (lit< tt)))
 
-pub join_neg : (s : Bool) (m : ℕ) (r : ℤ) → s ≡ true → (m ≡ 0 → ⊥) → m ≤ 2 ^ 63 → r ≡ to_z w64 (18446744073709551615 - (m - 1)) → Value (to_z w64 (of_z w64 r)) ≡ fit (signed s m)
+pub join_neg : (s : Bool) (m : ℕ) (r : ℤ) → s ≡ true → (m ≡ 0 → ⊥) → m ≤ 2 ^ 63 → r ≡ to_z w64 (18446744073709551615 - (m - 1)) → Ok (to_z w64 (of_z w64 r)) ≡ fit (signed s m)
 join_neg false m r b z h e = never b
 join_neg true zero r b z h e = absurd (z refl)
 join_neg true (suc k) r b z h e =
     let q : 18446744073709551615 - (suc k - 1) ≡ 2 ^ 64 - suc k = omega arith in
     let hk : k < 2 ^ 63 = omega arith in
     let rk : r ≡ negsuc k = e ∙ ap (to_z w64) q ∙ to_z-neg w64 k hk in
-    rw rk (ap Value (to_z-of_z {w = w64} {z = negsuc k} (record { sfits = hk })) ∙ sym (fit_neg k hk))
+    rw rk (ap Ok (to_z-of_z {w = w64} {z = negsuc k} (record { sfits = hk })) ∙ sym (fit_neg k hk))
 
-pub join_pos : (s : Bool) (m : ℕ) (r : ℤ) → s ≡ false → m < 2 ^ 63 → r ≡ to_z w64 m → Value (to_z w64 (of_z w64 r)) ≡ fit (signed s m)
+pub join_pos : (s : Bool) (m : ℕ) (r : ℤ) → s ≡ false → m < 2 ^ 63 → r ≡ to_z w64 m → Ok (to_z w64 (of_z w64 r)) ≡ fit (signed s m)
 join_pos true m r b h e = never (sym b)
 join_pos false m r b h e =
-    rw (e ∙ to_z_pos w64 h) (ap Value (to_z-of_z {w = w64} {z = pos m} (record { sfits = h })) ∙ sym (fit_pos m h))
+    rw (e ∙ to_z_pos w64 h) (ap Ok (to_z-of_z {w = w64} {z = pos m} (record { sfits = h })) ∙ sym (fit_pos m h))
 
-pub join_none : (s : Bool) (m : ℕ) → s ≡ false → 2 ^ 63 ≤ m → fit (signed s m) ≡ Outside
+pub join_none : (s : Bool) (m : ℕ) → s ≡ false → 2 ^ 63 ≤ m → fit (signed s m) ≡ Err Outside
 join_none true m b h = never (sym b)
 join_none false m b h = fit_pos_none m h

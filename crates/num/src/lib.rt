@@ -7,14 +7,12 @@ ghost use Rattle.std.proofs.Common.{to_z, of_z};
 ghost use Rattle.num.specs.Arithmetic.{fit, truth, negated, added, subtracted, multiplied, divided, remainder, less, at_most, equal};
 ghost use Rattle.num.specs.Parts.{signed, of, lowered};
 
-// What an operation answers.
-#[derive(Clone, Copy)]
-pub enum Answer {
-    // The value.
-    Value(i64),
-    // None: the result lies outside the value range.
+// Why an operation has no value.
+#[derive(Clone, Copy, PartialEq, Eq)]
+pub enum Reason {
+    // The result lies outside the value range.
     Outside,
-    // None: the divisor is zero.
+    // The divisor is zero.
     ZeroDivisor,
 }
 
@@ -68,26 +66,26 @@ fn split(x: i64) -> Parts
 }
 
 // The number of a sign and a magnitude, if it is a value.
-fn join(neg: bool, mag: u64) -> Answer
+fn join(neg: bool, mag: u64) -> Result<i64, Reason>
     ensures { result ≡ fit (signed neg mag) }
 {
     if neg {
         if mag == 0 {
-            Answer::Value(0)
+            Ok(0)
         } else if mag <= HALF {
-            Answer::Value(of_bits(u64::MAX - (mag - 1)))
+            Ok(of_bits(u64::MAX - (mag - 1)))
         } else {
-            Answer::Outside
+            Err(Reason::Outside)
         }
     } else if mag < HALF {
-        Answer::Value(of_bits(mag))
+        Ok(of_bits(mag))
     } else {
-        Answer::Outside
+        Err(Reason::Outside)
     }
 }
 
 // The sum of two numbers in sign and magnitude.
-fn sum(p: Parts, q: Parts) -> Answer
+fn sum(p: Parts, q: Parts) -> Result<i64, Reason>
     requires { (p.mag ≤ 2 ^ 63) × (q.mag ≤ 2 ^ 63) }
     ensures { result ≡ fit (of p +ℤ of q) }
 {
@@ -95,7 +93,7 @@ fn sum(p: Parts, q: Parts) -> Answer
     let n = q.mag;
     if p.neg == q.neg {
         if HALF - n < m {
-            Answer::Outside
+            Err(Reason::Outside)
         } else {
             join(p.neg, m + n)
         }
@@ -138,20 +136,20 @@ fn shifted_sum(high: u64, low: u64) -> u64
     high * BASE + low
 }
 
-pub fn neg(a: i64) -> Answer
+pub fn neg(a: i64) -> Result<i64, Reason>
     ensures { result ≡ negated a }
 {
     let p = split(a);
     join(!p.neg, p.mag)
 }
 
-pub fn add(a: i64, b: i64) -> Answer
+pub fn add(a: i64, b: i64) -> Result<i64, Reason>
     ensures { result ≡ added a b }
 {
     sum(split(a), split(b))
 }
 
-pub fn sub(a: i64, b: i64) -> Answer
+pub fn sub(a: i64, b: i64) -> Result<i64, Reason>
     ensures { result ≡ subtracted a b }
 {
     let q = split(b);
@@ -164,7 +162,7 @@ pub fn sub(a: i64, b: i64) -> Answer
     )
 }
 
-pub fn mul(a: i64, b: i64) -> Answer
+pub fn mul(a: i64, b: i64) -> Result<i64, Reason>
     ensures { result ≡ multiplied a b }
 {
     let p = split(a);
@@ -186,7 +184,7 @@ fn below_zero(s: bool, t: bool, m: u64) -> u64
 }
 
 // The quotient, down to the next whole number: below zero the magnitude goes up. One division, of m − 1 there, does both.
-pub fn div(a: i64, b: i64) -> Answer
+pub fn div(a: i64, b: i64) -> Result<i64, Reason>
     ensures { result ≡ divided a b }
 {
     let p = split(a);
@@ -194,14 +192,14 @@ pub fn div(a: i64, b: i64) -> Answer
     let m = p.mag;
     let n = q.mag;
     if n == 0 {
-        return Answer::ZeroDivisor;
+        return Err(Reason::ZeroDivisor);
     }
     let up = below_zero(p.neg, q.neg, m);
     join(p.neg != q.neg, (m - up) / n + up)
 }
 
 // The remainder, with the divisor's sign: what the quotient leaves.
-pub fn rem(a: i64, b: i64) -> Answer
+pub fn rem(a: i64, b: i64) -> Result<i64, Reason>
     ensures { result ≡ remainder a b }
 {
     let p = split(a);
@@ -209,7 +207,7 @@ pub fn rem(a: i64, b: i64) -> Answer
     let m = p.mag;
     let n = q.mag;
     if n == 0 {
-        return Answer::ZeroDivisor;
+        return Err(Reason::ZeroDivisor);
     }
     let less = below_zero(p.neg, q.neg, m);
     let left = (m - less) % n;
@@ -220,29 +218,25 @@ pub fn rem(a: i64, b: i64) -> Answer
 }
 
 // 1 for yes, 0 for no.
-fn one_or_zero(yes: bool) -> Answer
+fn one_or_zero(yes: bool) -> Result<i64, Reason>
     ensures { result ≡ truth yes }
 {
-    if yes {
-        Answer::Value(1)
-    } else {
-        Answer::Value(0)
-    }
+    Ok(if yes { 1 } else { 0 })
 }
 
-pub fn lt(a: i64, b: i64) -> Answer
+pub fn lt(a: i64, b: i64) -> Result<i64, Reason>
     ensures { result ≡ less a b }
 {
     one_or_zero(a < b)
 }
 
-pub fn le(a: i64, b: i64) -> Answer
+pub fn le(a: i64, b: i64) -> Result<i64, Reason>
     ensures { result ≡ at_most a b }
 {
     one_or_zero(a <= b)
 }
 
-pub fn eq(a: i64, b: i64) -> Answer
+pub fn eq(a: i64, b: i64) -> Result<i64, Reason>
     ensures { result ≡ equal a b }
 {
     one_or_zero(a == b)

@@ -1,6 +1,6 @@
 use Prim.Native.Nat.{◌<◌, ◌^◌}
 use mathlib.Core.Path.{refl, ap, ap₂, ◌∙◌}
-use mathlib.Core.Option.{some}
+use Rattle.std.specs.Prelude.{Some}
 use mir.Syntax.{w64}
 use mir.Facts.{to_z_pos}
 use Rattle.num.specs.Arithmetic.{negated, added}
@@ -15,11 +15,11 @@ returns-in_default c = Rows.one_arm c.args.t (refl {a = c.args.f}) c.in_default.
 
 pub returns-in-Time : goal.returns-in-Time
 unfolding one_at
-returns-in-Time c = let h : c.args.t < 2 ^ 63 = omega arith in ap some (to_z_pos w64 h) ∙ Rows.one_arm c.args.t c.in-Time.is c.in-Value.is
+returns-in-Time c = let h : c.args.t < 2 ^ 63 = omega arith in ap Some (to_z_pos w64 h) ∙ Rows.one_arm c.args.t c.in-Time.is c.in-Value.is
 
 pub returns-in-Set : goal.returns-in-Set
 unfolding one_at
-returns-in-Set c = ap some (Rows.back c.in-Set.k c.in-Set.known_told-in-Set-1-own.given.0.1) ∙ Rows.one_arm c.args.t c.in-Set.is c.in-Value.is
+returns-in-Set c = ap Some (Rows.back c.in-Set.k c.in-Set.known_told-in-Set-1-own.given.0.1) ∙ Rows.one_arm c.args.t c.in-Set.is c.in-Value.is
 
 pub returns-in-Plus : goal.returns-in-Plus
 unfolding one_at

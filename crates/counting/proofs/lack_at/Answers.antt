@@ -1,6 +1,6 @@
 -- `counting::lack_at` meets its contract.
 use mathlib.Core.Path.{ap, ap₂, ◌∙◌}
-use mathlib.Core.Option.{Option}
+use Rattle.std.specs.Prelude.{Option}
 use lib.IntN.{ℤ}
 use Rattle.meaning.specs.Missing.{said_for, one_says, two_says}
 use Rattle.apply.specs.Named.{unary, binary}

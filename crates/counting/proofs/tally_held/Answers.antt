@@ -2,7 +2,7 @@
 use mathlib.Core.Path.{◌≡◌, ap}
 use Prim.Native.Nat.{ℕ, ◌+◌}
 use mathlib.Core.Bool.{Bool}
-use Rattle.meaning.specs.Missing.{Reason, outside, divisor}
+use Rattle.meaning.specs.Missing.{Reason, Outside, ZeroDivisor}
 use Rattle.machine.specs.Step.{drop_below}
 use Rattle.machine.specs.Windows.{take_below}
 use Rattle.machine.specs.Counting.{tally_of}
@@ -19,7 +19,7 @@ use Rattle.counting.proofs.Laws as law
 use Rattle.counting.proofs.tally_held.Goals as goal
 
 pub loop-i-init : goal.loop-i-init
-loop-i-init c = let F : Reason → ℕ → Bool = λ q j. asked_in q c.args.second c.args.op c.args.k c.args.a.now c.args.b.now j in let r = dec_raw c.args.held.now in let many = slots_many c.args.held.now in (omega arith, omega arith, omega arith, omega (arith, c.none-c.ensures outside), omega (arith, c.none-c.ensures divisor), λ q. let z = c.none-c.ensures q in let e = ap (λ (l : List Event). tally_of (F q) (take_below c.args.x l)) (held_from c.args.y c.count-n.result c.first_from-first.result r c.count-n.ensures.0 c.first_from-first.ensures.0) in omega (arith, z, e))
+loop-i-init c = let F : Reason → ℕ → Bool = λ q j. asked_in q c.args.second c.args.op c.args.k c.args.a.now c.args.b.now j in let r = dec_raw c.args.held.now in let many = slots_many c.args.held.now in (omega arith, omega arith, omega arith, omega (arith, c.none-c.ensures Outside), omega (arith, c.none-c.ensures ZeroDivisor), λ q. let z = c.none-c.ensures q in let e = ap (λ (l : List Event). tally_of (F q) (take_below c.args.x l)) (held_from c.args.y c.count-n.result c.first_from-first.result r c.count-n.ensures.0 c.first_from-first.ensures.0) in omega (arith, z, e))
 
 pub stamp_at-t-requires : goal.stamp_at-t-requires
 stamp_at-t-requires c = (omega arith, omega arith)

@@ -1,6 +1,6 @@
 -- `events::held_latest` meets its contract.
 use mathlib.Core.Path.{ap, ◌∙◌}
-use mathlib.Core.Option.{Option}
+use Rattle.std.specs.Prelude.{Option}
 use lib.IntN.{ℤ}
 use Rattle.meaning.specs.Events.{or_else}
 use Rattle.queue.specs.Found.{as_option}

@@ -1,6 +1,6 @@
 -- `events::last_at` meets its contract.
 use mathlib.Core.Path.{sym, ap, ◌∙◌}
-use mathlib.Core.Option.{Option}
+use Rattle.std.specs.Prelude.{Option}
 use lib.IntN.{ℤ}
 use Rattle.meaning.specs.Table.{last_at}
 use Rattle.machine.specs.Reach.{held_latest}

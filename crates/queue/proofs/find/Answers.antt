@@ -1,5 +1,5 @@
 use mathlib.Core.Path.{sym, ap, ◌∙◌}
-use mathlib.Core.Option.{some}
+use Rattle.std.specs.Prelude.{Some}
 use mir.Syntax.{w64}
 use mir.Val.{to_z}
 use mir.Facts.{to_z-of_z}
@@ -21,7 +21,7 @@ pub value_at-requires : goal.value_at-requires
 value_at-requires c = (omega arith, omega arith)
 
 pub returns-then-stamp-t : goal.returns-then-stamp-t
-returns-then-stamp-t c = let a = c.args in let r = dec_raw a.r.now in let many = slots_many a.r.now in let l = c.loop-i in ap some (to_z-of_z {w = w64} (record { sfits = c.of_bits.type_inv }) ∙ c.of_bits.ensures ∙ ap (to_z w64) c.value_at.ensures) ∙ sym (turn.find_hit r.slots l.i c.count-n.result a.t c.stamp_at-stamp.result (omega arith) (omega arith) c.stamp_at-stamp.ensures.0 c.if-stamp-t.true) ∙ l.invariant.2
+returns-then-stamp-t c = let a = c.args in let r = dec_raw a.r.now in let many = slots_many a.r.now in let l = c.loop-i in ap Some (to_z-of_z {w = w64} (record { sfits = c.of_bits.type_inv }) ∙ c.of_bits.ensures ∙ ap (to_z w64) c.value_at.ensures) ∙ sym (turn.find_hit r.slots l.i c.count-n.result a.t c.stamp_at-stamp.result (omega arith) (omega arith) c.stamp_at-stamp.ensures.0 c.if-stamp-t.true) ∙ l.invariant.2
 
 pub overflow_add-i : goal.overflow_add-i
 overflow_add-i c = omega arith

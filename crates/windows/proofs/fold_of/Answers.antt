@@ -2,7 +2,7 @@
 use Prim.Native.Nat.{◌+◌, ◌-◌}
 use mathlib.Core.Path.{sym, ap, ◌∙◌}
 use mathlib.Core.Bool.{true, false}
-use mathlib.Core.Option.{some as Option·some}
+use Rattle.std.specs.Prelude.{some as Option·some}
 use mathlib.Core.List.{◌++◌, map}
 use lib.Seq.{slice, length-slice}
 use mir.Syntax.{w64}
