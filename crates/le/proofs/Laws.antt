@@ -1,11 +1,12 @@
 -- Laws of little-endian numbers and of runs of bytes.
 use Prim.Native.Nat.{ℕ, zero, suc, ◌+◌, ◌*◌, ◌/◌, ◌%◌, ◌^◌, ◌<◌, ◌≤◌, ◌-◌}
 use mathlib.Core.Path.{◌≡◌, refl, sym, ap, ap₂, ◌∙◌}
-use mathlib.Core.List.{List, [], ◌∷◌}
+use mathlib.Core.List.{List, [], ◌∷◌, ◌++◌, append_assoc}
 use native.Mathlib.Nat.{mod-lt, div-lt_iff_lt-mul, pow-suc, add-zero, lt_of_lt_of_le, pow-le-pow_right, sub-zero}
 use native.Mathlib.Omega.{arith}
 use lib.ListN.{length, get_or, take, drop, set, replicate, length-take, length-set}
-use lib.Seq.{get_or-drop, drop-cons, sets, drop-set-lt, length-sets}
+use lib.Seq.{get_or-drop, drop-cons, sets, sets-eq, drop-set-lt, length-sets, drop-drop}
+use borrow.Rule.Slice.PartMut.{put_mid}
 use lib.Dec.{lit<, lit≤}
 use Rattle.le.specs.Bytes.{le, enc, part, Bytes}
 
@@ -193,3 +194,8 @@ clear_turn s at i n h =
 
 pub clear_done : (s t : List ℕ) (at n : ℕ) → n ≡ 0 → sets s at (replicate n 0) ≡ t → s ≡ t
 clear_done s t at n e p = rw e at p
+
+-- what a part of a slice leaves, as numbers put into the whole
+pub put_part : (s t vs : List ℕ) (at n : ℕ) → t ≡ vs → length vs ≡ n → at + n ≤ length s → put_mid at n s t ≡ sets s at vs
+put_part s t vs at n e l h =
+    rw e (sym (sets-eq vs s at (omega arith) ∙ append_assoc (take at s) vs (drop (at + length vs) s) ∙ ap (λ (r : List ℕ). take at s ++ (vs ++ r)) (ap (λ (k : ℕ). drop (at + k) s) l ∙ sym (drop-drop n at s))))

@@ -17,12 +17,6 @@ overflow_add-s c = omega arith
 pub bounds-s-at : goal.bounds-s-at
 bounds-s-at c = omega arith
 
-pub overflow_add-i : goal.overflow_add-i
-overflow_add-i c = omega arith
-
-pub loop-i-smaller : goal.loop-i-smaller
-loop-i-smaller c = omega arith
-
 pub loop-i-preserved : goal.loop-i-preserved
 loop-i-preserved c = (omega arith, simp length-set (omega arith), put_turn _ _ _ _ _ c.loop-i-test.true ∙ c.loop-i.invariant.2)
 

@@ -9,27 +9,6 @@ use Rattle.le.proofs.shift_singly.Goals as goal
 pub loop-moved-init : goal.loop-moved-init
 loop-moved-init c = (omega arith, refl, simp (add-zero, sub-zero))
 
-pub overflow_add-x : goal.overflow_add-x
-overflow_add-x c = omega arith
-
-pub overflow_add-x-in-loop-moved : goal.overflow_add-x-in-loop-moved
-overflow_add-x-in-loop-moved c = omega arith
-
-pub bounds-s-at : goal.bounds-s-at
-bounds-s-at c = omega arith
-
-pub overflow_add-s : goal.overflow_add-s
-overflow_add-s c = omega arith
-
-pub bounds-s-at-in-loop-moved : goal.bounds-s-at-in-loop-moved
-bounds-s-at-in-loop-moved c = omega arith
-
-pub overflow_add-moved : goal.overflow_add-moved
-overflow_add-moved c = omega arith
-
-pub loop-moved-smaller : goal.loop-moved-smaller
-loop-moved-smaller c = omega arith
-
 pub loop-moved-preserved : goal.loop-moved-preserved
 loop-moved-preserved c =
     let l = c in
