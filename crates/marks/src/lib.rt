@@ -24,12 +24,6 @@ fn mark(marks: &mut [u8], x: u8) -> bool
     true
 }
 
-fn either(x: bool, y: bool) -> bool
-    ensures { result ≡ (x || y) }
-{
-    if x { true } else { y }
-}
-
 // Marks the undelayed arguments of stream i, and answers whether one was new.
 fn mark_arguments(graph: &[u8; GRAPH], i: usize, marks: &mut [u8]) -> bool
     requires { i < most_streams }
@@ -44,7 +38,7 @@ fn mark_arguments(graph: &[u8; GRAPH], i: usize, marks: &mut [u8]) -> bool
     let b = graph[at + 2];
     let first = mark(marks, a);
     let second = mark(marks, b);
-    either(first, second)
+    first | second
 }
 
 // The same, if stream i is marked.
@@ -66,11 +60,9 @@ fn pass(graph: &[u8; GRAPH], n: usize, marks: &mut [u8]) -> bool
     ensures grown { Grown marks.old marks.new result }
 {
     let mut new = false;
-    let mut i = 0;
-    while i < n {
+    for i in 0..n {
         let more = turn(graph, i, marks);
-        new = either(new, more);
-        i += 1;
+        new |= more;
     }
     new
 }
@@ -80,11 +72,7 @@ fn spread(graph: &[u8; GRAPH], n: usize, marks: &mut [u8])
     requires { (n ≤ most_streams) × (n ≤ length marks.old) }
     ensures { Spread graph.now n marks.old marks.new }
 {
-    loop {
-        if !pass(graph, n, marks) {
-            return;
-        }
-    }
+    while pass(graph, n, marks) {}
 }
 
 // Whether undelayed arguments lead from stream s to itself.
@@ -103,12 +91,10 @@ pub fn lowest(graph: &[u8; GRAPH], n: usize) -> usize
     requires { n ≤ most_streams }
     ensures { LowestBack graph.now n result }
 {
-    let mut s = 0;
-    while s < n {
+    for s in 0..n {
         if leads_back(graph, n, s) {
             return s;
         }
-        s += 1;
     }
-    s
+    n
 }

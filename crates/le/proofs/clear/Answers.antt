@@ -1,8 +1,8 @@
 -- `le::clear` meets its contract.
 use Prim.Native.Nat.{ℕ, ◌+◌, ◌-◌}
 use native.Mathlib.Omega.{arith}
-use mathlib.Core.Path.{◌≡◌, ap, ◌∙◌}
-use lib.ListN.{length, replicate, length-replicate}
+use mathlib.Core.Path.{ap, ◌∙◌}
+use lib.ListN.{replicate, length-replicate}
 use Rattle.std.proofs.Common.{rules}
 use Rattle.le.proofs.Laws.{put_part}
 use Rattle.le.proofs.clear.Goals as goal

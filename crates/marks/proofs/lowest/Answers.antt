@@ -14,14 +14,8 @@ leads_back-requires c = omega arith
 pub returns-then-leads_back : goal.returns-then-leads_back
 returns-then-leads_back c = record { few = omega arith; itself = λ h. subst (Back c.args.graph.now c.args.n c.loop-s.s) c.if-leads_back.true c.leads_back.ensures; below = c.loop-s.invariant.1 }
 
-pub overflow_add-s : goal.overflow_add-s
-overflow_add-s c = omega arith
-
-pub loop-s-smaller : goal.loop-s-smaller
-loop-s-smaller c = omega arith
-
 pub loop-s-preserved : goal.loop-s-preserved
 loop-s-preserved c = (omega arith, below_more _ _ c.loop-s.invariant.1 (subst (Back c.args.graph.now c.args.n c.loop-s.s) c.if-leads_back.false c.leads_back.ensures))
 
 pub returns : goal.returns
-returns c = record { few = c.loop-s.invariant.0; itself = λ h. absurd (omega arith); below = c.loop-s.invariant.1 }
+returns c = record { few = omega arith; itself = λ h. absurd (omega arith); below = λ x h. c.loop-s.invariant.1 x (omega arith) }
