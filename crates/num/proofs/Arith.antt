@@ -7,11 +7,12 @@ use native.Mathlib.Nat.{add-zero, sub-zero, mul-zero, zero-mul, le_trans, mul-le
 use lib.IntN.{ℤ, pos, negsuc, neg_ℤ, ◌+ℤ◌, ◌*ℤ◌, neg_ℤ-+ℤ, neg_ℤ-neg_ℤ, +ℤ_comm}
 use lib.Dec.{T, lit<}
 use mir.Syntax.{w64}
-use mir.Val.{Fits, to_z, of_z}
+use mir.Val.{Fits, SFits, to_z, of_z}
 use mir.Facts.{to_z-of_z, to_z_pos, to_z-neg}
 use borrow.Author.Tests.{lt-ltb, le-ltb, le-leb, lt-leb, ne_eqb}
 use native.Mathlib.Decide.{dec_le}
-use Rattle.std.specs.Prelude.{Ok, Err}
+use Rattle.std.specs.Prelude.{Option, None, Some, Ok, Err, SomeIff}
+use Rattle.std.specs.Option.{ok_or}
 use Rattle.num.specs.declared.Reason.TheVariants.{Outside, ZeroDivisor}
 use Rattle.num.specs.Arithmetic.{fit, is_zero, divided, remainder}
 use Rattle.num.specs.Parts.{signed}
@@ -45,6 +46,13 @@ too_big true (suc k) h = fit_neg_none k (omega arith)
 
 pub too_big_plain : (m : ℕ) → 2 ^ 63 ≤ m → fit (signed false m) ≡ Err Outside
 too_big_plain = fit_pos_none
+
+-- what the library's checked arithmetic answers
+pub checked : (r : Option ℤ) (z : ℤ) → SomeIff r (SFits w64 z) z → ok_or r Outside ≡ fit z
+checked None (pos n) h = sym (fit_pos_none n (let k : (n < 2 ^ 63 → ⊥) = λ q. h (record { sfits = q }) in omega arith))
+checked None (negsuc n) h = sym (fit_neg_none n (let k : (n < 2 ^ 63 → ⊥) = λ q. h (record { sfits = q }) in omega arith))
+checked (Some x) (pos n) h = ap Ok h.1 ∙ sym (fit_pos n h.0.sfits)
+checked (Some x) (negsuc n) h = ap Ok h.1 ∙ sym (fit_neg n h.0.sfits)
 
 -- ---- sums
 

@@ -84,26 +84,6 @@ fn join(neg: bool, mag: u64) -> Result<i64, Reason>
     }
 }
 
-// The sum of two numbers in sign and magnitude.
-fn sum(p: Parts, q: Parts) -> Result<i64, Reason>
-    requires { (p.mag ≤ 2 ^ 63) × (q.mag ≤ 2 ^ 63) }
-    ensures { result ≡ fit (of p +ℤ of q) }
-{
-    let m = p.mag;
-    let n = q.mag;
-    if p.neg == q.neg {
-        if HALF - n < m {
-            Err(Reason::Outside)
-        } else {
-            join(p.neg, m + n)
-        }
-    } else if n <= m {
-        join(p.neg, m - n)
-    } else {
-        join(q.neg, n - m)
-    }
-}
-
 // The product of two magnitudes, or 2^63 + 1, which no value has, where it is larger. By halves of 32 bits: the
 // controller has no divider, and no 64-bit product with its upper half.
 fn product(m: u64, n: u64) -> u64
@@ -139,27 +119,19 @@ fn shifted_sum(high: u64, low: u64) -> u64
 pub fn neg(a: i64) -> Result<i64, Reason>
     ensures { result ≡ negated a }
 {
-    let p = split(a);
-    join(!p.neg, p.mag)
+    a.checked_neg().ok_or(Reason::Outside)
 }
 
 pub fn add(a: i64, b: i64) -> Result<i64, Reason>
     ensures { result ≡ added a b }
 {
-    sum(split(a), split(b))
+    a.checked_add(b).ok_or(Reason::Outside)
 }
 
 pub fn sub(a: i64, b: i64) -> Result<i64, Reason>
     ensures { result ≡ subtracted a b }
 {
-    let q = split(b);
-    sum(
-        split(a),
-        Parts {
-            neg: !q.neg,
-            mag: q.mag,
-        },
-    )
+    a.checked_sub(b).ok_or(Reason::Outside)
 }
 
 pub fn mul(a: i64, b: i64) -> Result<i64, Reason>
