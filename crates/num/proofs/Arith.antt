@@ -54,38 +54,6 @@ checked None (negsuc n) h = sym (fit_neg_none n (let k : (n < 2 ^ 63 → ⊥) = 
 checked (Some x) (pos n) h = ap Ok h.1 ∙ sym (fit_pos n h.0.sfits)
 checked (Some x) (negsuc n) h = ap Ok h.1 ∙ sym (fit_neg n h.0.sfits)
 
--- ---- sums
-
-pub sum_same : (s t : Bool) (m n : ℕ) → beq s t ≡ true → signed s m +ℤ signed t n ≡ signed s (m + n)
-sum_same false false m n e = refl
-sum_same false true m n e = never e
-sum_same true false m n e = never e
-sum_same true true m n e = sym (neg_ℤ-+ℤ (pos m) (pos n))
-
-pub less : (m n : ℕ) → n ≤ m → pos m +ℤ neg_ℤ (pos n) ≡ pos (m - n)
-less m zero h = ap pos (add-zero m ∙ sym (sub-zero m))
-less m (suc n) h = rw (le-ltb m (suc n) h)
-
-pub sum_other : (s t : Bool) (m n : ℕ) → beq s t ≡ false → n ≤ m → signed s m +ℤ signed t n ≡ signed s (m - n)
-sum_other false false m n e h = never (sym e)
-sum_other false true m n e h = less m n h
-sum_other true false m n e h =
-    ap (λ (z : ℤ). neg_ℤ (pos m) +ℤ z) (sym (neg_ℤ-neg_ℤ (pos n))) ∙ sym (neg_ℤ-+ℤ (pos m) (neg_ℤ (pos n))) ∙ ap neg_ℤ (less m n h)
-sum_other true true m n e h = never (sym e)
-
-beq_comm : (s t : Bool) → beq s t ≡ beq t s
-beq_comm false false = refl
-beq_comm false true = refl
-beq_comm true false = refl
-beq_comm true true = refl
-
-pub sum_swap : (s t : Bool) (m n : ℕ) → beq s t ≡ false → m ≤ n → signed s m +ℤ signed t n ≡ signed t (n - m)
-sum_swap s t m n e h = +ℤ_comm (signed s m) (signed t n) ∙ sum_other t s n m (beq_comm t s ∙ e) h
-
-pub negated_parts : (s : Bool) (m : ℕ) → signed (not s) m ≡ neg_ℤ (signed s m)
-negated_parts false m = refl
-negated_parts true m = sym (neg_ℤ-neg_ℤ (pos m))
-
 -- ---- products
 
 pub product : (s t : Bool) (m n : ℕ) → signed s m *ℤ signed t n ≡ signed (not (beq s t)) (m * n)

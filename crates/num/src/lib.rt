@@ -20,22 +20,14 @@ pub enum Reason {
 pub fn bits(x: i64) -> u64
     ensures { result ≡ of_z w64 x }
 {
-    if x < 0 {
-        u64::MAX - ((!x) as u64)
-    } else {
-        x as u64
-    }
+    x.cast_unsigned()
 }
 
 // The number whose two's complement bits are u.
 pub fn of_bits(u: u64) -> i64
     ensures { result ≡ to_z w64 u }
 {
-    if u < 0x8000_0000_0000_0000 {
-        u as i64
-    } else {
-        !((u64::MAX - u) as i64)
-    }
+    u.cast_signed()
 }
 
 // A number as its sign and its magnitude.
