@@ -1,5 +1,5 @@
 use Rattle.machine.specs.State.{room}
-use Prim.Native.Nat.{◌-◌, ◌≤◌}
+use Prim.Native.Nat.{◌≤◌}
 use mathlib.Core.Path.{◌≡◌}
 use Rattle.layout.specs.Record.{dec_raw}
 use Rattle.meaning.specs.Events.{found}
