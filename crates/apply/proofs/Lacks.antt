@@ -1,12 +1,11 @@
 -- Why an event is missing: the arms of the code are what the equation says.
 use Prim.Native.Nat.{ℕ}
-use mathlib.Core.Path.{◌≡◌, refl, sym, ap}
+use mathlib.Core.Path.{◌≡◌, refl, sym}
 use mathlib.Core.Bool.{false}
-use Rattle.std.specs.Prelude.{Option, None, Some}
+use Rattle.std.specs.Prelude.{Option, None, Some, Ok, Err}
 use lib.IntN.{ℤ}
-use Rattle.num.specs.declared.Answer.{Answer}
-use Rattle.num.specs.declared.Answer.TheVariants as answer
-use Rattle.num.specs.Arithmetic.{negated, added}
+use Rattle.std.specs.Result.{result_err}
+use Rattle.num.specs.Arithmetic.{Answer, negated, added}
 use Rattle.meaning.specs.Plan as plan
 use Rattle.meaning.specs.Table.{calculated, two_at}
 use Rattle.meaning.specs.Missing.{Reason, Outside, ZeroDivisor, lacks, said_for, one_says, calc_says, two_says}
@@ -16,21 +15,16 @@ use Rattle.apply.specs.declared.Unary.TheVariants.{Time, Set, Plus, Neg}
 use Rattle.apply.specs.declared.Calc.{Calc}
 use Rattle.apply.specs.declared.Binary.{Binary}
 use Rattle.apply.specs.declared.Binary.TheVariants.{Arith, Keep, Merge}
-use Rattle.apply.specs.declared.Lack.TheVariants.{Outside, ZeroDivisor}
 use Rattle.apply.specs.Named.{unary, calculation, binary}
 use Rattle.apply.specs.Lack.{lack_for}
 
--- an answer's arms
-pub value_arm : {x : Answer} {v : ℤ} → x ≡ answer.Value v → (q : Reason) → false ≡ lacks q x
-value_arm e q = sym (ap (lacks q) e)
-
-pub outside_arm : {x : Answer} → x ≡ answer.Outside → (q : Reason) → lack_for q Outside ≡ lacks q x
-outside_arm e Outside = sym (ap (lacks Outside) e)
-outside_arm e ZeroDivisor = sym (ap (lacks ZeroDivisor) e)
-
-pub divisor_arm : {x : Answer} → x ≡ answer.ZeroDivisor → (q : Reason) → lack_for q ZeroDivisor ≡ lacks q x
-divisor_arm e Outside = sym (ap (lacks Outside) e)
-divisor_arm e ZeroDivisor = sym (ap (lacks ZeroDivisor) e)
+-- the reason in an answer
+pub err_is : (q : Reason) (x : Answer) → lack_for q (result_err x) ≡ lacks q x
+err_is q (Ok v) = refl
+err_is Outside (Err Outside) = refl
+err_is Outside (Err ZeroDivisor) = refl
+err_is ZeroDivisor (Err Outside) = refl
+err_is ZeroDivisor (Err ZeroDivisor) = refl
 
 -- nothing to work on
 pub one_none : (q : Reason) (f : Unary) (t : ℕ) (x : Option ℤ) → x ≡ None → false ≡ said_for q (one_says (unary f) t x)

@@ -13,7 +13,7 @@ use Rattle.meaning.specs.Table.{latest}
 use Rattle.meaning.proofs.Tests.{Is, yes!, no!, look}
 use Rattle.machine.specs.Reach.{past_latest}
 use Rattle.machine.proofs.Window.{past_le, past_max, past_hit, past_is}
-use Rattle.queue.specs.Found.{passed}
+use Rattle.queue.specs.Latest.{passed}
 
 -- the stream of one event more
 found_cases : (P : Option ℤ → Type 0) (e : Event) (es : List Event) (t : ℕ) → (e.stamp ≡ t → P (Some e.value)) → ((e.stamp ≡ t → ⊥) → P (found es t)) → P (found (e ∷ es) t)

@@ -14,7 +14,7 @@ use Rattle.encoding.specs.Back.{event_of, held_of}
 use Rattle.meaning.specs.Events.{Event, found}
 use Rattle.machine.specs.State.{room}
 use Rattle.machine.specs.Reach.{past_latest}
-use Rattle.queue.specs.Found.{passed}
+use Rattle.queue.specs.Latest.{passed}
 use Rattle.queue.proofs.Latest.{past_cons, past_none}
 
 -- the events in the slots from i on, of n

@@ -1,5 +1,5 @@
 -- The least and the greatest of values by the raised ones: one law for both, by the Bool of the code (true: the greatest).
-use Prim.Native.Nat.{ℕ, ◌+◌, ◌-◌, ◌^◌, ◌<◌, ◌≤◌, min, max}
+use Prim.Native.Nat.{ℕ, ◌+◌, ◌-◌, ◌^◌, ◌<◌, ◌≤◌}
 use mathlib.Core.Path.{◌≡◌, refl, sym, ap, ◌∙◌}
 use mathlib.Core.Bool.{Bool, true, false, cond}
 use mathlib.Core.List.{List, [], ◌∷◌, ◌++◌, map, map-append}
@@ -31,12 +31,6 @@ extreme false x xs = least_of x xs
 abbrev start : Bool → ℕ
 start true = 0
 start false = 2 ^ 64 - 1
-
-pub better_greater : (g : Bool) (b u : ℕ) → g ≡ true → better g b u ≡ max b u
-better_greater g b u e = rw e
-
-pub better_lesser : (g : Bool) (b u : ℕ) → g ≡ false → better g b u ≡ min b u
-better_lesser g b u e = rw e
 
 -- ---- the loops
 

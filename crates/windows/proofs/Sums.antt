@@ -3,7 +3,7 @@ use Prim.Native.Nat.{ℕ, zero, suc, ◌+◌, ◌-◌, ◌*◌, ◌/◌, ◌%◌
 use mathlib.Core.Path.{◌≡◌, refl, sym, ap, ap₂, ◌∙◌}
 use mathlib.Core.Bool.{true}
 use mathlib.Core.List.{List, [], ◌∷◌, ◌++◌, map, map-append}
-use Rattle.std.specs.Prelude.{None, Some}
+use Rattle.std.specs.Prelude.{None, Some, Ok}
 use native.Mathlib.Omega.{arith}
 use native.Mathlib.Decide.{dec_lt}
 use lib.IntN.{ℤ, pos, negsuc, neg_ℤ, ◌+ℤ◌, ◌-ℤ◌, +ℤ_assoc, +ℤ_comm, +ℤ_idr, +ℤ_invr, neg_ℤ-+ℤ}
@@ -13,7 +13,6 @@ use mir.Syntax.{w64}
 use mir.Val.{to_z}
 use mir.Facts.{to_z_pos}
 use borrow.Author.Tests.{lt-ltb}
-use Rattle.num.specs.declared.Answer.TheVariants.{Value}
 use Rattle.num.specs.Arithmetic.{fit}
 use Rattle.num.proofs.Arith.{less, fit_pos, fit_neg, too_big, too_big_plain}
 use Rattle.num.proofs.Signed.{to_z_high}
@@ -106,10 +105,10 @@ summed_all ws i n h₀ h a =
 -- ---- the one test of a sum of n values
 
 -- every word stands for a value
-fit_word : (b : ℕ) → b < 2 ^ 64 → fit (to_z w64 b) ≡ Value (to_z w64 b)
+fit_word : (b : ℕ) → b < 2 ^ 64 → fit (to_z w64 b) ≡ Ok (to_z w64 b)
 fit_word b h = go (dec_lt b (2 ^ 63))
   where
-    go : Dec (b < 2 ^ 63) → fit (to_z w64 b) ≡ Value (to_z w64 b)
+    go : Dec (b < 2 ^ 63) → fit (to_z w64 b) ≡ Ok (to_z w64 b)
     go (yes l) = rw (to_z_pos w64 l) (fit_pos b l)
     go (no l) = rw (to_z_high b (omega arith)) (fit_neg (2 ^ 64 - suc b) (omega arith))
 
