@@ -4,7 +4,7 @@ use mathlib.Core.Path.{◌≡◌, refl, sym, ap, ◌∙◌, subst}
 use mathlib.Core.Bool.{Bool, true, false, not, beq}
 use native.Mathlib.Omega.{arith}
 use native.Mathlib.Nat.{add-zero, sub-zero, mul-zero, zero-mul, le_trans, mul-le-mul_left, mul-le-mul_right, mul-add, mul_assoc, mul_comm, div-add-mod'}
-use lib.IntN.{ℤ, pos, negsuc, neg_ℤ, ◌+ℤ◌, ◌*ℤ◌, neg_ℤ-+ℤ, neg_ℤ-neg_ℤ, +ℤ_comm}
+use lib.IntN.{ℤ, pos, negsuc, neg_ℤ, ◌+ℤ◌, ◌*ℤ◌}
 use lib.Dec.{T, lit<}
 use mir.Syntax.{w64}
 use mir.Val.{Fits, SFits, to_z, of_z}
@@ -53,6 +53,12 @@ checked None (pos n) h = sym (fit_pos_none n (let k : (n < 2 ^ 63 → ⊥) = λ 
 checked None (negsuc n) h = sym (fit_neg_none n (let k : (n < 2 ^ 63 → ⊥) = λ q. h (record { sfits = q }) in omega arith))
 checked (Some x) (pos n) h = ap Ok h.1 ∙ sym (fit_pos n h.0.sfits)
 checked (Some x) (negsuc n) h = ap Ok h.1 ∙ sym (fit_neg n h.0.sfits)
+
+-- ---- sums
+
+pub less : (m n : ℕ) → n ≤ m → pos m +ℤ neg_ℤ (pos n) ≡ pos (m - n)
+less m zero h = ap pos (add-zero m ∙ sym (sub-zero m))
+less m (suc n) h = rw (le-ltb m (suc n) h)
 
 -- ---- products
 
