@@ -405,30 +405,23 @@ fn clear(state: &[u8], n: usize, most: usize) -> bool
     cycle::clear(&mut graph, n as u8, most as u8)
 }
 
-// What the test of number 15 finds: a state of this many streams, or no state.
-#[derive(Clone, Copy)]
-pub enum Tested {
-    State(usize),
-    NoState,
-}
-
-// Tests whether bytes are a state.
-pub fn streams(state: &[u8]) -> Tested
+// How many streams the state of these bytes has, or `None` where the test of number 15 finds that they are no state.
+pub fn streams(state: &[u8]) -> Option<usize>
     ensures { result ≡ tested state.now }
 {
     let most = Plan::capacity(state.len());
     if most == 0 {
-        return Tested::NoState;
+        return None;
     }
     let n = streams_in(state, most);
     if !rows_ok(state, n) {
-        return Tested::NoState;
+        return None;
     }
     if !tail_ok(state, n) {
-        return Tested::NoState;
+        return None;
     }
     if !clear(state, n, most) {
-        return Tested::NoState;
+        return None;
     }
-    Tested::State(n)
+    Some(n)
 }
