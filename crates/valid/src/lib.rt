@@ -88,14 +88,12 @@ fn rises(r: &[u8], n: usize, top: u64) -> bool
     ensures { result ≡ risen top 0 n (dec_raw r.now).slots }
 {
     let mut low: u64 = 0;
-    let mut i = 0;
-    while i < n {
+    for i in 0..n {
         let t = layout::stamp_at(r, i);
         if t < low {
             return false;
         }
         low = t + 1;
-        i += 1;
     }
     low <= top
 }
@@ -288,12 +286,10 @@ fn rows_ok(state: &[u8], n: usize) -> bool
     requires { n * 256 ≤ length state.now }
     ensures { result ≡ all_rows (row_ok n) n state.now }
 {
-    let mut i = 0;
-    while i < n {
+    for i in 0..n {
         if !row_ok(layout::row_at(state, i), n as u64) {
             return false;
         }
-        i += 1;
     }
     true // also of no records
 }
@@ -303,12 +299,10 @@ fn streams_in(state: &[u8], most: usize) -> usize
     requires { most * 256 ≤ length state.now }
     ensures { (result ≡ streams_in most state.now) × (result ≤ most) }
 {
-    let mut i = 0;
-    while i < most {
+    for i in 0..most {
         if state[i * layout::RECORD] == 0 {
             return i;
         }
-        i += 1;
     }
     most
 }
@@ -356,15 +350,13 @@ fn windows_ok(state: &[u8], n: usize) -> bool
     ensures { result ≡ windows_ok n state.now }
 {
     let mut j = 0;
-    let mut i = 0;
-    while i < n {
+    for i in 0..n {
         let row = layout::row_at(state, i);
         let w = operators::is_window(layout::byte_at(row, layout::OP));
         if !window_clear(state, i, j, w) {
             return false;
         }
         j = counted(j, w);
-        i += 1;
     }
     le::zeros(state, state.len() - layout::AREA + j * layout::WINDOW)
 }
@@ -387,11 +379,9 @@ fn fill_graph(state: &[u8], n: usize, graph: &mut [u8])
     requires { (n * 256 ≤ length state.now) × (3 * n ≤ length graph.old) }
     ensures { graph.new ≡ noted n state.now graph.old }
 {
-    let mut i = 0;
-    while i < n {
+    for i in 0..n {
         let at = i * layout::RECORD;
         cycle::note(graph, i, state[at], state[at + 1], state[at + 2]);
-        i += 1;
     }
 }
 
@@ -405,30 +395,23 @@ fn clear(state: &[u8], n: usize, most: usize) -> bool
     cycle::clear(&mut graph, n as u8, most as u8)
 }
 
-// What the test of number 15 finds: a state of this many streams, or no state.
-#[derive(Clone, Copy)]
-pub enum Tested {
-    State(usize),
-    NoState,
-}
-
-// Tests whether bytes are a state.
-pub fn streams(state: &[u8]) -> Tested
+// How many streams the state of these bytes has, or `None` where the test of number 15 finds that they are no state.
+pub fn streams(state: &[u8]) -> Option<usize>
     ensures { result ≡ tested state.now }
 {
     let most = Plan::capacity(state.len());
     if most == 0 {
-        return Tested::NoState;
+        return None;
     }
     let n = streams_in(state, most);
     if !rows_ok(state, n) {
-        return Tested::NoState;
+        return None;
     }
     if !tail_ok(state, n) {
-        return Tested::NoState;
+        return None;
     }
     if !clear(state, n, most) {
-        return Tested::NoState;
+        return None;
     }
-    Tested::State(n)
+    Some(n)
 }

@@ -1,5 +1,4 @@
 -- `calls::move_from` meets its contract. The invariant: nothing has changed, and no equation below i can move.
-use Prim.Native.Nat.{◌-◌}
 use mathlib.Core.Path.{refl, ap}
 use mathlib.Core.Logic.{inl, inr}
 use borrow.Author.Count.{below_more}

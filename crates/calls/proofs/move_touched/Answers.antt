@@ -1,7 +1,6 @@
 -- `calls::move_touched` meets its contract. The invariant: nothing has changed, and no equation below j can move.
-use Prim.Native.Nat.{◌-◌}
 use mathlib.Core.Path.{◌≡◌, refl, ap, ◌∙◌}
-use mathlib.Core.Logic.{inl, inr, ⊎_elim}
+use mathlib.Core.Logic.{inl, inr}
 use mathlib.Core.Bool.{false}
 use borrow.Author.Count.{below_more}
 use lib.ListN.{length}

@@ -1,6 +1,5 @@
 -- `calls::run` meets its contract. The invariant: the moves made and the run that is left are the whole run, and before the
 -- stream that moved last only what its move touched can move.
-use Prim.Native.Nat.{◌-◌}
 use mathlib.Core.Path.{refl, ◌∙◌}
 use Rattle.machine.proofs.Touched.{none_still}
 use Rattle.roundtrip.specs.In.{state_in}

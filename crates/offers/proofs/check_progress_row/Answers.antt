@@ -6,7 +6,7 @@ use Rattle.layout.specs.Record.{dec_raw, num, op_f, bound_f}
 use Rattle.operators.specs.Operators.{group_of, is_in}
 use Rattle.offers.specs.Numbers.{progress_row}
 use native.Mathlib.Omega.{arith}
-use Rattle.offers.proofs.progress_row.Goals as goal
+use Rattle.offers.proofs.check_progress_row.Goals as goal
 
 pub returns-then-not-is_in : goal.returns-then-not-is_in
 unfolding progress_row

@@ -7,7 +7,7 @@ use Rattle.operators.specs.Operators.{group_of, is_in}
 use Rattle.offers.specs.Numbers.{reading_row}
 use lib.Dec.{leb}
 use native.Mathlib.Omega.{arith}
-use Rattle.offers.proofs.reading_row.Goals as goal
+use Rattle.offers.proofs.check_reading_row.Goals as goal
 
 pub returns-then-not-is_in : goal.returns-then-not-is_in
 unfolding reading_row
