@@ -13,6 +13,7 @@ ghost use Rattle.counts.specs.Missing.{missing_reply};
 ghost use Rattle.widen.specs.Widen.{widen_reply};
 
 use operators::Plan;
+use refusal::Refusal;
 use valid::Tested;
 
 // Loads a plan text: on 0 the state is fresh, with the plan's streams; on any other number it is as it was.
@@ -22,11 +23,10 @@ pub fn tessla_load(state: &mut [u8], text: &[u8]) -> u32
 {
     let most = Plan::capacity(state.len());
     if most == 0 {
-        return 15;
+        return Refusal::BadState.number();
     }
-    let number = plan::number(text, most);
-    if number != 0 {
-        return number;
+    if let Err(r) = plan::check(text, most) {
+        return r.number();
     }
     load::fill(state, text, most);
     0

@@ -30,12 +30,11 @@ use Rattle.std.specs.Prelude.{Result, Ok, Err}
 use Rattle.refusal.specs.declared.Refusal.{Refusal}
 use Rattle.text.specs.Grammar.{stream, head}
 use Rattle.render.specs.Render.{stream_text, declared_text, all_text, opening, render}
-use Rattle.render.proofs.Ranges.{refusal_some}
 use Rattle.render.proofs.Back.{stream_read}
 use Rattle.render.proofs.Heads.{head_fits, head_read}
 use Rattle.plan.specs.Rules.{keeps, all_keep, Form, refused, formed, put, others, streams, eqn_from, declared_from, plan_from, all_widths, windows_ok, number_after, number_of_head, number, declared}
 use Rattle.plan.specs.Taken.{StreamKeeps, Each, KeepsRules}
-use Rattle.plan.proofs.Forms.{fields_in, end_in, clash}
+use Rattle.plan.proofs.Forms.{fields_in, end_in, clash, refusal_some}
 use Rattle.plan.proofs.Noted.{Sound, All, read_sound}
 use Rattle.plan.proofs.Rendered.{same_plan, render_taken}
 

@@ -9,8 +9,7 @@ use lib.Dec.{lit<}
 use Rattle.operators.specs.Operators.{operator_count}
 use Rattle.std.specs.Prelude.{Option, Some, None, Result, Ok, Err}
 use Rattle.refusal.specs.declared.Refusal.{Refusal}
-use Rattle.refusal.specs.declared.Refusal.TheVariants.{TextLong, TextForm, TextStreams, TextOperator, TextField, TextCycle, NoInput, TooEarly, Full, PastHorizon, NoEquation, CannotMove, NoOutput, Nothing, BadState, BadLine, BadWrite, TextWindow, TextRoom}
-use Rattle.refusal.specs.Numbers.{number_of}
+use Rattle.refusal.specs.declared.Refusal.TheVariants.{TextForm, TextOperator}
 use Rattle.text.specs.declared.Fields.{Fields}
 use Rattle.lines.specs.Form.{ending, skip, field, value_line, out_line}
 use Rattle.text.specs.Grammar.{op_key, first_key, second_key, same_name, place, names, number_named, known, named, name_at, name_after, op_line, next, fields_after, stream_after, stream}
@@ -120,27 +119,3 @@ op_range s at f e =
     (λ p₂ w n h z.
     let m : op ≡ f.op = ap (λ (x : Fields). x.op) same in
     (omega arith, omega (arith, number_below (name_at s p₂ 5))))))
-
--- ## Refusals
-
--- nothing is refused with the number 0
-pub refusal_some : (r : Refusal) → 0 < number_of r
-refusal_some TextLong = lit< tt
-refusal_some TextForm = lit< tt
-refusal_some TextStreams = lit< tt
-refusal_some TextOperator = lit< tt
-refusal_some TextField = lit< tt
-refusal_some TextCycle = lit< tt
-refusal_some NoInput = lit< tt
-refusal_some TooEarly = lit< tt
-refusal_some Full = lit< tt
-refusal_some PastHorizon = lit< tt
-refusal_some NoEquation = lit< tt
-refusal_some CannotMove = lit< tt
-refusal_some NoOutput = lit< tt
-refusal_some Nothing = lit< tt
-refusal_some BadState = lit< tt
-refusal_some BadLine = lit< tt
-refusal_some BadWrite = lit< tt
-refusal_some TextWindow = lit< tt
-refusal_some TextRoom = lit< tt
