@@ -1,5 +1,5 @@
 -- Believe: where a plan text is wrong: its number, the line counted from 1, and the stream.
-use Rattle.std.specs.Prelude.{ℕ, zero, suc, ◌+◌, ◌*◌, ◌<◌, ◌≡◌, Bool, true, cond, List, eqb, ltb, length}
+use Rattle.std.specs.Prelude.{ℕ, zero, suc, ◌+◌, ◌*◌, ◌<◌, ◌≡◌, Bool, true, cond, List, eqb, ltb, length, Option, Some, None, Result, Ok, Err}
 use Rattle.meaning.specs.Plan.{Plan}
 use Rattle.meaning.specs.Cycle.{Leads}
 use Rattle.meaning.specs.CycleTest.{acyclic}
@@ -8,7 +8,6 @@ use Rattle.operators.specs.Operators.{group_of, is_window, uses_a, uses_b, uses_
 use Rattle.operators.specs.Rules.{arg_ok, value_ok}
 use Rattle.operators.specs.Limits.{window_limit, text_limit}
 use Rattle.operators.specs.Windows.{width_ok}
-use Rattle.std.specs.Prelude.{Option, Some, None, Result, Ok, Err}
 use Rattle.refusal.specs.declared.Refusal.{Refusal}
 use Rattle.refusal.specs.Numbers.{number_of}
 use Rattle.lines.specs.Form.{skip, field, value_line}

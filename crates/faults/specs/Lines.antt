@@ -1,6 +1,5 @@
 -- Believe: the lines of a text as an editor counts them, and where the grammar reads each.
-use Rattle.std.specs.Prelude.{ℕ, ◌+◌, ◌*◌, ◌<◌, ◌≤◌, ◌≡◌, List, [], ◌∷◌, ◌++◌, drop}
-use Rattle.std.specs.Prelude.{Some, Ok}
+use Rattle.std.specs.Prelude.{ℕ, ◌+◌, ◌*◌, ◌<◌, ◌≤◌, ◌≡◌, List, [], ◌∷◌, ◌++◌, drop, Some, Ok}
 use Rattle.lines.specs.Form.{ending, skip, field, value_line}
 use Rattle.text.specs.declared.Fields.{Fields}
 use Rattle.faults.specs.declared.Fault.{Fault}

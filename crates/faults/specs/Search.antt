@@ -1,6 +1,5 @@
 -- How: the graph of a text that is searched for a cycle, and what the search says of the text.
-use Rattle.std.specs.Prelude.{ℕ, ◌≡◌, true, List}
-use Rattle.std.specs.Prelude.{Ok}
+use Rattle.std.specs.Prelude.{ℕ, ◌≡◌, true, List, Ok}
 use Rattle.plan.specs.Rules.{all_keep, Form, refused, formed, plan_from}
 use Rattle.plan.specs.Pass.{noted_all}
 use Rattle.marks.specs.Marks.{LowestTo}

@@ -1,8 +1,7 @@
 -- How: the second pass: the fields of each stream into its record of a cleared state.
-use Rattle.std.specs.Prelude.{ℕ, zero, suc, ◌+◌, ◌%◌, List, length, replicate}
+use Rattle.std.specs.Prelude.{ℕ, zero, suc, ◌+◌, ◌%◌, List, length, replicate, Result, Ok, Err}
 use Rattle.layout.specs.Record.{Raw, Raws, with_num, change, encode, decode, op_f, a_f, b_f, out_f, k_f}
 use Rattle.text.specs.declared.Fields.{Fields}
-use Rattle.std.specs.Prelude.{Result, Ok, Err}
 use Rattle.refusal.specs.declared.Refusal.{Refusal}
 use Rattle.text.specs.Grammar.{stream, head}
 

@@ -1,12 +1,11 @@
 -- How: one pass reads the lines, tests rule 5, weighs the windows for rule 18 and notes the arguments for rule 6.
-use Rattle.std.specs.Prelude.{ℕ, suc, ◌+◌, ◌*◌, ◌≡◌, Bool, true, false, cond, ◌&&◌, List, [], ◌∷◌, eqb}
+use Rattle.std.specs.Prelude.{ℕ, suc, ◌+◌, ◌*◌, ◌≡◌, Bool, true, false, cond, ◌&&◌, List, [], ◌∷◌, eqb, Result, Ok, Err}
 use Rattle.std.proofs.lemmas.List.Edits.{sets}
 use Rattle.operators.specs.Limits.{window_limit}
 use Rattle.operators.specs.Operators.{group_of, is_window}
 use Rattle.operators.specs.Windows.{width_ok}
 use Rattle.cycle.specs.Graph.{entry_of}
 use Rattle.text.specs.declared.Fields.{Fields}
-use Rattle.std.specs.Prelude.{Result, Ok, Err}
 use Rattle.refusal.specs.declared.Refusal.{Refusal}
 use Rattle.refusal.specs.declared.Refusal.TheVariants.{TextForm}
 use Rattle.plan.specs.Rules.{keeps, all_keep, Form, refused, formed}

@@ -1,5 +1,5 @@
 -- Believe: rules 5, 18 and 6, and the number of a whole plan text.
-use Rattle.std.specs.Prelude.{ℕ, zero, suc, Bool, true, cond, ◌&&◌, List, [], ◌∷◌, map, eqb, ltb, leb, length}
+use Rattle.std.specs.Prelude.{ℕ, zero, suc, Bool, true, cond, ◌&&◌, List, [], ◌∷◌, map, eqb, ltb, leb, length, Result, Ok, Err}
 use Rattle.std.specs.Int.{w64}
 use Rattle.std.proofs.Common.{to_z}
 use Rattle.meaning.specs.Plan.{Eqn, Plan}
@@ -10,7 +10,6 @@ use Rattle.operators.specs.Rules.{fields_ok}
 use Rattle.operators.specs.Limits.{window_limit, text_limit}
 use Rattle.operators.specs.Windows.{width_ok, windows}
 use Rattle.text.specs.declared.Fields.{Fields}
-use Rattle.std.specs.Prelude.{Result, Ok, Err}
 use Rattle.refusal.specs.declared.Refusal.{Refusal}
 use Rattle.refusal.specs.Numbers.{number_of}
 use Rattle.text.specs.Grammar.{stream, head}

@@ -1,9 +1,8 @@
 -- Cases: lines at the edges of the grammar, and what each reads.
-use Rattle.std.specs.Prelude.{ℕ, List, [], ◌∷◌, pos, negsuc}
+use Rattle.std.specs.Prelude.{ℕ, List, [], ◌∷◌, pos, negsuc, Option, Some, None}
 use Prim.Native.Char.{code}
 use Prim.Native.String as string
 use Rattle.trace.specs.declared.Record.TheVariants.{Reading, Progress}
-use Rattle.std.specs.Prelude.{Option, Some, None}
 use Rattle.trace.specs.declared.Record.{Record}
 
 -- a text's bytes

@@ -1,9 +1,8 @@
 -- Believe: the grammar of a trace: what line stands at a position, and where it ends.
-use Rattle.std.specs.Prelude.{ℕ, cond, List, [], ◌∷◌, ltb}
+use Rattle.std.specs.Prelude.{ℕ, cond, List, [], ◌∷◌, ltb, Option, Some, None}
 use Rattle.std.specs.Int.{w64}
 use Rattle.std.proofs.Common.{to_z}
 use Rattle.meaning.specs.Events.{horizon}
-use Rattle.std.specs.Prelude.{Option, Some, None}
 use Rattle.lines.specs.Form.{ending, skip, whole, signed}
 use Rattle.trace.specs.declared.Record.TheVariants.{Reading, Progress}
 use Rattle.trace.specs.declared.Record.{Record}
