@@ -22,11 +22,10 @@ pub fn tessla_load(state: &mut [u8], text: &[u8]) -> u32
 {
     let most = Plan::capacity(state.len());
     if most == 0 {
-        return 15;
+        return Refusal::BadState.number();
     }
-    let number = plan::number(text, most);
-    if number != 0 {
-        return number;
+    if let Err(r) = plan::check(text, most) {
+        return r.number();
     }
     load::fill(state, text, most);
     0

@@ -9,7 +9,9 @@ use borrow.Author.Tests.{eq-eqb, ne_eqb, lt-ltb, le-ltb}
 use Rattle.operators.specs.Operators.{group_of, is_window}
 use Rattle.operators.specs.Limits.{window_limit}
 use Rattle.text.specs.declared.Fields.{Fields}
-use Rattle.text.specs.declared.Lines.{Lines}
+use Rattle.std.specs.Prelude.{Ok, Err}
+use Rattle.refusal.specs.declared.Refusal.{Refusal}
+use Rattle.refusal.specs.Numbers.{number_of}
 use Rattle.text.specs.Grammar.{stream}
 use Rattle.faults.specs.Faults.{fault, none, in_stream, stream_line, stream_or, form_fault, Rule, first_broken, ninth_rule}
 
@@ -27,12 +29,12 @@ module _ (s : List ℕ) where
   form_none i p m e = rw e
 
   module _ (n i p : ℕ) where
-    pub form_go : i < n → (f : Fields) → stream s p ≡ Lines.Stream f → form_fault s (i + 1) f.next (n - (i + 1)) ≡ form_fault s i p (n - i)
+    pub form_go : i < n → (f : Fields) → stream s p ≡ Ok f → form_fault s (i + 1) f.next (n - (i + 1)) ≡ form_fault s i p (n - i)
     form_go h f e =
         let m : n - (i + 1) ≡ n - i - 1 = omega arith in
         rw (m, form_turn i p (n - i) (omega arith), e)
 
-    pub form_halt : i < n → (r : ℕ) → stream s p ≡ Lines.Refused r → in_stream r i (stream_line s p) ≡ form_fault s i p (n - i)
+    pub form_halt : i < n → (r : Refusal) → stream s p ≡ Err r → in_stream (number_of r) i (stream_line s p) ≡ form_fault s i p (n - i)
     form_halt h r e = rw (form_turn i p (n - i) (omega arith), e)
 
     pub form_right : n ≤ i → p ≡ length s → none ≡ form_fault s i p (n - i)
@@ -57,15 +59,15 @@ module _ (r : Rule) (s : List ℕ) where
   first_none w i p m e = rw e
 
   module _ (n w i p : ℕ) where
-    pub first_go : i < n → (f : Fields) → stream s p ≡ Lines.Stream f → r.kept w f ≡ true → first_broken r s (r.count w f) (i + 1) f.next (n - (i + 1)) ≡ first_broken r s w i p (n - i)
+    pub first_go : i < n → (f : Fields) → stream s p ≡ Ok f → r.kept w f ≡ true → first_broken r s (r.count w f) (i + 1) f.next (n - (i + 1)) ≡ first_broken r s w i p (n - i)
     first_go h f e k =
         let m : n - (i + 1) ≡ n - i - 1 = omega arith in
         rw (m, first_turn w i p (n - i) (omega arith), e, k)
 
-    pub first_broken_lem : i < n → (f : Fields) → stream s p ≡ Lines.Stream f → r.kept w f ≡ false → in_stream r.number i (r.line f) ≡ first_broken r s w i p (n - i)
+    pub first_broken_lem : i < n → (f : Fields) → stream s p ≡ Ok f → r.kept w f ≡ false → in_stream r.number i (r.line f) ≡ first_broken r s w i p (n - i)
     first_broken_lem h f e k = rw (first_turn w i p (n - i) (omega arith), e, k)
 
-    pub first_halt : i < n → (q : ℕ) → stream s p ≡ Lines.Refused q → none ≡ first_broken r s w i p (n - i)
+    pub first_halt : i < n → (q : Refusal) → stream s p ≡ Err q → none ≡ first_broken r s w i p (n - i)
     first_halt h q e = rw (first_turn w i p (n - i) (omega arith), e)
 
     pub first_end : n ≤ i → none ≡ first_broken r s w i p (n - i)
@@ -74,7 +76,7 @@ module _ (r : Rule) (s : List ℕ) where
 
 -- ## The ninth window
 
-module _ (s : List ℕ) (n w i p : ℕ) (h : i < n) (f : Fields) (e : stream s p ≡ Lines.Stream f) where
+module _ (s : List ℕ) (n w i p : ℕ) (h : i < n) (f : Fields) (e : stream s p ≡ Ok f) where
   pub ninth_window : is_window (group_of f.op) ≡ true → w < window_limit → first_broken ninth_rule s (w + 1) (i + 1) f.next (n - (i + 1)) ≡ first_broken ninth_rule s w i p (n - i)
   ninth_window q l =
       let a : w + 1 ≡ suc w = omega arith in

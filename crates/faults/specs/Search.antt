@@ -1,6 +1,5 @@
 -- How: the graph of a text that is searched for a cycle, and what the search says of the text.
-use Rattle.std.specs.Prelude.{ℕ, ◌≡◌, true, List}
-use Rattle.text.specs.declared.Head.TheVariants as Head
+use Rattle.std.specs.Prelude.{ℕ, ◌≡◌, true, List, Ok}
 use Rattle.plan.specs.Rules.{all_keep, Form, refused, formed, plan_from}
 use Rattle.plan.specs.Pass.{noted_all}
 use Rattle.marks.specs.Marks.{LowestTo}
@@ -24,5 +23,5 @@ LowestIn n (formed fs end) r = LowestTo n (plan_from fs) r
 
 -- the fault of a text whose first two lines announce n streams
 pub record FoundAfter (cap : ℕ) (s : List ℕ) (n at : ℕ) (f : Fault) : Type 0 where
-  pub place : f ≡ fault_of_head cap s f.stream (Head.Streams n at)
+  pub place : f ≡ fault_of_head cap s f.stream (Ok (n, at))
   pub lowest : f.number ≡ 6 → Lowest (plan_of cap s) f.stream

@@ -1,9 +1,8 @@
 // Where a plan text is wrong: its number, the line and the stream.
 #![tactic(auto)]
 
-ghost use Rattle.std.specs.Prelude.{◌≡◌, ◌*◌, ◌<◌, ◌≤◌, length};
+ghost use Rattle.std.specs.Prelude.{◌≡◌, ◌*◌, ◌<◌, ◌≤◌, length, Ok};
 ghost use Rattle.lines.specs.Form.{skip};
-ghost use Rattle.text.specs.declared.Head.TheVariants as Head;
 ghost use Rattle.text.specs.Grammar.{plan_line, head};
 ghost use Rattle.operators.specs.Limits.{most_streams};
 ghost use Rattle.operators.specs.Rules.{arg_ok};
@@ -12,9 +11,8 @@ ghost use Rattle.faults.specs.Faults.{in_stream, head_line, field_line, stream_l
 ghost use Rattle.faults.specs.Search.{Kept, noted_form, LowestIn, FoundAfter};
 
 use cycle::GRAPH;
-use lines::{Numeral, Word};
 use operators::Plan;
-use text::{Fields, Head, Lines, Name};
+use text::Fields;
 
 // What is wrong with a plan text: load's number, the line, counted from 1, and the stream. Line 0 is no line.
 #[derive(Clone, Copy)]
@@ -41,35 +39,36 @@ fn head_line(text: &[u8]) -> usize
     ensures { result ≡ head_line (skip text.now 0 plan_line) }
 {
     match lines::skip(text, 0, b"plan=1\n") {
-        Word::Past(_) => 2,
-        Word::Absent => 1,
+        Some(_) => 2,
+        None => 1,
     }
 }
 
 // Which of the lines a, b, k and out of a refused stream is wrong.
+#[tactic(auto, unfolding(crate::specs::Faults::field_line))]
 fn field_line(text: &[u8], at: usize) -> usize
     ensures { (result ≡ field_line text.now at) × (result < 5) }
 {
-    let Numeral::Number(_, p) = lines::field(text, at, b"a=", 3) else {
+    let Some((_, p)) = lines::field(text, at, b"a=", 3) else {
         return 1;
     };
-    let Numeral::Number(_, q) = lines::field(text, p, b"b=", 3) else {
+    let Some((_, q)) = lines::field(text, p, b"b=", 3) else {
         return 2;
     };
-    let Numeral::Number(_, _) = lines::value_line(text, q) else {
+    if lines::value_line(text, q).is_none() {
         return 3;
-    };
+    }
     4
 }
 
 // Which of the five lines of a refused stream is wrong.
+#[tactic(auto, unfolding(crate::specs::Faults::stream_line))]
 fn stream_line(text: &[u8], at: usize) -> usize
     ensures { (result ≡ stream_line text.now at) × (result < 5) }
 {
     match text::op_line(text, at) {
-        Name::Operator(_, p) => field_line(text, p),
-        Name::Unknown => 0,
-        Name::Fault => 0,
+        Ok((_, p)) => field_line(text, p),
+        Err(_) => 0,
     }
 }
 
@@ -79,16 +78,12 @@ fn form_fault(text: &[u8], at: usize, n: usize) -> Fault
     ensures { result ≡ form_fault text.now 0 at n }
 {
     let mut p = at;
-    let mut i = 0;
-    while i < n {
+    for i in 0..n {
         match text::read_stream(text, p) {
-            Lines::Stream(f) => {
-                p = f.next;
-                i += 1;
-            }
-            Lines::Refused(r) => {
+            Ok(f) => p = f.next,
+            Err(r) => {
                 let j = stream_line(text, p);
-                return in_stream(r, i, j);
+                return in_stream(r.number(), i, j);
             }
         }
     }
@@ -101,7 +96,7 @@ fn form_fault(text: &[u8], at: usize, n: usize) -> Fault
     } else {
         Fault {
             number: 2,
-            line: 3 + 5 * i,
+            line: 3 + 5 * n,
             stream: 0,
         }
     }
@@ -136,9 +131,8 @@ fn rule_fault(text: &[u8], at: usize, n: usize) -> Fault
     ensures { result ≡ rule_fault text.now n at }
 {
     let mut p = at;
-    let mut i = 0;
-    while i < n {
-        let Lines::Stream(f) = text::read_stream(text, p) else {
+    for i in 0..n {
+        let Ok(f) = text::read_stream(text, p) else {
             break;
         };
         if !operators::fields_ok(n as u64, f.op as u64, f.a, f.b, f.k, f.out) {
@@ -146,7 +140,6 @@ fn rule_fault(text: &[u8], at: usize, n: usize) -> Fault
             return in_stream(5, i, j);
         }
         p = f.next;
-        i += 1;
     }
     Fault {
         number: 0,
@@ -161,16 +154,14 @@ fn width_fault(text: &[u8], at: usize, n: usize) -> Fault
     ensures { result ≡ width_fault text.now n at }
 {
     let mut p = at;
-    let mut i = 0;
-    while i < n {
-        let Lines::Stream(f) = text::read_stream(text, p) else {
+    for i in 0..n {
+        let Ok(f) = text::read_stream(text, p) else {
             break;
         };
         if !operators::width_ok(f.op as u64, f.k) {
             return in_stream(18, i, 3);
         }
         p = f.next;
-        i += 1;
     }
     Fault {
         number: 0,
@@ -185,10 +176,9 @@ fn ninth_fault(text: &[u8], at: usize, n: usize) -> Fault
     ensures { result ≡ ninth_fault text.now n at }
 {
     let mut p = at;
-    let mut i = 0;
     let mut w: u64 = 0;
-    while i < n {
-        let Lines::Stream(f) = text::read_stream(text, p) else {
+    for i in 0..n {
+        let Ok(f) = text::read_stream(text, p) else {
             break;
         };
         if operators::is_window(f.op as u64) {
@@ -198,7 +188,6 @@ fn ninth_fault(text: &[u8], at: usize, n: usize) -> Fault
             w += 1;
         }
         p = f.next;
-        i += 1;
     }
     Fault {
         number: 0,
@@ -225,14 +214,12 @@ fn note_all(text: &[u8], at: usize, n: usize, graph: &mut [u8])
     ensures { graph.new ≡ noted_form n 0 (streams text.now at n) graph.old }
 {
     let mut p = at;
-    let mut i = 0;
-    while i < n {
-        let Lines::Stream(f) = text::read_stream(text, p) else {
+    for i in 0..n {
+        let Ok(f) = text::read_stream(text, p) else {
             break;
         };
         cycle::note(graph, i, f.op, f.a as u8, f.b as u8);
         p = f.next;
-        i += 1;
     }
 }
 
@@ -248,7 +235,7 @@ fn on_cycle(text: &[u8], at: usize, n: usize) -> usize
 
 // The fault of a text whose first two lines announce n streams, the first of them at a position.
 fn plan_fault(text: &[u8], n: usize, at: usize, most: usize) -> Fault
-    requires { (most ≤ most_streams) × (n ≤ most) × (head most text.now ≡ Head.Streams n at) }
+    requires { (most ≤ most_streams) × (n ≤ most) × (head most text.now ≡ Ok (n, at)) }
     ensures { FoundAfter most text.now n at result }
 {
     let form = form_fault(text, at, n);
@@ -288,11 +275,11 @@ pub fn find(text: &[u8], most: usize) -> Fault
         };
     }
     match text::read_head(text, most) {
-        Head::Streams(n, at) => plan_fault(text, n, at, most),
-        Head::Refused(r) => {
+        Ok((n, at)) => plan_fault(text, n, at, most),
+        Err(r) => {
             let line = head_line(text);
             Fault {
-                number: r,
+                number: r.number(),
                 line,
                 stream: 0,
             }

@@ -9,31 +9,25 @@ use Rattle.faults.proofs.ninth_fault.Goals as goal
 use Rattle.faults.proofs.ninth_fault.Goals.{then-is_window+else-w-ge-WINDOWS, else-is_window}
 
 pub loop-i-init : goal.loop-i-init
-loop-i-init c = (omega arith, (omega arith, simp sub-zero))
+loop-i-init c = (omega arith, simp sub-zero)
 
 pub in_stream-requires : goal.in_stream-requires
 in_stream-requires c = (omega arith, lit< tt)
 
 pub returns-then-w-ge-WINDOWS : goal.returns-then-w-ge-WINDOWS
-returns-then-w-ge-WINDOWS c = c.in_stream.ensures ∙ ninth_broken c.args.text.now c.args.n c.loop-i.w c.loop-i.i c.loop-i.p (omega arith) c.in-Stream.f (sym c.read_stream.ensures ∙ c.in-Stream.is) (sym c.is_window.ensures ∙ c.if-is_window.true) (omega arith) ∙ c.loop-i.invariant.1.1
+returns-then-w-ge-WINDOWS c = c.in_stream.ensures ∙ ninth_broken c.args.text.now c.args.n c.loop-i.w c.loop-i.i c.loop-i.p (omega arith) c.in-Ok.f (sym c.in-Ok.ensures) (sym c.is_window.ensures ∙ c.if-is_window.true) (omega arith) ∙ c.loop-i.invariant.1
 
 pub overflow_add-w : goal.overflow_add-w
 overflow_add-w c = omega arith
 
-pub overflow_add-i : goal.overflow_add-i
-overflow_add-i c = omega arith
-
-pub loop-i-smaller : goal.loop-i-smaller
-loop-i-smaller c = omega arith
-
 pub loop-i-preserved : goal.loop-i-preserved
 loop-i-preserved c = elim c.if-is_window.branch [
-  | then-is_window+else-w-ge-WINDOWS x ↦ rw x.w-is (omega arith, (omega (arith, x.if-w-ge-WINDOWS.false), ninth_window c.args.text.now c.args.n c.loop-i.w c.loop-i.i c.loop-i.p (omega arith) c.in-Stream.f (sym c.read_stream.ensures ∙ c.in-Stream.is) (sym c.is_window.ensures ∙ x.if-is_window.true) (omega (arith, x.if-w-ge-WINDOWS.false)) ∙ c.loop-i.invariant.1.1))
-  | else-is_window x ↦ rw x.w-is (omega arith, (omega arith, ninth_other c.args.text.now c.args.n c.loop-i.w c.loop-i.i c.loop-i.p (omega arith) c.in-Stream.f (sym c.read_stream.ensures ∙ c.in-Stream.is) (sym c.is_window.ensures ∙ x.if-is_window.false) ∙ c.loop-i.invariant.1.1))
+  | then-is_window+else-w-ge-WINDOWS x ↦ rw x.w-is (omega (arith, x.if-w-ge-WINDOWS.false), ninth_window c.args.text.now c.args.n c.loop-i.w c.loop-i.i c.loop-i.p (omega arith) c.in-Ok.f (sym c.in-Ok.ensures) (sym c.is_window.ensures ∙ x.if-is_window.true) (omega (arith, x.if-w-ge-WINDOWS.false)) ∙ c.loop-i.invariant.1)
+  | else-is_window x ↦ rw x.w-is (omega arith, ninth_other c.args.text.now c.args.n c.loop-i.w c.loop-i.i c.loop-i.p (omega arith) c.in-Ok.f (sym c.in-Ok.ensures) (sym c.is_window.ensures ∙ x.if-is_window.false) ∙ c.loop-i.invariant.1)
 ]
 
 pub returns-after-loop-i : goal.returns-after-loop-i
-returns-after-loop-i c = first_end ninth_rule c.args.text.now c.args.n c.loop-i.w c.loop-i.i c.loop-i.p (omega arith) ∙ c.loop-i.invariant.1.1
+returns-after-loop-i c = first_end ninth_rule c.args.text.now c.args.n c.loop-i.w c.loop-i.i c.loop-i.p (omega arith) ∙ c.loop-i.invariant.1
 
 pub returns-in_default : goal.returns-in_default
-returns-in_default c = first_halt ninth_rule c.args.text.now c.args.n c.loop-i.w c.loop-i.i c.loop-i.p (omega arith) c.in_default.field-0 (sym c.read_stream.ensures ∙ c.in_default.is) ∙ c.loop-i.invariant.1.1
+returns-in_default c = first_halt ninth_rule c.args.text.now c.args.n c.loop-i.w c.loop-i.i c.loop-i.p (omega arith) c.in_default.field-0 (sym c.in_default.ensures) ∙ c.loop-i.invariant.1
