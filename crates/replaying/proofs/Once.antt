@@ -9,7 +9,7 @@ use Rattle.lines.specs.Form.{skip}
 use Rattle.calls.specs.Reply.{reply}
 use Rattle.engine.specs.Load.{load_reply}
 use Rattle.trace.specs.declared.Record.{Record}
-use Rattle.trace.specs.declared.Line.TheVariants.{Read}
+use Rattle.std.specs.Prelude.{Some}
 use Rattle.trace.specs.Trace.{line}
 use Rattle.printer.specs.Print.{refused_text}
 use Rattle.replaying.specs.declared.Place.{Place}
@@ -44,7 +44,7 @@ replays_once {n} (goes {r = r} {rs = rs} x x₂) (goes {v = v'} {u = u'} y y₂)
 
 -- ## The lines of a trace
 
-unreadable : {A : Type 0} {trace v : List ℕ} {r : Record} {next : ℕ} → Stops trace v → line trace 0 ≡ Read r next → A
+unreadable : {A : Type 0} {trace v : List ℕ} {r : Record} {next : ℕ} → Stops trace v → line trace 0 ≡ Some (r , next) → A
 unfolding line skip
 unreadable end e = let z : ◌≡◌ {A = ℕ} 0 1 = cc in absurd (omega arith)
 unreadable (bad q) e = let z : ◌≡◌ {A = ℕ} 0 1 = cc in absurd (omega arith)

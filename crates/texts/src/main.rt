@@ -33,7 +33,7 @@ fn one(rt: &impl Print, table: &[u8], from: usize) -> usize
     }
     let start = line + 1;
     let next = find(table, b'#', start);
-    let number = plan::number(&table[start..next], Plan::MOST);
+    let number = refusal::code(plan::check(&table[start..next], Plan::MOST));
     let _ = print!(rt; "{number} ");
     let _ = rt.write_all(&table[from..start]);
     next
