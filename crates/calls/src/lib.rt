@@ -108,15 +108,13 @@ fn move_touched(state: &mut [u8], n: usize, s: usize) -> usize
     let a = layout::byte_at(row, layout::A) as u8;
     let b = layout::byte_at(row, layout::B) as u8;
     let last = s as u8;
-    let mut j: u8 = 0;
-    while j < last {
+    for j in 0..last {
         let i = j as usize;
         if touched(layout::row_at(state, i), j, last, a, b) {
             if moves::move_one(state, n, i) {
                 return i;
             }
         }
-        j += 1;
     }
     s
 }
@@ -126,12 +124,10 @@ fn move_from(state: &mut [u8], n: usize, from: usize) -> usize
     requires { IsState state.old n × (from ≤ n) × NoneBelow from state.old }
     ensures { Searched n result state.old state.new }
 {
-    let mut i = from;
-    while i < n {
+    for i in from..n {
         if moves::move_one(state, n, i) {
             return i;
         }
-        i += 1;
     }
     n
 }
@@ -156,16 +152,14 @@ pub fn run(state: &mut [u8], n: usize, most: u32) -> u32
     ensures buffer { state.new ≡ (reply_in (running most) state.old).buffer }
     ensures still { IsState state.new n }
 {
-    let mut made: u32 = 0;
     let mut s = 0;
-    while made < most {
+    for made in 0..most {
         s = move_next(state, n, s);
         if s == n {
             return made;
         }
-        made += 1;
     }
-    made
+    most
 }
 
 // Whether the stream is there and is no input.

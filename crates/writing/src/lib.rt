@@ -95,10 +95,8 @@ fn put_streams(state: &[u8], n: usize, out: &mut [u8], at: usize) -> usize
     ensures { Put out.old at (rows_text (decode n state.now).rows) result out.new }
 {
     let mut p = at;
-    let mut i = 0;
-    while i < n {
+    for i in 0..n {
         p = put_stream(layout::row_at(state, i), out, p);
-        i += 1;
     }
     p
 }
@@ -109,10 +107,8 @@ fn streams_length(state: &[u8], n: usize) -> usize
     ensures { result ≡ length (rows_text (decode n state.now).rows) }
 {
     let mut sum: usize = 0;
-    let mut i = 0;
-    while i < n {
+    for i in 0..n {
         sum += stream_length(layout::row_at(state, i));
-        i += 1;
     }
     sum
 }
