@@ -32,10 +32,7 @@ pub fn length_of(room: &[u8], n: usize) -> usize
     if is_short(room, n) {
         return Plan::STATE;
     }
-    if n <= Plan::LONG {
-        return Plan::LONG;
-    }
-    n
+    n.max(Plan::LONG)
 }
 
 // Says on the standard error which number refused it.
