@@ -63,7 +63,7 @@ lines_exist (suc k) [] h = ([], [], [], none, end)
 lines_exist (suc k) (c ∷ l) h = go (line (c ∷ l) 0) refl (λ next d. lines_exist k (drop next (c ∷ l)) (rw (length-drop next (c ∷ l)) (omega arith)))
   where
     go : (x : Option (Record × ℕ)) → line (c ∷ l) 0 ≡ x → ((next : ℕ) → 0 < next → Stopped (drop next (c ∷ l))) → Stopped (c ∷ l)
-    go (Some (r , next)) e ahead = let x = ahead next (line_ends (c ∷ l) 0 r next e).some in (r ∷ x.0, x.1, x.2, more e x.3, x.4)
+    go (Some (r, next)) e ahead = let x = ahead next (line_ends (c ∷ l) 0 r next e).some in (r ∷ x.0, x.1, x.2, more e x.3, x.4)
     go None e ahead = ([], c ∷ l, refused_text (line_number None), none, bad e)
 
 -- ## The whole

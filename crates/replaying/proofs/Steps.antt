@@ -77,5 +77,5 @@ refusal_most (suc n) = refused_most (suc n)
 -- ## A line
 
 pub line_most : (x : Option (Record × ℕ)) (s : List ℕ) → length (line_text x s) ≤ refused_room
-line_most (Some (r , next)) s = refusal_most (reply (call_of r) s).number
+line_most (Some (r, next)) s = refusal_most (reply (call_of r) s).number
 line_most None s = refused_most (line_number None)

@@ -11,23 +11,23 @@ use Rattle.replaying.specs.Session.{Replays}
 
 -- the number of what reading a line finds
 abbrev pub line_number : Option (Record × ℕ) → ℕ
-line_number (Some (r , next)) = 0
+line_number (Some (r, next)) = 0
 line_number None = 16
 
 -- what is printed of a line, on a state, and the state that it leaves: "Each record goes on to an offer only where its line could
 -- be read"
 abbrev pub line_text : Option (Record × ℕ) → List ℕ → List ℕ
-line_text (Some (r , next)) s = refusal (reply (call_of r) s).number
+line_text (Some (r, next)) s = refusal (reply (call_of r) s).number
 line_text None s = refused_text (line_number None)
 
 abbrev pub line_state : Option (Record × ℕ) → List ℕ → List ℕ
-line_state (Some (r , next)) s = (reply (call_of r) s).buffer
+line_state (Some (r, next)) s = (reply (call_of r) s).buffer
 line_state None s = s
 
 -- a trace, the records of its first lines in their order, and what stands behind those lines
 pub data Lines : List ℕ → List Record → List ℕ → Type 0 where
   none : {rest : List ℕ} → Lines rest [] rest
-  more : {trace : List ℕ} {r : Record} {next : ℕ} {rs : List Record} {rest : List ℕ} → line trace 0 ≡ Some (r , next) → Lines (drop next trace) rs rest → Lines trace (r ∷ rs) rest
+  more : {trace : List ℕ} {r : Record} {next : ℕ} {rs : List Record} {rest : List ℕ} → line trace 0 ≡ Some (r, next) → Lines (drop next trace) rs rest → Lines trace (r ∷ rs) rest
 
 -- where a replay stops, and what it prints there: nothing at the trace's end; "a bad line prints `refused=16` and ends"
 pub data Stops : List ℕ → List ℕ → Type 0 where

@@ -23,7 +23,7 @@ pub returns-in_default : goal.returns-in_default
 returns-in_default g c = record { found = c.line-passed.ensures.found; follows = rw c.in_default.is (rw (sym c.line-passed.ensures.found ∙ c.in_default.is) at c.line-passed.ensures.state) }
 
 pub returns : goal.returns
-returns g c = record { found = c.line-passed.ensures.found; follows = rw c.in-Read.is (subst (λ (z : List ℕ). Settles c.args.n z c.settle.new.state) (rw (sym c.line-passed.ensures.found ∙ c.in-Read.is) at c.line-passed.ensures.state) c.settle.ensures) }
+returns g c = record { found = c.line-passed.ensures.found; follows = rw c.in-Some.is (subst (λ (z : List ℕ). Settles c.args.n z c.settle.new.state) (rw (sym c.line-passed.ensures.found ∙ c.in-Some.is) at c.line-passed.ensures.state) c.settle.ensures) }
 
 pub slice_bounds-put-end : goal.slice_bounds-put-end
 slice_bounds-put-end g c = sym (length-take-le c.line-passed.result.end c.line-passed.new.out (omega (arith, c.line-passed.ensures.put.past, line_most (line c.args.text.now c.args.at) c.args.state.now, put_length c.line-passed.ensures.put)))
