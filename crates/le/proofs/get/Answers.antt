@@ -13,12 +13,6 @@ overflow_mul-r c =
     let a = c.args in
     omega (arith, part_lt a.s.now (a.at + c.loop-i.i) (a.n - c.loop-i.i) (λ j. omega (arith, c.shared_slice_known-1.given j)) (omega arith))
 
-pub overflow_add-at : goal.overflow_add-at
-overflow_add-at c = omega arith
-
-pub bounds-s-at : goal.bounds-s-at
-bounds-s-at c = omega arith
-
 pub overflow_add-r : goal.overflow_add-r
 overflow_add-r c =
     let l = c in
