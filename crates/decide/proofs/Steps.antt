@@ -5,8 +5,6 @@ use mathlib.Core.Bool.{Bool, true, false, cond, ◌&&◌}
 use mathlib.Core.List.{List, [], ◌∷◌, map}
 use native.Mathlib.Omega.{arith}
 use native.Mathlib.Decide.{dec_lt}
-use Rattle.std.specs.Prelude.{Option, None, Some, is_some}
-use lib.IntN.{ℤ}
 use lib.Dec.{leb, ltb}
 use lib.ListN.{length, get_or}
 use borrow.Author.Tests.{lt-ltb, le-ltb, le-leb, lt-leb}
@@ -120,8 +118,3 @@ module _ (o a b : Cell) (x y t : ℕ) where
       and_true : (p : Bool) → p ≡ (p && true)
       and_true true = refl
       and_true false = refl
-
--- whether there is a value
-pub is_some_has : (o : Option ℤ) → is_some o ≡ has o
-is_some_has None = refl
-is_some_has (Some v) = refl

@@ -52,23 +52,29 @@ pub gives_arm : (l : Look) (A B : List ℕ) (t : ℕ) {p q : Op} → p ≡ q
     → machine.gives (plain q) (own_of l.stream) (arg_of l.abound A) (arg_of l.bbound B) t ≡ machine.gives (plain p) (own_of l.stream) (arg_of l.abound A) (arg_of l.bbound B) t
 gives_arm l A B t e = sym (ap (λ (o : Op). machine.gives (plain o) (own_of l.stream) (arg_of l.abound A) (arg_of l.bbound B) t) e)
 
+-- ---- whether there is a value
+
+pub is_some_has : (o : Option ℤ) → is_some o ≡ has o
+is_some_has None = refl
+is_some_has (Some v) = refl
+
+pub neither_has : (u w : Option ℤ) → is_some u ≡ false → is_some w ≡ false → (has u || has w) ≡ false
+neither_has None None e q = refl
+neither_has None (Some v) e q = absurd (false≢true (sym q))
+neither_has (Some v) w e q = absurd (false≢true (sym e))
+
+pub either_has : (u w : Option ℤ) → (is_some u ≡ true) ⊎ (is_some w ≡ true) → (has u || has w) ≡ true
+either_has (Some v) w e = refl
+either_has None (Some v) e = refl
+either_has None None (inl e) = absurd (false≢true e)
+either_has None None (inr e) = absurd (false≢true e)
+
 -- a signal form, where neither argument has an event and where one has
 module _ (c : Calc) (u w x y : Option ℤ) where
   pub signal_none : is_some u ≡ false → is_some w ≡ false → None ≡ signal_at c u w x y
   unfolding signal_at
-  signal_none e q = let k : (has u || has w) ≡ false = neither u w e q in rw k
-    where
-      neither : (u w : Option ℤ) → is_some u ≡ false → is_some w ≡ false → (has u || has w) ≡ false
-      neither None None e q = refl
-      neither None (Some v) e q = absurd (false≢true (sym q))
-      neither (Some v) w e q = absurd (false≢true (sym e))
+  signal_none e q = let k : (has u || has w) ≡ false = neither_has u w e q in rw k
 
   pub signal_some : (is_some u ≡ true) ⊎ (is_some w ≡ true) → two_at (calc c) x y ≡ signal_at c u w x y
   unfolding signal_at
-  signal_some e = let k : (has u || has w) ≡ true = either u w e in rw k
-    where
-      either : (u w : Option ℤ) → (is_some u ≡ true) ⊎ (is_some w ≡ true) → (has u || has w) ≡ true
-      either (Some v) w e = refl
-      either None (Some v) e = refl
-      either None None (inl e) = absurd (false≢true e)
-      either None None (inr e) = absurd (false≢true e)
+  signal_some e = let k : (has u || has w) ≡ true = either_has u w e in rw k

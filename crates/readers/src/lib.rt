@@ -179,7 +179,7 @@ fn least_reader(state: &[u8], n: usize, s: u64, last: usize) -> u64
     let mut i = last;
     while 0 < i {
         let bound = layout::word_at(layout::row_at(state, i - 1), layout::BOUND);
-        least = limits::smaller(bound, least);
+        least = bound.min(least);
         i = last_reader(state, i - 1, s);
     }
     least
@@ -195,7 +195,7 @@ fn waiting(r: &[u8], least: u64) -> u64
         return least;
     }
     let next = layout::word_at(r, layout::NEXT);
-    limits::smaller(next, least)
+    next.min(least)
 }
 
 // Lets go what nobody waits for of stream i, whose last reader is the record before last: the least bound of the readers is worked

@@ -1,7 +1,6 @@
 -- `passing::count` meets its contract.
 use mathlib.Core.Path.{◌≡◌, sym, ap, ◌∙◌}
 use Prim.Native.Nat.{◌+◌, ◌-◌, ◌*◌}
-use mathlib.Core.Bool.{true}
 use borrow.Author.Tests.{not-true, not-false}
 use Rattle.meaning.specs.Missing.{Outside, ZeroDivisor, can_lack}
 use Rattle.operators.specs.Operators.{lacks_at}
@@ -11,7 +10,6 @@ use Rattle.streams.specs.Look.{equation, kept_in}
 use Rattle.counting.specs.Tally.{counted_row}
 use native.Mathlib.Omega.{arith}
 use Rattle.passing.proofs.Counts as law
-use Rattle.counting.proofs.add.Reads as add_reads
 use Rattle.passing.proofs.count.Goals as goal
 
 pub returns-then-not-can_lack : goal.returns-then-not-can_lack
