@@ -6,12 +6,14 @@ ghost use Rattle.lines.specs.Form.{skip};
 ghost use Rattle.text.specs.Grammar.{plan_line, head};
 ghost use Rattle.operators.specs.Limits.{most_streams};
 ghost use Rattle.operators.specs.Rules.{arg_ok};
+ghost use Rattle.refusal.specs.Numbers.{number_of};
 ghost use Rattle.plan.specs.Rules.{streams, number};
 ghost use Rattle.faults.specs.Faults.{in_stream, head_line, field_line, stream_line, form_fault, field_broken, rule_fault, width_fault, ninth_fault, window_fault, Found};
 ghost use Rattle.faults.specs.Search.{Kept, noted_form, LowestIn, FoundAfter};
 
 use cycle::GRAPH;
 use operators::Plan;
+use refusal::Refusal;
 use text::Fields;
 
 // What is wrong with a plan text: load's number, the line, counted from 1, and the stream. Line 0 is no line.
@@ -23,12 +25,12 @@ pub struct Fault {
 }
 
 // Line j of stream i: op, a, b, k, out, from 0.
-fn in_stream(number: u32, i: usize, j: usize) -> Fault
+fn in_stream(refusal: Refusal, i: usize, j: usize) -> Fault
     requires { (i ≤ most_streams) × (j < 5) }
-    ensures { result ≡ in_stream number i j }
+    ensures { result ≡ in_stream (number_of refusal) i j }
 {
     Fault {
-        number,
+        number: refusal.number(),
         line: 3 + 5 * i + j,
         stream: i,
     }
@@ -83,7 +85,7 @@ fn form_fault(text: &[u8], at: usize, n: usize) -> Fault
             Ok(f) => p = f.next,
             Err(r) => {
                 let j = stream_line(text, p);
-                return in_stream(r.number(), i, j);
+                return in_stream(r, i, j);
             }
         }
     }
@@ -95,7 +97,7 @@ fn form_fault(text: &[u8], at: usize, n: usize) -> Fault
         }
     } else {
         Fault {
-            number: 2,
+            number: Refusal::TextForm.number(),
             line: 3 + 5 * n,
             stream: 0,
         }
@@ -137,7 +139,7 @@ fn rule_fault(text: &[u8], at: usize, n: usize) -> Fault
         };
         if !operators::fields_ok(n as u64, f.op as u64, f.a, f.b, f.k, f.out) {
             let j = field_broken(n as u64, f);
-            return in_stream(5, i, j);
+            return in_stream(Refusal::TextField, i, j);
         }
         p = f.next;
     }
@@ -159,7 +161,7 @@ fn width_fault(text: &[u8], at: usize, n: usize) -> Fault
             break;
         };
         if !operators::width_ok(f.op as u64, f.k) {
-            return in_stream(18, i, 3);
+            return in_stream(Refusal::TextWindow, i, 3);
         }
         p = f.next;
     }
@@ -183,7 +185,7 @@ fn ninth_fault(text: &[u8], at: usize, n: usize) -> Fault
         };
         if operators::is_window(f.op as u64) {
             if Plan::WINDOWS <= w {
-                return in_stream(18, i, 0);
+                return in_stream(Refusal::TextWindow, i, 0);
             }
             w += 1;
         }
@@ -258,7 +260,7 @@ fn plan_fault(text: &[u8], n: usize, at: usize, most: usize) -> Fault
             stream: 0,
         };
     }
-    in_stream(6, c, 0)
+    in_stream(Refusal::TextCycle, c, 0)
 }
 
 // Where a plan text is wrong, for a state with room for so many streams; number 0 if it is taken.
@@ -269,7 +271,7 @@ pub fn find(text: &[u8], most: usize) -> Fault
 {
     if Plan::TEXT < text.len() {
         return Fault {
-            number: 1,
+            number: Refusal::TextLong.number(),
             line: 0,
             stream: 0,
         };

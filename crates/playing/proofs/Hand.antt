@@ -56,7 +56,7 @@ either f g (inr b) = g b
 
 -- one line more
 pub between_more : {n : ℕ} {text : List ℕ} {at : ℕ} {last : Bool} {first : ℕ} {s : List ℕ} {p l m : ℕ} {t u : List ℕ} → p ≤ length text → Whole text p last → Between n text at last first s p l t
-    → (r : Record) (next : ℕ) → line text p ≡ Some (r , next) → next ≤ length text → m ≡ line_after l 1 → Settles n (reply (call_of r) t).buffer u → Between n text at last first s next m u
+    → (r : Record) (next : ℕ) → line text p ≡ Some (r, next) → next ≤ length text → m ≡ line_after l 1 → Settles n (reply (call_of r) t).buffer u → Between n text at last first s next m u
 between_more {text = text} {at} {last} {first} {p = p} {l} {m} inside whole x r next e fits c z =
     record { records = x.records ++ r ∷ []; counted = counted_then first l m x.records (r ∷ []) x.counted c; offered = played.more r x.offered z; lines = λ rest f. lines_then (x.lines rest f) (one rest f) }
   where
@@ -87,7 +87,7 @@ module _ (old buffer : List ℕ) (left filled : ℕ) (order : left ≤ filled) (
   size : length (take filled buffer) ≡ filled
   size = length-take-le filled buffer inside
 
-  pub part_onward : {n : ℕ} {s : List ℕ} {last : Bool} {p first line : ℕ} {t : List ℕ} → last ≡ false → Through n (take filled buffer) 0 last first s (Some (p , line)) t → (p ≤ filled) × (filled ≤ length buffer) × (o : Onward n first old s (hand buffer p filled) line t) × (take filled buffer ≡ old ++ o.brought)
+  pub part_onward : {n : ℕ} {s : List ℕ} {last : Bool} {p first line : ℕ} {t : List ℕ} → last ≡ false → Through n (take filled buffer) 0 last first s (Some (p, line)) t → (p ≤ filled) × (filled ≤ length buffer) × (o : Onward n first old s (hand buffer p filled) line t) × (take filled buffer ≡ old ++ o.brought)
   part_onward {p = p} no_last x =
       let h : p ≤ filled = let k = x.0 in omega (arith, size) in
       let b = x.3 in
@@ -128,7 +128,7 @@ module _ (old buffer : List ℕ) (left filled : ℕ) (order : left ≤ filled) (
       ended x.3 (x.4 [] (λ q. refl)).1
       (λ q. absurd (omega (arith, ap length (sym (append-nil (drop x.0 (take filled buffer))) ∙ q), length-drop x.0 (take filled buffer))))
 
-  pub last_ended : {n : ℕ} {s : List ℕ} {last : Bool} {p first line : ℕ} {t : List ℕ} → last ≡ true → filled < length buffer → Through n (take filled buffer) 0 last first s (Some (p , line)) t → Ended n old s buffer t
+  pub last_ended : {n : ℕ} {s : List ℕ} {last : Bool} {p first line : ℕ} {t : List ℕ} → last ≡ true → filled < length buffer → Through n (take filled buffer) 0 last first s (Some (p, line)) t → Ended n old s buffer t
   last_ended {p = p} q short x =
       let e : drop p (take filled buffer) ++ [] ≡ [] = append-nil (drop p (take filled buffer)) ∙ ap (λ (k : ℕ). drop k (take filled buffer)) (x.1 q) ∙ drop-length (take filled buffer) in
       ended x.3 (subst (λ (l : List ℕ). Stops l []) (sym e) end) (λ r. short)

@@ -29,7 +29,7 @@ pub record Between (n : ℕ) (text : List ℕ) (at : ℕ) (last : Bool) (first :
 -- all whole lines of a text from a position on: up to its end if it is the last, else to where fewer bytes are left than a line
 -- can have; or to a bad line
 abbrev pub Through : (n : ℕ) (text : List ℕ) (at : ℕ) (last : Bool) (first : ℕ) → List ℕ → Option (ℕ × ℕ) → List ℕ → Type 0
-Through n text at last first s (Some (p , line)) t = (p ≤ length text) × (last ≡ true → p ≡ length text) × (length text - p < longest) × Between n text at last first s p line t
+Through n text at last first s (Some (p, line)) t = (p ≤ length text) × (last ≡ true → p ≡ length text) × (length text - p < longest) × Between n text at last first s p line t
 Through n text at last first s None t = (p : ℕ) × (line : ℕ) × (p < length text) × Between n text at last first s p line t × ((more : List ℕ) → Follow last more → (v : List ℕ) × Stops (drop p text ++ more) v)
 
 -- from the bytes in hand: what was read comes behind them, the lines that were replayed go, and the rest is in hand

@@ -18,7 +18,7 @@ Settles n s t = Goes n start s Rest t
 
 -- a record that was read is offered and what follows settles; a bad line changes nothing
 abbrev pub Follows : ℕ → Option (Record × ℕ) → List ℕ → List ℕ → Type 0
-Follows n (Some (r , next)) s t = Settles n (reply (call_of r) s).buffer t
+Follows n (Some (r, next)) s t = Settles n (reply (call_of r) s).buffer t
 Follows n None s t = t ≡ s
 
 -- records offered one after the other, each settled

@@ -175,14 +175,14 @@ fn advance<F: Read, O: Write, E: Write>(
 {
     let filled = ready(file, buffer, left.from, left.end);
     let last = filled < buffer.len();
-    let (from, line) = replay_lines(state, n, &buffer[..filled], 0, last, left.line, out, err)?;
+    let (p, next) = replay_lines(state, n, &buffer[..filled], 0, last, left.line, out, err)?;
     if last {
         return None;
     }
     Some(Left {
-        from,
+        from: p,
         end: filled,
-        line,
+        line: next,
     })
 }
 
