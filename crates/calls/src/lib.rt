@@ -110,10 +110,8 @@ fn move_touched(state: &mut [u8], n: usize, s: usize) -> usize
     let last = s as u8;
     for j in 0..last {
         let i = j as usize;
-        if touched(layout::row_at(state, i), j, last, a, b) {
-            if moves::move_one(state, n, i) {
-                return i;
-            }
+        if touched(layout::row_at(state, i), j, last, a, b) && moves::move_one(state, n, i) {
+            return i;
         }
     }
     s
