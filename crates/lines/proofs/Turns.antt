@@ -2,10 +2,10 @@
 use Prim.Native.Nat.{ℕ, zero, suc, ◌+◌, ◌*◌, ◌-◌, ◌^◌, ◌<◌, ◌≤◌}
 use mathlib.Core.Path.{◌≡◌, refl, sym, ap, ◌∙◌}
 use mathlib.Core.List.{List, [], ◌∷◌}
-use mathlib.Core.Bool.{Bool, false, cond, ◌&&◌, and-false}
+use mathlib.Core.Bool.{false, cond}
 use native.Mathlib.Nat.{pow-suc, pow-le-pow_right}
 use native.Mathlib.Omega.{arith}
-use lib.Dec.{leb, lit<}
+use lib.Dec.{lit<}
 use lib.ListN.{length, get_or, drop, drop_of_length-le, get_or-eq_default}
 use lib.Seq.{drop-cons}
 use borrow.Author.Tests.{le-leb, lt-leb, lt-ltb, le-ltb, eq-eqb, ne_eqb}
@@ -50,7 +50,7 @@ scan_turn s p v (suc n) h =
     rw e
 
 module _ (s : List ℕ) (p v n : ℕ) where
-  scan_stop : 0 < n → digit (get_or s p 0) ≡ false → scanned v p ≡ scan s p v n
+  pub scan_stop : 0 < n → digit (get_or s p 0) ≡ false → scanned v p ≡ scan s p v n
   scan_stop h e = sym (scan_turn s p v n h ∙ rw e)
 
   pub scan_past : 0 < n → length s ≤ p → scanned v p ≡ scan s p v n
@@ -59,9 +59,6 @@ module _ (s : List ℕ) (p v n : ℕ) where
   module _ (h : 0 < n) (c : ℕ) (e : c ≡ get_or s p 0) where
     pub scan_low : c < 48 → scanned v p ≡ scan s p v n
     scan_low l = scan_stop h (rw (lt-leb 48 (get_or s p 0) (omega arith)))
-
-    pub scan_high : 57 < c → scanned v p ≡ scan s p v n
-    scan_high l = scan_stop h (ap (λ (b : Bool). leb 48 (get_or s p 0) && b) (lt-leb (get_or s p 0) 57 (omega arith)) ∙ and-false (leb 48 (get_or s p 0)))
 
     pub scan_go : 48 ≤ c → c ≤ 57 → (m : ℕ) → m ≡ n - 1 → scan s (p + 1) (v * 10 + (c - 48)) m ≡ scan s p v n
     scan_go l k m q = rw (q, e) (sym (scan_turn s p v n h ∙ rw (le-leb 48 (get_or s p 0) (omega arith), le-leb (get_or s p 0) 57 (omega arith))))

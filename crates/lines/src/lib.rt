@@ -36,11 +36,11 @@ fn digits(text: &[u8], at: usize, max: usize) -> Scanned
         if text.len() <= p {
             return Scanned { value, next: p };
         }
-        let c = le::wide(text[p]);
-        if c < 48 || 57 < c {
+        let c = text[p];
+        if !c.is_ascii_digit() {
             return Scanned { value, next: p };
         }
-        value = value * 10 + (c - 48);
+        value = value * 10 + u64::from(c - b'0');
         p += 1;
     }
     Scanned { value, next: p }

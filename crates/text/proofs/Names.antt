@@ -2,13 +2,13 @@
 use Prim.Native.Nat.{ℕ, zero, suc, ◌+◌, ◌*◌, ◌-◌, ◌^◌, ◌<◌, ◌≤◌}
 use mathlib.Core.Path.{◌≡◌, refl, sym, ap, ◌∙◌}
 use mathlib.Core.List.{List, [], ◌∷◌, map}
-use mathlib.Core.Bool.{Bool, true, false, cond, ◌&&◌, and-false}
+use mathlib.Core.Bool.{Bool, true, false, cond, ◌&&◌}
 use native.Mathlib.Nat.{mul-add, mul_assoc, mul-zero, pow-suc, pow-le-pow_right, mul-le-mul_left}
 use native.Mathlib.Omega.{arith}
 use Rattle.operators.proofs.Tests.{left, right}
 use lib.Dec.{eqb, leb, ltb, lit<}
 use lib.ListN.{length, get_or, drop, get_or-eq_default}
-use borrow.Author.Tests.{le-leb, lt-leb, eq-eqb, ne_eqb, eqb-true, eqb-false, leb-true, ltb-true}
+use borrow.Author.Tests.{le-leb, eq-eqb, ne_eqb, eqb-true, eqb-false, leb-true, ltb-true}
 use Rattle.std.specs.Prelude.{Some, None, Ok, Err}
 use Rattle.refusal.specs.declared.Refusal.TheVariants.{TextForm, TextOperator}
 use Rattle.text.specs.declared.Packed.{Packed}
@@ -47,19 +47,13 @@ module _ (s : List ℕ) (p code weight n : ℕ) where
       let b : p ≡ p + length {A = ℕ} [] = omega arith in
       sym (rw e (λ i. record { code = sym a i; next = sym b i }))
 
-  stop : 0 < n → letter (get_or s p 0) ≡ false → packed_to code p ≡ packed_from code weight p (name_at s p n)
-  stop h e = done (name_turn s p n h ∙ rw e)
+  pub name_stop : 0 < n → letter (get_or s p 0) ≡ false → packed_to code p ≡ packed_from code weight p (name_at s p n)
+  name_stop h e = done (name_turn s p n h ∙ rw e)
 
   pub name_past : 0 < n → length s ≤ p → packed_to code p ≡ packed_from code weight p (name_at s p n)
-  name_past h l = stop h (ap letter (get_or-eq_default s 0 {n = p} l))
+  name_past h l = name_stop h (ap letter (get_or-eq_default s 0 {n = p} l))
 
   module _ (h : 0 < n) (c : ℕ) (e : c ≡ get_or s p 0) where
-    pub name_low : c < 97 → packed_to code p ≡ packed_from code weight p (name_at s p n)
-    name_low l = stop h (rw (lt-leb 97 (get_or s p 0) (omega arith)))
-
-    pub name_high : 122 < c → packed_to code p ≡ packed_from code weight p (name_at s p n)
-    name_high l = stop h (ap (λ (b : Bool). leb 97 (get_or s p 0) && b) (lt-leb (get_or s p 0) 122 (omega arith)) ∙ and-false (leb 97 (get_or s p 0)))
-
     pub name_go : 97 ≤ c → c ≤ 122 → (m : ℕ) → m ≡ n - 1 → packed_from (code + weight * c) (weight * 256) (p + 1) (name_at s (p + 1) m) ≡ packed_from code weight p (name_at s p n)
     name_go l k m q =
         let w : name_at s p n ≡ c ∷ name_at s (p + 1) m = name_turn s p n h ∙ rw (le-leb 97 (get_or s p 0) (omega arith), le-leb (get_or s p 0) 122 (omega arith), q, e) in

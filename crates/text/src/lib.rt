@@ -41,12 +41,12 @@ fn letters(text: &[u8], at: usize) -> Packed
         if text.len() <= p {
             return Packed { code, next: p };
         }
-        let c = le::wide(text[p]);
-        if c < 97 || 122 < c {
+        let c = text[p];
+        if !c.is_ascii_lowercase() {
             return Packed { code, next: p };
         }
-        code = code + weight * c;
-        weight = weight * 256;
+        code += weight * u64::from(c);
+        weight *= 256;
         p += 1;
     }
     Packed { code, next: p }
