@@ -42,9 +42,7 @@ fn place_of(state: &[u8], n: usize, i: usize) -> usize
     ensures { (result ≡ place_of i (decode n state.now)) × (result < window_limit) }
 {
     let mut j = 0;
-    let mut r = i;
-    while 0 < r {
-        r -= 1;
+    for r in (0..i).rev() {
         let row = layout::row_at(state, r);
         j = counted(j, operators::is_window(layout::byte_at(row, layout::OP)));
     }
