@@ -111,9 +111,9 @@ fn replay_line<O: Write, E: Write>(
     put(out, &printed[..end]);
     say_line(err, number, &printed[..end]);
     let found = passed.found;
-    let Some(_) = found else {
-        return found;
-    };
+    if found.is_none() {
+        return None;
+    }
     settle(state, n, out);
     found
 }
