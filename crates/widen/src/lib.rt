@@ -22,7 +22,7 @@ fn copy(from: &[u8], to: &mut [u8])
     decimal::put_word(to, windows, &from[end..]);
 }
 
-// Copies a state into a longer buffer; 15 if there is no state of the shorter length, or no buffer of the longer.
+// Copies a state into a longer buffer; refused if there is no state of the shorter length, or no buffer of the longer.
 pub fn widen(from: &[u8], to: &mut [u8]) -> Result<(), Refusal>
     ensures number { code_of result ≡ (widen_reply from.now to.old).number }
     ensures buffer { to.new ≡ (widen_reply from.now to.old).buffer }
