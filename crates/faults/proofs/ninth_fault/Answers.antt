@@ -15,7 +15,7 @@ pub in_stream-requires : goal.in_stream-requires
 in_stream-requires c = (omega arith, lit< tt)
 
 pub returns-then-w-ge-WINDOWS : goal.returns-then-w-ge-WINDOWS
-returns-then-w-ge-WINDOWS c = c.in_stream.ensures ∙ ninth_broken c.args.text.now c.args.n c.loop-i.w c.loop-i.i c.loop-i.p (omega arith) c.in-Ok.f (sym c.in-Ok.ensures) (sym c.is_window.ensures ∙ c.if-is_window.true) (omega arith) ∙ c.loop-i.invariant.1
+returns-then-w-ge-WINDOWS c = (c.in_stream.ensures.0 ∙ ninth_broken c.args.text.now c.args.n c.loop-i.w c.loop-i.i c.loop-i.p (omega arith) c.in-Ok.f (sym c.in-Ok.ensures) (sym c.is_window.ensures ∙ c.if-is_window.true) (omega arith) ∙ c.loop-i.invariant.1, c.in_stream.ensures.1)
 
 pub overflow_add-w : goal.overflow_add-w
 overflow_add-w c = omega arith
@@ -27,7 +27,7 @@ loop-i-preserved c = elim c.if-is_window.branch [
 ]
 
 pub returns-after-loop-i : goal.returns-after-loop-i
-returns-after-loop-i c = first_end ninth_rule c.args.text.now c.args.n c.loop-i.w c.loop-i.i c.loop-i.p (omega arith) ∙ c.loop-i.invariant.1
+returns-after-loop-i c = (first_end ninth_rule c.args.text.now c.args.n c.loop-i.w c.loop-i.i c.loop-i.p (omega arith) ∙ c.loop-i.invariant.1, tt)
 
 pub returns-in_default : goal.returns-in_default
-returns-in_default c = first_halt ninth_rule c.args.text.now c.args.n c.loop-i.w c.loop-i.i c.loop-i.p (omega arith) c.in_default.field-0 (sym c.in_default.ensures) ∙ c.loop-i.invariant.1
+returns-in_default c = (first_halt ninth_rule c.args.text.now c.args.n c.loop-i.w c.loop-i.i c.loop-i.p (omega arith) c.in_default.field-0 (sym c.in_default.ensures) ∙ c.loop-i.invariant.1, tt)
