@@ -128,9 +128,7 @@ fn rule_fault(text: &[u8], at: usize, n: usize) -> Option<Fault>
 {
     let mut p = at;
     for i in 0..n {
-        let Ok(f) = text::read_stream(text, p) else {
-            break;
-        };
+        let f = text::read_stream(text, p).ok()?;
         if !operators::fields_ok(n as u64, f.op as u64, f.a, f.b, f.k, f.out) {
             let j = field_broken(n as u64, f);
             return Some(in_stream(Refusal::TextField, i, j));
@@ -147,9 +145,7 @@ fn width_fault(text: &[u8], at: usize, n: usize) -> Option<Fault>
 {
     let mut p = at;
     for i in 0..n {
-        let Ok(f) = text::read_stream(text, p) else {
-            break;
-        };
+        let f = text::read_stream(text, p).ok()?;
         if !operators::width_ok(f.op as u64, f.k) {
             return Some(in_stream(Refusal::TextWindow, i, 3));
         }
@@ -166,9 +162,7 @@ fn ninth_fault(text: &[u8], at: usize, n: usize) -> Option<Fault>
     let mut p = at;
     let mut w: u64 = 0;
     for i in 0..n {
-        let Ok(f) = text::read_stream(text, p) else {
-            break;
-        };
+        let f = text::read_stream(text, p).ok()?;
         if operators::is_window(f.op as u64) {
             if Plan::WINDOWS <= w {
                 return Some(in_stream(Refusal::TextWindow, i, 0));
