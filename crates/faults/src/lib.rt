@@ -1,7 +1,7 @@
 // Where a plan text is wrong: its number, the line and the stream.
 #![tactic(auto)]
 
-ghost use Rattle.std.specs.Prelude.{◌≡◌, ◌*◌, ◌<◌, ◌≤◌, length, IfSome, Ok};
+ghost use Rattle.std.specs.Prelude.{◌≡◌, ◌*◌, ◌<◌, ◌≤◌, length, IfSome, unwrap_or, Ok};
 ghost use Rattle.lines.specs.Form.{skip};
 ghost use Rattle.text.specs.Grammar.{plan_line, head};
 ghost use Rattle.operators.specs.Limits.{most_streams};
@@ -197,10 +197,10 @@ fn note_all(text: &[u8], at: usize, n: usize, graph: &mut [u8])
     }
 }
 
-// The lowest stream of a plan of n streams that leads to itself, or n.
-fn on_cycle(text: &[u8], at: usize, n: usize) -> usize
+// The lowest stream of a plan of n streams that leads to itself.
+fn on_cycle(text: &[u8], at: usize, n: usize) -> Option<usize>
     requires { (n ≤ most_streams) × Kept n (streams text.now at n) }
-    ensures { LowestIn n (streams text.now at n) result }
+    ensures { LowestIn n (streams text.now at n) (unwrap_or result n) × IfSome result (λ s. s < n) }
 {
     let mut graph = [0u8; GRAPH];
     note_all(text, at, n, &mut graph);
@@ -221,10 +221,7 @@ fn plan_fault(text: &[u8], n: usize, at: usize, most: usize) -> Option<Fault>
     if let Some(f) = window_fault(text, at, n) {
         return Some(f);
     }
-    let c = on_cycle(text, at, n);
-    if c == n {
-        return None;
-    }
+    let c = on_cycle(text, at, n)?;
     Some(in_stream(Refusal::TextCycle, c, 0))
 }
 
