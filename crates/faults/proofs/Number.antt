@@ -167,9 +167,6 @@ module _ (cap : ℕ) (s : List ℕ) (n at : ℕ) where
         pub found_cycle : (c ≡ n → ⊥) → FoundAfter cap s n at (in_stream 6 c 0)
         found_cycle z = by_form (λ fs end r k w. one_cycle fs end r k w z)
 
-        pub stream_few : c ≤ n
-        stream_few = by_form (λ fs end r k w. w.few)
-
 -- ## What the code answers of the text
 
 module _ (cap : ℕ) (s : List ℕ) where

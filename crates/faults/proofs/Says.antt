@@ -104,13 +104,12 @@ or_here f g h = rw (ne_eqb f.line 0 h)
 pub or_next_lem : (f g : declared.Fault) → f.line ≡ 0 → or_next f g ≡ g
 or_next_lem f g h = rw (eq-eqb f.line 0 h)
 
--- what the code tells first, and what it tells next
-module _ (f g h : declared.Fault) (e : f ≡ g) where
-  pub tells_here : (f.line ≡ 0 → ⊥) → f ≡ or_next g h
-  tells_here n = subst (λ (x : declared.Fault). f ≡ or_next x h) e (sym (or_here f h n))
+pub no_line : {f : declared.Fault} → none ≡ f → f.line ≡ 0
+no_line e = sym (ap (λ (x : declared.Fault). x.line) e)
 
-  pub tells_next : f.line ≡ 0 → (k : declared.Fault) → k ≡ h → k ≡ or_next g h
-  tells_next z k q = q ∙ sym (or_next_lem g h (sym (ap (λ (x : declared.Fault). x.line) e) ∙ z))
+-- what the code tells first
+pub tells_here : (f g h : declared.Fault) → f ≡ g → (f.line ≡ 0 → ⊥) → f ≡ or_next g h
+tells_here f g h e n = subst (λ (x : declared.Fault). f ≡ or_next x h) e (sym (or_here f h n))
 
 module _ (number : ℕ) where
   or_told : (f g : declared.Fault) → (0 < f.line → f.number ≡ number) → (0 < g.line → g.number ≡ number) → 0 < (or_next f g).line → (or_next f g).number ≡ number

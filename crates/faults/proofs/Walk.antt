@@ -1,6 +1,6 @@
 -- The walks over the streams' lines, one stream after the other, as the code takes them.
 use Prim.Native.Nat.{ℕ, zero, suc, ◌+◌, ◌*◌, ◌-◌, ◌<◌, ◌≤◌}
-use mathlib.Core.Path.{◌≡◌, ap, ◌∙◌}
+use mathlib.Core.Path.{◌≡◌, sym, ap, ◌∙◌}
 use mathlib.Core.Bool.{true, false, cond}
 use mathlib.Core.List.{List}
 use native.Mathlib.Omega.{arith}
@@ -9,11 +9,17 @@ use borrow.Author.Tests.{eq-eqb, ne_eqb, lt-ltb, le-ltb}
 use Rattle.operators.specs.Operators.{group_of, is_window}
 use Rattle.operators.specs.Limits.{window_limit}
 use Rattle.text.specs.declared.Fields.{Fields}
-use Rattle.std.specs.Prelude.{Ok, Err}
+use Rattle.std.specs.Prelude.{Some, None, Result, Ok, Err}
+use Rattle.std.specs.Result.{result_ok}
 use Rattle.refusal.specs.declared.Refusal.{Refusal}
 use Rattle.refusal.specs.Numbers.{number_of}
 use Rattle.text.specs.Grammar.{stream}
 use Rattle.faults.specs.Faults.{fault, none, in_stream, stream_line, stream_or, form_fault, Rule, first_broken, ninth_rule}
+
+-- a stream as `.ok()?` reads it
+pub stream_ok : {x y : Result Fields Refusal} {f : Fields} → x ≡ y → Some f ≡ result_ok x → y ≡ Ok f
+stream_ok {x = Ok g} e h = sym e ∙ cc
+stream_ok {x = Err r} e h = absurd cc
 
 -- ## The first faulty line
 
@@ -67,8 +73,9 @@ module _ (r : Rule) (s : List ℕ) where
     pub first_broken_lem : i < n → (f : Fields) → stream s p ≡ Ok f → r.kept w f ≡ false → in_stream r.number i (r.line f) ≡ first_broken r s w i p (n - i)
     first_broken_lem h f e k = rw (first_turn w i p (n - i) (omega arith), e, k)
 
-    pub first_halt : i < n → (q : Refusal) → stream s p ≡ Err q → none ≡ first_broken r s w i p (n - i)
-    first_halt h q e = rw (first_turn w i p (n - i) (omega arith), e)
+    pub first_halt : i < n → {x : Result Fields Refusal} → x ≡ stream s p → None ≡ result_ok x → none ≡ first_broken r s w i p (n - i)
+    first_halt h {x = Ok f} e k = absurd cc
+    first_halt h {x = Err q} e k = rw (first_turn w i p (n - i) (omega arith), sym e)
 
     pub first_end : n ≤ i → none ≡ first_broken r s w i p (n - i)
     unfolding first_broken

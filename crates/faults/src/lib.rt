@@ -1,7 +1,7 @@
 // Where a plan text is wrong: its number, the line and the stream.
 #![tactic(auto)]
 
-ghost use Rattle.std.specs.Prelude.{◌≡◌, ◌*◌, ◌<◌, ◌≤◌, length, Ok};
+ghost use Rattle.std.specs.Prelude.{◌≡◌, ◌*◌, ◌<◌, ◌≤◌, length, IfSome, unwrap_or, Ok};
 ghost use Rattle.lines.specs.Form.{skip};
 ghost use Rattle.text.specs.Grammar.{plan_line, head};
 ghost use Rattle.operators.specs.Limits.{most_streams};
@@ -9,7 +9,7 @@ ghost use Rattle.operators.specs.Rules.{arg_ok};
 ghost use Rattle.refusal.specs.Numbers.{number_of};
 ghost use Rattle.plan.specs.Rules.{streams, number};
 ghost use Rattle.faults.specs.Faults.{in_stream, head_line, field_line, stream_line, form_fault, field_broken, rule_fault, width_fault, ninth_fault, window_fault, Found};
-ghost use Rattle.faults.specs.Search.{Kept, noted_form, LowestIn, FoundAfter};
+ghost use Rattle.faults.specs.Search.{shown, Tells, Kept, noted_form, LowestIn, FoundAfter};
 
 use cycle::GRAPH;
 use operators::Plan;
@@ -27,7 +27,7 @@ pub struct Fault {
 // Line j of stream i: op, a, b, k, out, from 0.
 fn in_stream(refusal: Refusal, i: usize, j: usize) -> Fault
     requires { (i ≤ most_streams) × (j < 5) }
-    ensures { result ≡ in_stream (number_of refusal) i j }
+    ensures { (result ≡ in_stream (number_of refusal) i j) × ((0 < result.number) × (0 < result.line)) }
 {
     Fault {
         number: refusal.number(),
@@ -75,9 +75,9 @@ fn stream_line(text: &[u8], at: usize) -> usize
 }
 
 // The first faulty line of n streams, or the bytes left over after them.
-fn form_fault(text: &[u8], at: usize, n: usize) -> Fault
+fn form_fault(text: &[u8], at: usize, n: usize) -> Option<Fault>
     requires { n ≤ most_streams }
-    ensures { result ≡ form_fault text.now 0 at n }
+    ensures { Tells result (form_fault text.now 0 at n) }
 {
     let mut p = at;
     for i in 0..n {
@@ -85,23 +85,18 @@ fn form_fault(text: &[u8], at: usize, n: usize) -> Fault
             Ok(f) => p = f.next,
             Err(r) => {
                 let j = stream_line(text, p);
-                return in_stream(r, i, j);
+                return Some(in_stream(r, i, j));
             }
         }
     }
     if p == text.len() {
-        Fault {
-            number: 0,
-            line: 0,
-            stream: 0,
-        }
-    } else {
-        Fault {
-            number: Refusal::TextForm.number(),
-            line: 3 + 5 * n,
-            stream: 0,
-        }
+        return None;
     }
+    Some(Fault {
+        number: Refusal::TextForm.number(),
+        line: 3 + 5 * n,
+        stream: 0,
+    })
 }
 
 fn arg_ok(used: bool, n: u64, a: u64) -> bool
@@ -116,98 +111,75 @@ fn field_broken(n: u64, f: Fields) -> usize
 {
     let group = operators::group_of(f.op as u64);
     if !arg_ok(operators::takes_first(group), n, f.a) {
-        return 1;
+        1
+    } else if !arg_ok(operators::takes_second(group), n, f.b) {
+        2
+    } else if !operators::value_ok(operators::takes_value(f.op as u64), f.k) {
+        3
+    } else {
+        4
     }
-    if !arg_ok(operators::takes_second(group), n, f.b) {
-        return 2;
-    }
-    if !operators::value_ok(operators::takes_value(f.op as u64), f.k) {
-        return 3;
-    }
-    4
 }
 
 // The first field that breaks rule 5, of n streams.
-fn rule_fault(text: &[u8], at: usize, n: usize) -> Fault
+fn rule_fault(text: &[u8], at: usize, n: usize) -> Option<Fault>
     requires { n ≤ most_streams }
-    ensures { result ≡ rule_fault text.now n at }
+    ensures { Tells result (rule_fault text.now n at) }
 {
     let mut p = at;
     for i in 0..n {
-        let Ok(f) = text::read_stream(text, p) else {
-            break;
-        };
+        let f = text::read_stream(text, p).ok()?;
         if !operators::fields_ok(n as u64, f.op as u64, f.a, f.b, f.k, f.out) {
             let j = field_broken(n as u64, f);
-            return in_stream(Refusal::TextField, i, j);
+            return Some(in_stream(Refusal::TextField, i, j));
         }
         p = f.next;
     }
-    Fault {
-        number: 0,
-        line: 0,
-        stream: 0,
-    }
+    None
 }
 
 // The first window of n streams whose width is outside 1 to 64.
-fn width_fault(text: &[u8], at: usize, n: usize) -> Fault
+fn width_fault(text: &[u8], at: usize, n: usize) -> Option<Fault>
     requires { n ≤ most_streams }
-    ensures { result ≡ width_fault text.now n at }
+    ensures { Tells result (width_fault text.now n at) }
 {
     let mut p = at;
     for i in 0..n {
-        let Ok(f) = text::read_stream(text, p) else {
-            break;
-        };
+        let f = text::read_stream(text, p).ok()?;
         if !operators::width_ok(f.op as u64, f.k) {
-            return in_stream(Refusal::TextWindow, i, 3);
+            return Some(in_stream(Refusal::TextWindow, i, 3));
         }
         p = f.next;
     }
-    Fault {
-        number: 0,
-        line: 0,
-        stream: 0,
-    }
+    None
 }
 
 // The ninth window of n streams.
-fn ninth_fault(text: &[u8], at: usize, n: usize) -> Fault
+fn ninth_fault(text: &[u8], at: usize, n: usize) -> Option<Fault>
     requires { n ≤ most_streams }
-    ensures { result ≡ ninth_fault text.now n at }
+    ensures { Tells result (ninth_fault text.now n at) }
 {
     let mut p = at;
     let mut w: u64 = 0;
     for i in 0..n {
-        let Ok(f) = text::read_stream(text, p) else {
-            break;
-        };
+        let f = text::read_stream(text, p).ok()?;
         if operators::is_window(f.op as u64) {
             if Plan::WINDOWS <= w {
-                return in_stream(Refusal::TextWindow, i, 0);
+                return Some(in_stream(Refusal::TextWindow, i, 0));
             }
             w += 1;
         }
         p = f.next;
     }
-    Fault {
-        number: 0,
-        line: 0,
-        stream: 0,
-    }
+    None
 }
 
 // The first window of n streams that breaks rule 18: by its width, or else the ninth.
-fn window_fault(text: &[u8], at: usize, n: usize) -> Fault
+fn window_fault(text: &[u8], at: usize, n: usize) -> Option<Fault>
     requires { n ≤ most_streams }
-    ensures { result ≡ window_fault text.now n at }
+    ensures { Tells result (window_fault text.now n at) }
 {
-    let width = width_fault(text, at, n);
-    if width.line != 0 {
-        return width;
-    }
-    ninth_fault(text, at, n)
+    width_fault(text, at, n).or_else(|| ninth_fault(text, at, n))
 }
 
 // Notes the undelayed arguments of n streams that keep rule 5.
@@ -225,10 +197,10 @@ fn note_all(text: &[u8], at: usize, n: usize, graph: &mut [u8])
     }
 }
 
-// The lowest stream of a plan of n streams that leads to itself, or n.
-fn on_cycle(text: &[u8], at: usize, n: usize) -> usize
+// The lowest stream of a plan of n streams that leads to itself.
+fn on_cycle(text: &[u8], at: usize, n: usize) -> Option<usize>
     requires { (n ≤ most_streams) × Kept n (streams text.now at n) }
-    ensures { LowestIn n (streams text.now at n) result }
+    ensures { LowestIn n (streams text.now at n) (unwrap_or result n) × IfSome result (λ s. s < n) }
 {
     let mut graph = [0u8; GRAPH];
     note_all(text, at, n, &mut graph);
@@ -236,55 +208,43 @@ fn on_cycle(text: &[u8], at: usize, n: usize) -> usize
 }
 
 // The fault of a text whose first two lines announce n streams, the first of them at a position.
-fn plan_fault(text: &[u8], n: usize, at: usize, most: usize) -> Fault
+fn plan_fault(text: &[u8], n: usize, at: usize, most: usize) -> Option<Fault>
     requires { (most ≤ most_streams) × (n ≤ most) × (head most text.now ≡ Ok (n, at)) }
-    ensures { FoundAfter most text.now n at result }
+    ensures { FoundAfter most text.now n at (shown result) × IfSome result (λ f. 0 < f.number) }
 {
-    let form = form_fault(text, at, n);
-    if form.line != 0 {
-        return form;
+    if let Some(f) = form_fault(text, at, n) {
+        return Some(f);
     }
-    let rule = rule_fault(text, at, n);
-    if rule.line != 0 {
-        return rule;
+    if let Some(f) = rule_fault(text, at, n) {
+        return Some(f);
     }
-    let window = window_fault(text, at, n);
-    if window.line != 0 {
-        return window;
+    if let Some(f) = window_fault(text, at, n) {
+        return Some(f);
     }
-    let c = on_cycle(text, at, n);
-    if c == n {
-        return Fault {
-            number: 0,
-            line: 0,
-            stream: 0,
-        };
-    }
-    in_stream(Refusal::TextCycle, c, 0)
+    let c = on_cycle(text, at, n)?;
+    Some(in_stream(Refusal::TextCycle, c, 0))
 }
 
-// Where a plan text is wrong, for a state with room for so many streams; number 0 if it is taken.
-pub fn find(text: &[u8], most: usize) -> Fault
+// Where a plan text is wrong, for a state with room for so many streams; none if it is taken.
+pub fn find(text: &[u8], most: usize) -> Option<Fault>
     requires { most ≤ most_streams }
-    ensures number_value { result.number ≡ number most text.now }
-    ensures found { Found most text.now result }
+    ensures number_value { (shown result).number ≡ number most text.now }
+    ensures found { Found most text.now (shown result) }
+    ensures numbered { IfSome result (λ f. 0 < f.number) }
 {
     if Plan::TEXT < text.len() {
-        return Fault {
+        return Some(Fault {
             number: Refusal::TextLong.number(),
             line: 0,
             stream: 0,
-        };
+        });
     }
     match text::read_head(text, most) {
         Ok((n, at)) => plan_fault(text, n, at, most),
-        Err(r) => {
-            let line = head_line(text);
-            Fault {
-                number: r.number(),
-                line,
-                stream: 0,
-            }
-        }
+        Err(r) => Some(Fault {
+            number: r.number(),
+            line: head_line(text),
+            stream: 0,
+        }),
     }
 }

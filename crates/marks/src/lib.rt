@@ -1,7 +1,7 @@
 // The lowest stream on a cycle: marks the streams that undelayed arguments lead to, over the graph of a plan in bytes.
 #![tactic(auto)]
 
-ghost use Rattle.std.specs.Prelude.{◌≡◌, ◌||◌, ◌<◌, ◌≤◌, length};
+ghost use Rattle.std.specs.Prelude.{◌≡◌, ◌||◌, ◌<◌, ◌≤◌, length, IfSome, unwrap_or};
 ghost use Rattle.operators.specs.Limits.{most_streams};
 ghost use Rattle.marks.specs.Marks.{marked, args_marked, turned, passed, Grown, Spread, Back, LowestBack};
 
@@ -86,15 +86,15 @@ fn leads_back(graph: &[u8; GRAPH], n: usize, s: usize) -> bool
     0 < marks[s]
 }
 
-// The lowest stream below n that leads to itself, or n.
-pub fn lowest(graph: &[u8; GRAPH], n: usize) -> usize
+// The lowest stream below n that leads to itself.
+pub fn lowest(graph: &[u8; GRAPH], n: usize) -> Option<usize>
     requires { n ≤ most_streams }
-    ensures { LowestBack graph.now n result }
+    ensures { LowestBack graph.now n (unwrap_or result n) × IfSome result (λ s. s < n) }
 {
     for s in 0..n {
         if leads_back(graph, n, s) {
-            return s;
+            return Some(s);
         }
     }
-    n
+    None
 }
