@@ -1,18 +1,18 @@
 -- The flags' byte and the line, as the code works them out.
 use Prim.Native.Nat.{ℕ, ◌+◌, ◌*◌, ◌/◌, ◌%◌, ◌^◌, ◌≤◌}
-use mathlib.Core.Path.{◌≡◌, refl, ap, ap₂, ◌∙◌}
-use mathlib.Core.Bool.{Bool, true, false, cond}
+use mathlib.Core.Path.{◌≡◌, refl, sym, ap, ap₂, ◌∙◌}
+use mathlib.Core.Bool.{Bool, true, false, cond, ◌&&◌, ◌||◌}
 use mathlib.Core.List.{List}
 use native.Mathlib.Omega.{arith}
 use lib.Dec.{eqb}
 use lib.IntN.{ℤ}
 use lib.ListN.{length}
 use lib.Seq.{sets}
-use borrow.Author.Tests.{ne_eqb}
+use borrow.Author.Tests.{eq-eqb, ne_eqb}
 use mir.Syntax.{w64}
 use mir.Val.{of_z}
 use Rattle.le.specs.Bytes.{enc}
-use Rattle.block.specs.Block.{block_length, filled, bit, with_flags, line_up, Line, line}
+use Rattle.block.specs.Block.{block_length, flags_in, mask_in, filled, bit, with_flags, line_up, Line, line}
 
 pub bit_zero : (f : ℕ) → eqb (f % 2) 1 ≡ bit 0 f
 bit_zero f = let e : f ≡ f / 2 ^ 0 = omega arith in ap (λ (y : ℕ). eqb (y % 2) 1) e
@@ -36,6 +36,19 @@ module _ (b : List ℕ) where
   pub line_17 : (length b ≡ block_length → ⊥) → (17 ≡ (line b).number) × (0 ≡ (line b).up)
   unfolding line
   line_17 d = rw (ne_eqb (length b) block_length d) (refl, refl)
+
+  module _ (l : length b ≡ block_length) (u p q a a' c c' : Bool) (eu : u ≡ (p || q)) (ep : p ≡ (a && a')) (eq : q ≡ (c && c')) (ea : a ≡ bit 0 (flags_in b)) (ea' : a' ≡ bit 0 (mask_in b)) (ec : c ≡ bit 1 (flags_in b)) (ec' : c' ≡ bit 1 (mask_in b)) where
+    up_is : line_up b ≡ u
+    unfolding line_up
+    up_is = sym (eu ∙ ap₂ (λ (y z : Bool). y || z) (ep ∙ ap₂ (λ (y z : Bool). y && z) ea ea') (eq ∙ ap₂ (λ (y z : Bool). y && z) ec ec'))
+
+    pub line_up_lem : u ≡ true → (0 ≡ (line b).number) × (1 ≡ (line b).up)
+    unfolding line
+    line_up_lem h = rw (eq-eqb (length b) block_length l, up_is, h) (refl, refl)
+
+    pub line_down : u ≡ false → (0 ≡ (line b).number) × (0 ≡ (line b).up)
+    unfolding line
+    line_down h = rw (eq-eqb (length b) block_length l, up_is, h) (refl, refl)
 
 -- a refused line is down
 pub line_refused : (b : List ℕ) → ((line b).number ≡ 0 → ⊥) → (line b).up ≡ 0

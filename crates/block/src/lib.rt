@@ -125,11 +125,10 @@ pub fn clear(block: &mut [u8], byte: u8)
 }
 
 // A command or a refused write ends: status and flags.
-fn end(block: &mut [u8], outcome: Result<(), Refusal>, waits: bool)
-    requires { length block.old ≡ 24 }
-    ensures { block.new ≡ board.ended (code_of outcome) waits block.old }
+fn end(block: &mut [u8], number: u32, waits: bool)
+    requires { (length block.old ≡ 24) × (number < 256) }
+    ensures { block.new ≡ board.ended number waits block.old }
 {
-    let number = refusal::code(outcome);
     let f = block[FLAGS];
     block[STATUS] = number as u8;
     block[FLAGS] = raised(f, number, waits);
@@ -141,17 +140,18 @@ pub fn refuse(block: &mut [u8]) -> Refusal
     ensures number { number_of result ≡ 17 }
     ensures block { block.new ≡ board.ended 17 false block.old }
 {
-    end(block, Err(Refusal::BadWrite), false);
-    Refusal::BadWrite
+    let refused = Refusal::BadWrite;
+    end(block, refused.number(), false);
+    refused
 }
 
-// A command ends, with its outcome; whether an output waits.
-pub fn end_command(block: &mut [u8], command: u8, outcome: Result<(), Refusal>, waits: bool)
-    requires { length block.old ≡ 24 }
-    ensures { block.new ≡ board.ended (code_of outcome) waits (set block.old board.command_at command) }
+// A command ends, with its number; whether an output waits.
+pub fn end_command(block: &mut [u8], command: u8, number: u32, waits: bool)
+    requires { (length block.old ≡ 24) × (number < 256) }
+    ensures { block.new ≡ board.ended number waits (set block.old board.command_at command) }
 {
     block[COMMAND] = command;
-    end(block, outcome, waits);
+    end(block, number, waits);
 }
 
 // Whether a flag and its mask bit are both set.

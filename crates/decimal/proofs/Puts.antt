@@ -28,15 +28,6 @@ put_length {l} {at} {v} x = ap length x.bytes ∙ length-sets l at v
 
 -- ## The loop over a word
 
-pub word_turn : (l w : List ℕ) (p i : ℕ) → i < length w → sets (set l p (get_or w i 0)) (p + 1) (drop (i + 1) w) ≡ sets l p (drop i w)
-word_turn l w p i h =
-    let e : i + 1 ≡ suc i = omega arith in
-    let f : p + 1 ≡ suc p = omega arith in
-    rw (e, f, drop-cons w i 0 h)
-
-pub word_end : (l w : List ℕ) (p i : ℕ) → length w ≤ i → sets l p (drop i w) ≡ l
-word_end l w p i h = rw (drop_of_length-le w h)
-
 -- ## Digits
 
 pub digits_most : (f n : ℕ) → length (digits f n) ≤ f

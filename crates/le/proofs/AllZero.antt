@@ -1,5 +1,5 @@
 -- Laws of bytes that are all 0.
-use Prim.Native.Nat.{ℕ, zero, suc, ◌+◌, ◌*◌, ◌/◌, ◌%◌, ◌<◌, ◌≤◌, max}
+use Prim.Native.Nat.{ℕ, zero, suc, ◌+◌, ◌*◌, ◌/◌, ◌%◌, ◌<◌, max}
 use mathlib.Core.Path.{◌≡◌, refl, sym, ap, ap₂, ◌∙◌}
 use mathlib.Core.Bool.{Bool, true, false, cond}
 use mathlib.Core.List.{List, [], ◌∷◌}
@@ -9,7 +9,7 @@ use borrow.Author.Tests.{eq-eqb, ne_eqb}
 use lib.Arith.{bin_ind}
 use lib.Bits.{bit_or, or_step}
 use lib.Dec.{eqb}
-use lib.ListN.{length, get_or, take, drop, drop_of_length-le}
+use lib.ListN.{length, get_or, take, drop}
 use lib.Seq.{drop-cons, take-take, drop-drop}
 use Rattle.std.specs.Bool.{MatchBool}
 use Rattle.std.specs.List.{AllWithin, HoldsAt}
@@ -45,10 +45,6 @@ zero_one s i h = rw (drop-cons s i 0 h) (go (eqb (get_or s i 0) 0))
     go : (p : Bool) → cond p true false ≡ p
     go true = refl
     go false = refl
-
-pub zero_end : (s : List ℕ) (i : ℕ) → length s ≤ i → all_zero (drop i s) ≡ true
-unfolding all_zero
-zero_end s i h = ap all_zero (drop_of_length-le s h)
 
 or_none : (x : ℕ) (y : ℕ) → bit_or x y ≡ 0 → (x ≡ 0) × (y ≡ 0)
 or_none = bin_ind (λ (x : ℕ). (y : ℕ) → bit_or x y ≡ 0 → (x ≡ 0) × (y ≡ 0)) (λ y e. (refl, e)) (λ x ih y e. step x y (ih (y / 2)) (sym (or_step x y) ∙ e))

@@ -7,7 +7,7 @@ ghost use Rattle.decimal.specs.Put.{Put};
 
 // The name with this stored number; empty if no operator has it.
 #[tactic(auto, unfolding(operators::specs::Operators::name_of))]
-pub fn name(op: u64) -> &'static [u8]
+fn name(op: u64) -> &'static [u8]
     ensures { result.now ≡ name_of op }
 {
     match op {

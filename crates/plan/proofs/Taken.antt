@@ -34,7 +34,8 @@ use Rattle.render.proofs.Back.{stream_read}
 use Rattle.render.proofs.Heads.{head_fits, head_read}
 use Rattle.plan.specs.Rules.{keeps, all_keep, Form, refused, formed, put, others, streams, eqn_from, declared_from, plan_from, all_widths, windows_ok, number_after, number_of_head, number, declared}
 use Rattle.plan.specs.Taken.{StreamKeeps, Each, KeepsRules}
-use Rattle.plan.proofs.Forms.{fields_in, end_in, clash, refusal_some}
+use Rattle.refusal.proofs.Laws.{refusal_some}
+use Rattle.plan.proofs.Forms.{fields_in, end_in, clash}
 use Rattle.plan.proofs.Noted.{Sound, All, read_sound}
 use Rattle.plan.proofs.Rendered.{same_plan, render_taken}
 

@@ -35,7 +35,7 @@ pub enum Refusal {
     NoOutput,
     // Collect: nothing waits.
     Nothing,
-    // The bytes are no state.
+    // The bytes are no state, or a buffer has no state's length.
     BadState,
     // A line of a trace that can't be read.
     BadLine,

@@ -75,13 +75,13 @@ fn command(state: &mut [u8], block: &mut [u8], command: u8) -> Result<(), Refusa
     match valid::streams(state) {
         Some(n) => {
             let outcome = perform(state, n, block, command);
-            block::end_command(block, command, outcome, waits(state, n));
+            block::end_command(block, command, refusal::code(outcome), waits(state, n));
             outcome
         }
         None => {
-            let outcome = Err(Refusal::BadState);
-            block::end_command(block, command, outcome, false);
-            outcome
+            let refused = Refusal::BadState;
+            block::end_command(block, command, refused.number(), false);
+            Err(refused)
         }
     }
 }

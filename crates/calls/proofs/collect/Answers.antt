@@ -8,7 +8,7 @@ use mir.Syntax.{w64}
 use mir.Facts.{to_z-of_z}
 use native.Mathlib.Omega.{arith}
 use Rattle.calls.proofs.Replies
-use Rattle.calls.proofs.Refused.{some_number}
+use Rattle.refusal.proofs.Laws.{some_number}
 use Rattle.calls.proofs.collect.Goals as goal
 
 pub check_collect-requires : goal.check_collect-requires

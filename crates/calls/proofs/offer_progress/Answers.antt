@@ -6,7 +6,7 @@ use Rattle.roundtrip.proofs.In.{room_for}
 use Rattle.calls.specs.Reply.{Reply}
 use native.Mathlib.Omega.{arith}
 use Rattle.calls.proofs.Replies
-use Rattle.calls.proofs.Refused.{some_number}
+use Rattle.refusal.proofs.Laws.{some_number}
 use Rattle.calls.proofs.offer_progress.Goals as goal
 
 pub check_progress-requires : goal.check_progress-requires

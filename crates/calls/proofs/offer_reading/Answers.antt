@@ -9,7 +9,7 @@ use mir.Val.{of_z}
 use mir.Facts.{to_z-of_z}
 use native.Mathlib.Omega.{arith}
 use Rattle.calls.proofs.Replies
-use Rattle.calls.proofs.Refused.{some_number}
+use Rattle.refusal.proofs.Laws.{some_number}
 use Rattle.calls.proofs.offer_reading.Goals as goal
 
 pub check_reading-requires : goal.check_reading-requires

@@ -7,7 +7,7 @@ use native.Mathlib.Omega.{arith}
 use Rattle.roundtrip.proofs.In.{tested_state, tested_none}
 use Rattle.calls.specs.Reply.{Reply}
 use Rattle.calls.proofs.Answers.{reply_state, reply_none, refused_plain}
-use Rattle.calls.proofs.Refused.{some_number}
+use Rattle.refusal.proofs.Laws.{some_number}
 use Rattle.machine.specs.Calls.{collecting}
 use Rattle.engine.proofs.tessla_collect.Goals as goal
 

@@ -2,7 +2,7 @@
 use mathlib.Core.Path.{refl, sym, ap, ◌∙◌}
 use Rattle.calls.specs.Reply.{Reply}
 use Rattle.engine.proofs.Loads.{load_15, load_number, load_stays, load_fills}
-use Rattle.plan.proofs.Forms.{refusal_some}
+use Rattle.refusal.proofs.Laws.{refusal_some}
 use native.Mathlib.Omega.{arith}
 use lib.ListN.{length}
 use Rattle.operators.proofs.Sizes.{capacity_fits, capacity_few}

@@ -2,7 +2,7 @@
 use mathlib.Core.Path.{refl, sym, ap, ◌∙◌}
 use Rattle.roundtrip.proofs.In.{tested_state, tested_none}
 use Rattle.machine.specs.Calls.{Missing}
-use Rattle.calls.proofs.Refused.{some_number}
+use Rattle.refusal.proofs.Laws.{some_number}
 use Rattle.counts.proofs.Cases.{reply_state, reply_none, missing_refused}
 use Rattle.engine.proofs.tessla_missing.Goals as goal
 

@@ -1,7 +1,7 @@
 -- `engine::tessla_plan_text` meets its contract.
 use mathlib.Core.Path.{refl, sym, ap, ◌∙◌}
 use Rattle.roundtrip.proofs.In.{tested_state, tested_none}
-use Rattle.calls.proofs.Refused.{some_number}
+use Rattle.refusal.proofs.Laws.{some_number}
 use Rattle.writing.specs.Text.{TextReply}
 use Rattle.writing.proofs.Cases.{text_state, text_none, text_refused}
 use Rattle.engine.proofs.tessla_plan_text.Goals as goal

@@ -3,7 +3,7 @@ use mathlib.Core.Path.{◌≡◌, refl, sym, ◌∙◌}
 use mathlib.Core.Bool.{Bool, true, false, cond}
 use mir.Val.{bool_byte}
 use Rattle.block.proofs.Flags.{line_refused}
-use Rattle.calls.proofs.Refused.{some_number}
+use Rattle.refusal.proofs.Laws.{some_number}
 use Rattle.engine.proofs.tessla_register_line.Goals as goal
 
 byte_of : (b : Bool) → bool_byte b ≡ cond b 1 0

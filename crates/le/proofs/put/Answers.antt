@@ -1,6 +1,5 @@
-use mathlib.Core.Path.{refl, ◌∙◌}
+use mathlib.Core.Path.{◌∙◌}
 use native.Mathlib.Omega.{arith}
-use native.Mathlib.Nat.{add-zero, sub-zero}
 use Rattle.le.proofs.Laws.{put_turn, put_done}
 use lib.ListN.{length-set}
 use Rattle.le.proofs.put.Goals as goal

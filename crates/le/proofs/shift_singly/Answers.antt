@@ -1,9 +1,7 @@
-use Prim.Native.Nat.{◌+◌, ◌-◌}
-use mathlib.Core.Path.{refl, ◌∙◌}
-use native.Mathlib.Nat.{add-zero, sub-zero}
+use mathlib.Core.Path.{◌∙◌}
 use native.Mathlib.Omega.{arith}
 use lib.ListN.{length-set}
-use Rattle.le.proofs.Laws.{shift_turn, shift_done}
+use Rattle.le.proofs.Laws.{shift_turn}
 use Rattle.le.proofs.shift_singly.Goals as goal
 
 pub loop-moved-preserved : goal.loop-moved-preserved

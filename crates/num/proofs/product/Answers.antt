@@ -1,6 +1,5 @@
 use mathlib.Core.Path.{◌∙◌}
-use Rattle.num.proofs.Arith.{low_low, by_halves, halves_low, high_high}
-use native.Mathlib.Omega.{arith}
+use Rattle.num.proofs.Arith.{by_halves, halves_low}
 use Rattle.num.proofs.product.Goals as goal
 
 pub returns-then-mh-eq0 : goal.returns-then-mh-eq0

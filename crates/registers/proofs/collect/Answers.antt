@@ -8,7 +8,7 @@ use mir.Facts.{to_z-of_z}
 use Rattle.machine.specs.Calls.{collecting}
 use Rattle.block.specs.Block.{stream_in, filled}
 use Rattle.calls.specs.Reply.{Reply, reply_in}
-use Rattle.calls.proofs.Refused.{some_number}
+use Rattle.refusal.proofs.Laws.{some_number}
 use Rattle.registers.proofs.Commands.{value_fits, answered_refused, answered_done}
 use Rattle.registers.proofs.collect.Goals as goal
 
