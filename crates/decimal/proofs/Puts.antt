@@ -7,8 +7,8 @@ use lib.IntN.{ℤ, pos, negsuc}
 use mir.Syntax.{w64}
 use mir.Val.{SFits, of_z, to_z}
 use mir.Facts.{to_z-of_z, to_z_pos, to_z-neg}
-use lib.ListN.{length, get_or, take, drop, set, length-append, drop_of_length-le}
-use lib.Seq.{sets, length-sets, drop-cons, sets-eq, set_comm, take_at, length-take-le}
+use lib.ListN.{length, take, drop, set, length-append}
+use lib.Seq.{sets, length-sets, sets-eq, set_comm, take_at, length-take-le}
 use Rattle.le.proofs.RoundTrip.{sets_append}
 use Rattle.decimal.specs.Decimal.{digits, decimal, most_digits, value_text}
 use Rattle.decimal.proofs.Digits.{digit_one, digit_more, small_or}
