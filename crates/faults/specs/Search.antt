@@ -1,19 +1,14 @@
 -- How: what an answer tells of a text, and the graph of a text that is searched for a cycle.
-use Rattle.std.specs.Prelude.{ℕ, ◌<◌, ◌≡◌, true, List, Option, Some, None, IfSome, Ok}
+use Rattle.std.specs.Prelude.{ℕ, ◌<◌, ◌≡◌, true, List, Option, unwrap_or, IfSome, Ok}
 use Rattle.plan.specs.Rules.{all_keep, Form, refused, formed, plan_from}
 use Rattle.plan.specs.Pass.{noted_all}
 use Rattle.marks.specs.Marks.{LowestTo}
 use Rattle.faults.specs.declared.Fault.{Fault}
 use Rattle.faults.specs.Faults.{none, Lowest, plan_of, fault_of_head}
 
--- the fault that an answer tells
-abbrev pub shown : Option Fault → Fault
-shown None = none
-shown (Some f) = f
-
 -- an answer tells this fault: none, or one that has a number and a line
 abbrev pub Tells : Option Fault → Fault → Type 0
-Tells r g = (shown r ≡ g) × IfSome r (λ f. (0 < f.number) × (0 < f.line))
+Tells r g = (unwrap_or r none ≡ g) × IfSome r (λ f. (0 < f.number) × (0 < f.line))
 
 -- all streams of a text that was read keep rule 5
 abbrev pub Kept : ℕ → Form → Type 0

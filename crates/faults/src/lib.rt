@@ -8,15 +8,15 @@ ghost use Rattle.operators.specs.Limits.{most_streams};
 ghost use Rattle.operators.specs.Rules.{arg_ok};
 ghost use Rattle.refusal.specs.Numbers.{number_of};
 ghost use Rattle.plan.specs.Rules.{streams, number};
-ghost use Rattle.faults.specs.Faults.{in_stream, head_line, field_line, stream_line, form_fault, field_broken, rule_fault, width_fault, ninth_fault, window_fault, Found};
-ghost use Rattle.faults.specs.Search.{shown, Tells, Kept, noted_form, LowestIn, FoundAfter};
+ghost use Rattle.faults.specs.Faults.{none, in_stream, head_line, field_line, stream_line, form_fault, field_broken, rule_fault, width_fault, ninth_fault, window_fault, Found};
+ghost use Rattle.faults.specs.Search.{Tells, Kept, noted_form, LowestIn, FoundAfter};
 
 use cycle::GRAPH;
 use operators::Plan;
 use refusal::Refusal;
 use text::Fields;
 
-// What is wrong with a plan text: load's number, the line, counted from 1, and the stream. Line 0 is no line.
+// What is wrong with a plan text: load's number, the line, counted from 1, and the stream. Line 0: the text is too long.
 #[derive(Clone, Copy)]
 pub struct Fault {
     pub number: u32,
@@ -58,9 +58,10 @@ fn field_line(text: &[u8], at: usize) -> usize
         return 2;
     };
     if lines::value_line(text, q).is_none() {
-        return 3;
+        3
+    } else {
+        4
     }
-    4
 }
 
 // Which of the five lines of a refused stream is wrong.
@@ -210,7 +211,7 @@ fn on_cycle(text: &[u8], at: usize, n: usize) -> Option<usize>
 // The fault of a text whose first two lines announce n streams, the first of them at a position.
 fn plan_fault(text: &[u8], n: usize, at: usize, most: usize) -> Option<Fault>
     requires { (most ≤ most_streams) × (n ≤ most) × (head most text.now ≡ Ok (n, at)) }
-    ensures { FoundAfter most text.now n at (shown result) × IfSome result (λ f. 0 < f.number) }
+    ensures { FoundAfter most text.now n at (unwrap_or result none) × IfSome result (λ f. 0 < f.number) }
 {
     if let Some(f) = form_fault(text, at, n) {
         return Some(f);
@@ -228,8 +229,8 @@ fn plan_fault(text: &[u8], n: usize, at: usize, most: usize) -> Option<Fault>
 // Where a plan text is wrong, for a state with room for so many streams; none if it is taken.
 pub fn find(text: &[u8], most: usize) -> Option<Fault>
     requires { most ≤ most_streams }
-    ensures number_value { (shown result).number ≡ number most text.now }
-    ensures found { Found most text.now (shown result) }
+    ensures number_value { (unwrap_or result none).number ≡ number most text.now }
+    ensures found { Found most text.now (unwrap_or result none) }
     ensures numbered { IfSome result (λ f. 0 < f.number) }
 {
     if Plan::TEXT < text.len() {

@@ -2,21 +2,14 @@
 use Prim.Native.Nat.{ℕ, ◌+◌, ◌*◌}
 use Rattle.refusal.specs.Numbers.{number_of}
 use mathlib.Core.Path.{◌≡◌, sym, ap, ◌∙◌}
-use native.Mathlib.Nat.{sub-zero}
 use lib.Dec.{lit<}
 use Rattle.faults.specs.Faults.{fault, in_stream}
 use Rattle.faults.proofs.Walk.{form_go, form_halt, form_right, form_left_over}
 use native.Mathlib.Omega.{arith}
 use Rattle.faults.proofs.form_fault.Goals as goal
 
-pub loop-i-init : goal.loop-i-init
-loop-i-init c = simp sub-zero
-
 pub loop-i-preserved : goal.loop-i-preserved
 loop-i-preserved c = form_go c.args.text.now c.args.n c.loop-i.i c.loop-i.p (omega arith) c.in-Ok.f (sym c.in-Ok.ensures) ∙ c.loop-i.invariant
-
-pub in_stream-requires : goal.in_stream-requires
-in_stream-requires c = (omega arith, c.stream_line-j.ensures.1)
 
 pub returns-in-Err : goal.returns-in-Err
 returns-in-Err c = (c.in_stream.ensures.0 ∙ ap (in_stream (number_of c.in-Err.r) c.loop-i.i) c.stream_line-j.ensures.0 ∙ form_halt c.args.text.now c.args.n c.loop-i.i c.loop-i.p (omega arith) c.in-Err.r (sym c.in-Err.ensures) ∙ c.loop-i.invariant, c.in_stream.ensures.1)

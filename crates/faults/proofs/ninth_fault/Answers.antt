@@ -1,24 +1,13 @@
 -- `faults::ninth_fault` meets its contract.
 use mathlib.Core.Path.{sym, ◌∙◌}
-use native.Mathlib.Nat.{sub-zero}
-use lib.Dec.{lit<}
 use Rattle.faults.specs.Faults.{ninth_rule}
 use Rattle.faults.proofs.Walk.{stream_ok, first_halt, first_end, ninth_window, ninth_other, ninth_broken}
 use native.Mathlib.Omega.{arith}
 use Rattle.faults.proofs.ninth_fault.Goals as goal
 use Rattle.faults.proofs.ninth_fault.Goals.{then-is_window+else-w-ge-WINDOWS, else-is_window}
 
-pub loop-i-init : goal.loop-i-init
-loop-i-init c = (omega arith, simp sub-zero)
-
-pub in_stream-requires : goal.in_stream-requires
-in_stream-requires c = (omega arith, lit< tt)
-
 pub returns-then-w-ge-WINDOWS : goal.returns-then-w-ge-WINDOWS
 returns-then-w-ge-WINDOWS c = (c.in_stream.ensures.0 ∙ ninth_broken c.args.text.now c.args.n c.loop-i.w c.loop-i.i c.loop-i.p (omega arith) c.in_ok-f.f (stream_ok c.read_stream.ensures c.in_ok-f.ensures.value) (sym c.is_window.ensures ∙ c.if-is_window.true) (omega arith) ∙ c.loop-i.invariant.1, c.in_stream.ensures.1)
-
-pub overflow_add-w : goal.overflow_add-w
-overflow_add-w c = omega arith
 
 pub loop-i-preserved : goal.loop-i-preserved
 loop-i-preserved c = elim c.if-is_window.branch [

@@ -1,6 +1,5 @@
 -- `faults::plan_fault` meets its contract.
 use mathlib.Core.Path.{refl, sym, subst}
-use lib.Dec.{lit<}
 use Rattle.faults.specs.Search.{FoundAfter}
 use Rattle.faults.proofs.Says.{no_line, both_none}
 use Rattle.faults.proofs.Number.{found_form, found_rule, found_window, found_none, found_cycle}
@@ -21,9 +20,6 @@ on_cycle-requires c = (omega arith, both_none c.args.text.now c.args.n c.args.at
 
 pub returns-in_err-c : goal.returns-in_err-c
 returns-in_err-c c = rw c.from_residual.ensures (found_none c.args.most c.args.text.now c.args.n c.args.at (no_line c.in_default.ensures.0) (no_line c.in_default-rule_fault.ensures.0) (no_line c.in_default-window_fault.ensures.0) c.requires.2 c.requires.1 c.args.n (both_none c.args.text.now c.args.n c.args.at (no_line c.in_default.ensures.0) (no_line c.in_default-rule_fault.ensures.0)) c.in_err-c.ensures.0 refl, tt)
-
-pub in_stream-requires : goal.in_stream-requires
-in_stream-requires c = (omega (arith, c.in_ok-c.ensures.1), lit< tt)
 
 pub returns : goal.returns
 returns c = (subst (FoundAfter c.args.most c.args.text.now c.args.n c.args.at) (sym c.in_stream.ensures.0) (found_cycle c.args.most c.args.text.now c.args.n c.args.at (no_line c.in_default.ensures.0) (no_line c.in_default-rule_fault.ensures.0) (no_line c.in_default-window_fault.ensures.0) c.requires.2 c.requires.1 c.in_ok-c.c (both_none c.args.text.now c.args.n c.args.at (no_line c.in_default.ensures.0) (no_line c.in_default-rule_fault.ensures.0)) c.in_ok-c.ensures.0 (λ z. omega (arith, c.in_ok-c.ensures.1))), c.in_stream.ensures.1.0)

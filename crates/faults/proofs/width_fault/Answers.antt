@@ -1,18 +1,9 @@
 -- `faults::width_fault` meets its contract.
--- `faults::width_fault` meets its contract.
 use mathlib.Core.Path.{sym, ◌∙◌}
-use native.Mathlib.Nat.{sub-zero}
-use lib.Dec.{lit<}
 use Rattle.faults.specs.Faults.{width_rule}
 use Rattle.faults.proofs.Walk.{stream_ok, first_go, first_broken_lem, first_halt, first_end}
 use native.Mathlib.Omega.{arith}
 use Rattle.faults.proofs.width_fault.Goals as goal
-
-pub loop-i-init : goal.loop-i-init
-loop-i-init c = simp sub-zero
-
-pub in_stream-requires : goal.in_stream-requires
-in_stream-requires c = (omega arith, lit< tt)
 
 pub returns-then-not-width_ok : goal.returns-then-not-width_ok
 returns-then-not-width_ok c = (c.in_stream.ensures.0 ∙ first_broken_lem width_rule c.args.text.now c.args.n 0 c.loop-i.i c.loop-i.p (omega arith) c.in_ok-f.f (stream_ok c.read_stream.ensures c.in_ok-f.ensures.value) (sym c.width_ok.ensures ∙ c.if-not-width_ok.true) ∙ c.loop-i.invariant, c.in_stream.ensures.1)

@@ -1,5 +1,4 @@
 -- `faults::width_fault` meets its contract.
--- `faults::width_fault` meets its contract.
 use Prim.Native.Nat.{◌-◌}
 use mathlib.Core.Path.{◌≡◌}
 use Rattle.faults.specs.Faults.{first_broken, width_rule, width_fault}
