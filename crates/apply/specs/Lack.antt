@@ -1,13 +1,11 @@
 -- How: what the code answers of a missing event.
-use Rattle.std.specs.Prelude.{Bool, true, false}
-use Rattle.meaning.specs.Missing.{Reason, outside, divisor}
-use Rattle.apply.specs.declared.Lack.{Lack}
-use Rattle.apply.specs.declared.Lack.TheVariants.{No, Outside, ZeroDivisor}
+use Rattle.std.specs.Prelude.{Bool, true, false, Option, None, Some}
+use Rattle.meaning.specs.Missing.{Reason, Outside, ZeroDivisor}
 
 -- an event is missing, for this reason
-abbrev pub lack_for : Reason → Lack → Bool
-lack_for q No = false
-lack_for outside Outside = true
-lack_for outside ZeroDivisor = false
-lack_for divisor Outside = false
-lack_for divisor ZeroDivisor = true
+abbrev pub lack_for : Reason → Option Reason → Bool
+lack_for q None = false
+lack_for Outside (Some Outside) = true
+lack_for Outside (Some ZeroDivisor) = false
+lack_for ZeroDivisor (Some Outside) = false
+lack_for ZeroDivisor (Some ZeroDivisor) = true

@@ -1,7 +1,7 @@
 -- The flags' byte and the line, as the code works them out.
 use Prim.Native.Nat.{ℕ, ◌+◌, ◌*◌, ◌/◌, ◌%◌, ◌^◌, ◌≤◌}
 use mathlib.Core.Path.{◌≡◌, refl, sym, ap, ap₂, ◌∙◌}
-use mathlib.Core.Bool.{Bool, true, false, not, cond, ◌&&◌, ◌||◌}
+use mathlib.Core.Bool.{Bool, true, false, cond, ◌&&◌, ◌||◌}
 use mathlib.Core.List.{List}
 use native.Mathlib.Omega.{arith}
 use lib.Dec.{eqb}
@@ -12,7 +12,7 @@ use borrow.Author.Tests.{eq-eqb, ne_eqb}
 use mir.Syntax.{w64}
 use mir.Val.{of_z}
 use Rattle.le.specs.Bytes.{enc}
-use Rattle.block.specs.Block.{block_length, flags_in, mask_in, filled, bit, with_flags, cleared, raised, line_up, Line, line}
+use Rattle.block.specs.Block.{block_length, flags_in, mask_in, filled, bit, with_flags, line_up, Line, line}
 
 pub bit_zero : (f : ℕ) → eqb (f % 2) 1 ≡ bit 0 f
 bit_zero f = let e : f ≡ f / 2 ^ 0 = omega arith in ap (λ (y : ℕ). eqb (y % 2) 1) e
@@ -27,17 +27,6 @@ flags_are f u v zero one eu ev = ap₂ (λ (y z : ℕ). f / 4 * 4 + (y + z)) eu 
 pub weight_most : (b : Bool) (k : ℕ) → cond b k 0 ≤ k
 weight_most true k = omega arith
 weight_most false k = omega arith
-
--- each flag by its own two tests
-pub cleared_is : (f x r : ℕ) (p q a a' c c' : Bool) → r ≡ with_flags f p q → p ≡ (a && a') → q ≡ (c && c') → a ≡ bit 0 f → a' ≡ not (bit 0 x) → c ≡ bit 1 f → c' ≡ not (bit 1 x) → r ≡ cleared f x
-unfolding cleared
-cleared_is f x r p q a a' c c' er ep eq ea ea' ec ec' =
-    er ∙ ap₂ (with_flags f) (ep ∙ ap₂ (λ (y z : Bool). y && z) ea ea') (eq ∙ ap₂ (λ (y z : Bool). y && z) ec ec')
-
-pub raised_is : (f n : ℕ) (w : Bool) (r : ℕ) (p q a c : Bool) → r ≡ with_flags f p q → p ≡ (a || not (eqb n 0)) → q ≡ (c || w) → a ≡ bit 0 f → c ≡ bit 1 f → r ≡ raised f n w
-unfolding raised
-raised_is f n w r p q a c er ep eq ea ec =
-    er ∙ ap₂ (with_flags f) (ep ∙ ap (λ (y : Bool). y || not (eqb n 0)) ea) (eq ∙ ap (λ (y : Bool). y || w) ec)
 
 pub filled_is : (b b₁ b₂ : List ℕ) (t u : ℕ) (v : ℤ) → b₁ ≡ sets b 8 (enc 8 u) → u ≡ of_z w64 v → b₂ ≡ sets b₁ 20 (enc 4 t) → b₂ ≡ filled t v b
 unfolding filled

@@ -1,9 +1,12 @@
 // The reader board's block of 24 bytes: the only functions that know where a register lies, the interrupt flags, and the line.
 #![tactic(auto)]
 
-ghost use Rattle.std.specs.Prelude.{◌≡◌, false, cond, ◌&&◌, ◌||◌, ◌<◌, length, set};
+ghost use Rattle.std.specs.Prelude.{◌≡◌, false, cond, ◌&&◌, ◌||◌, ◌<◌, length, set, IfOk};
+ghost use Rattle.refusal.specs.Numbers.{number_of, code_of};
 ghost use Rattle.block.specs.Block.{bit, with_flags, stream_in, stamp_in, value_in};
 ghost use Rattle.block.specs.Block as board;
+
+use refusal::Refusal;
 
 // How many bytes the block has.
 pub const LENGTH: usize = 24;
@@ -26,9 +29,6 @@ const MASK: usize = 19;
 
 const REPLY_STAMP: usize = 20;
 
-// The number of a block of another length, and of a refused write.
-pub const REFUSED: u32 = 17;
-
 // Whether bit 0 is set.
 fn bit0(f: u8) -> bool
     ensures { result ≡ bit 0 f }
@@ -43,32 +43,11 @@ fn bit1(f: u8) -> bool
     f / 2 % 2 == 1
 }
 
-fn either(a: bool, b: bool) -> bool
-    ensures { result ≡ (a || b) }
-{
-    if a {
-        return true;
-    }
-    b
-}
-
-fn both(a: bool, b: bool) -> bool
-    ensures { result ≡ (a && b) }
-{
-    if a {
-        return b;
-    }
-    false
-}
-
 // What a flag adds to the byte.
 fn weight(flag: bool, bit: u8) -> u8
     ensures { result ≡ cond flag bit 0 }
 {
-    if flag {
-        return bit;
-    }
-    0
+    if flag { bit } else { 0 }
 }
 
 // The byte with these flags, its other bits as they are.
@@ -82,14 +61,18 @@ fn with_flags(f: u8, zero: bool, one: bool) -> u8
 fn cleared(f: u8, x: u8) -> u8
     ensures { result ≡ board.cleared f x }
 {
-    with_flags(f, both(bit0(f), !bit0(x)), both(bit1(f), !bit1(x)))
+    let zero = bit0(f) && !bit0(x);
+    let one = bit1(f) && !bit1(x);
+    with_flags(f, zero, one)
 }
 
 // The flags after a command or a refused write has ended.
 fn raised(f: u8, number: u32, waits: bool) -> u8
     ensures { result ≡ board.raised f number waits }
 {
-    with_flags(f, either(bit0(f), number != 0), either(bit1(f), waits))
+    let zero = bit0(f) || number != 0;
+    let one = bit1(f) || waits;
+    with_flags(f, zero, one)
 }
 
 // The stream that the block names.
@@ -151,14 +134,15 @@ fn end(block: &mut [u8], number: u32, waits: bool)
     block[FLAGS] = raised(f, number, waits);
 }
 
-// A write is refused.
-pub fn refuse(block: &mut [u8]) -> u32
+// A write is refused; the reason.
+pub fn refuse(block: &mut [u8]) -> Refusal
     requires { length block.old ≡ 24 }
-    ensures number { result ≡ 17 }
+    ensures number { number_of result ≡ 17 }
     ensures block { block.new ≡ board.ended 17 false block.old }
 {
-    end(block, REFUSED, false);
-    REFUSED
+    let refused = Refusal::BadWrite;
+    end(block, refused.number(), false);
+    refused
 }
 
 // A command ends, with its number; whether an output waits.
@@ -170,19 +154,20 @@ pub fn end_command(block: &mut [u8], command: u8, number: u32, waits: bool)
     end(block, number, waits);
 }
 
-// Whether the line is up: a flag and its mask bit are both set.
-pub fn line(block: &[u8], up: &mut u32) -> u32
-    ensures number { result ≡ (board.line block.now).number }
-    ensures up { up.new ≡ (board.line block.now).up }
+// Whether a flag and its mask bit are both set.
+fn is_up(flags: u8, mask: u8) -> bool
+    ensures { result ≡ ((bit 0 flags && bit 0 mask) || (bit 1 flags && bit 1 mask)) }
 {
-    *up = 0;
+    (bit0(flags) && bit0(mask)) || (bit1(flags) && bit1(mask))
+}
+
+// Whether the line is up.
+pub fn line(block: &[u8]) -> Result<bool, Refusal>
+    ensures number { code_of result ≡ (board.line block.now).number }
+    ensures up { IfOk result (λ up. cond up 1 0 ≡ (board.line block.now).up) }
+{
     if block.len() != LENGTH {
-        return REFUSED;
+        return Err(Refusal::BadWrite);
     }
-    let f = block[FLAGS];
-    let m = block[MASK];
-    if either(both(bit0(f), bit0(m)), both(bit1(f), bit1(m))) {
-        *up = 1;
-    }
-    0
+    Ok(is_up(block[FLAGS], block[MASK]))
 }

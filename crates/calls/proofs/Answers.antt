@@ -2,7 +2,7 @@
 use Prim.Native.Nat.{ℕ, ◌<◌}
 use mathlib.Core.Path.{◌≡◌, refl, sym, ap, ap₂, ◌∙◌}
 use mathlib.Core.Bool.{Bool, true, false}
-use mathlib.Core.Option.{some}
+use Rattle.std.specs.Prelude.{Some}
 use mathlib.Core.List.{List}
 use native.Mathlib.Decide.{ℕ_discrete}
 use lib.Dec.{lit<}
@@ -68,8 +68,8 @@ handed_event s b i = go (valid s) refl
     handed : valid s ≡ true → Dec ((collect i (state_in s)).number ≡ 0) → ((reply (collecting i) s).stamp < horizon) × IsValue (reply (collecting i) s).value
     handed v (yes e) =
         let d = collect_done i (state_in s) (valid_sound s b v) e in
-        let o : call (collecting i) (state_in s) ≡ hand_out (some d.event) i (state_in s) = unfold call in d.outcome in
-        rw (reply_state (collecting i) s v, reply_of_lem (collecting i) s (hand_out (some d.event) i (state_in s)) o) (d.stamp, d.value)
+        let o : call (collecting i) (state_in s) ≡ hand_out (Some d.event) i (state_in s) = unfold call in d.outcome in
+        rw (reply_state (collecting i) s v, reply_of_lem (collecting i) s (hand_out (Some d.event) i (state_in s)) o) (d.stamp, d.value)
     handed v (no z) = rw (refused_plain (collecting i) s b (rw (reply_state (collecting i) s v) (unfold reply_in call in z))) (lit< tt, lit< tt)
 
     go : (p : Bool) → valid s ≡ p → ((reply (collecting i) s).stamp < horizon) × IsValue (reply (collecting i) s).value

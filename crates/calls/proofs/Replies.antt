@@ -3,7 +3,7 @@ use Prim.Native.Nat.{ℕ, suc, ◌<◌, ◌≤◌}
 use mathlib.Core.Path.{◌≡◌, refl, sym, ap, ap₂, ◌∙◌}
 use mathlib.Core.List.{List, [], ◌∷◌, map}
 use mathlib.Core.Bool.{Bool, true, false, not, cond}
-use mathlib.Core.Option.{Option, none, some}
+use Rattle.std.specs.Prelude.{Option, None, Some}
 use native.Mathlib.Omega.{arith}
 use lib.Dec.{ltb, leb}
 use lib.IntN.{ℤ}
@@ -70,8 +70,8 @@ unfolding collect
 collect_ended i M = unless_ended (not (cell_at M i).out) 13 M _ (omega arith, omega arith) (go (oldest (cell_at M i).next (cell_at M i).held))
   where
     go : (o : Option Event) → Ended M (hand_out o i M)
-    go none = was_refused 14 (omega arith, omega arith) refl
-    go (some e) = was_done refl
+    go None = was_refused 14 (omega arith, omega arith) refl
+    go (Some e) = was_done refl
 
 move_ended : (i : ℕ) (M : State) → Ended M (move_one i M)
 unfolding move_one
@@ -155,13 +155,13 @@ pub record CollectDone (i : ℕ) (M : State) : Type 0 where
   pub inside : waiting_slot (of_cell (cell_at M i)) < room
   pub stamp : event.stamp < horizon
   pub value : IsValue event.value
-  pub outcome : collect i M ≡ hand_out (some event) i M
+  pub outcome : collect i M ≡ hand_out (Some event) i M
 
-oldest_value : (w lo top : ℕ) (es : List Event) (e : Event) → Rising lo top es → oldest w es ≡ some e → IsValue e.value
+oldest_value : (w lo top : ℕ) (es : List Event) (e : Event) → Rising lo top es → oldest w es ≡ Some e → IsValue e.value
 oldest_value w lo top [] e r q = let z : ◌≡◌ {A = ℕ} 0 1 = cc in absurd (omega arith)
 oldest_value w lo top (x ∷ es) e r q = go (leb w x.stamp) q (λ h. oldest_value w (suc x.stamp) top es e r.2 h)
   where
-    go : (p : Bool) → cond p (some x) (oldest w es) ≡ some e → (oldest w es ≡ some e → IsValue e.value) → IsValue e.value
+    go : (p : Bool) → cond p (Some x) (oldest w es) ≡ Some e → (oldest w es ≡ Some e → IsValue e.value) → IsValue e.value
     go true h rec = let y : x ≡ e = cc in rw (sym y) r.1
     go false h rec = rec h
 
@@ -340,11 +340,11 @@ module _ (s : List ℕ) (b : Bytes s) (n : ℕ) (ok : IsState s n) where
           let c = cell_at (state_in s) i in
           let c' = with_next (suc x.stamp) c in
           let M' = release i (set (state_in s) i c') in
-          let o : call (collecting i) (state_in s) ≡ hand_out (some x) i (state_in s) = unfold call in f.outcome in
+          let o : call (collecting i) (state_in s) ≡ hand_out (Some x) i (state_in s) = unfold call in f.outcome in
           let pt : t ≡ x.stamp = et ∙ ap (λ (y : Slot). y.stamp) slot_is in
           let pv : v ≡ x.value = ev' ∙ ap (to_z w64) (eu ∙ ap (λ (y : Slot). y.value) slot_is) ∙ value_back x.value f.value in
           let sl : slot_at j (of_cell c) ≡ slot_of x = ap (λ (m : ℕ). slot_at m (of_cell c)) j_is ∙ f.slot in
           let l = f.there in
           let p = es ∙ ap (encode n) (ap (collected_raw i j) (raws s b n ok) ∙ collect_of (length s) (state_in s) i j x l (few_at i l) sl) in
           let pb = written M' s' (sym (ap (λ (y : Outcome). length y.state) o) ∙ call_length (collecting i) (state_in s)) p in
-          (λ y. handing (pt y) (pv y) (pb y)) ∙ sym (reply_of_lem (collecting i) s (hand_out (some x) i (state_in s)) o)
+          (λ y. handing (pt y) (pv y) (pb y)) ∙ sym (reply_of_lem (collecting i) s (hand_out (Some x) i (state_in s)) o)

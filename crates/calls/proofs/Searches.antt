@@ -25,13 +25,6 @@ use Rattle.roundtrip.proofs.In.{streams, raws, few, area_for_lem}
 use Rattle.refine.proofs.Whole.{row_of}
 use Rattle.calls.specs.Search.{Neither, Untouched}
 
--- the stored numbers in place of those that the code has of them
-pub neither_of : {z x y u v : ℕ} → x ≡ u → y ≡ v → Neither z x y → Neither z u v
-neither_of p q h = (λ e. h.0 (e ∙ sym p), λ e. h.1 (e ∙ sym q))
-
-pub of_neither : {z x a b : ℕ} → z ≡ x → Neither z a b → Neither x a b
-of_neither p h = (λ e. h.0 (p ∙ e), λ e. h.1 (p ∙ e))
-
 keeper_is : (e : Eqn) → is_keeper (eqn_group e) ≡ keeps e
 keeper_is input = refl
 keeper_is nil = refl

@@ -2,7 +2,8 @@
 // calls tests the bytes once.
 #![tactic(auto)]
 
-ghost use Rattle.std.specs.Prelude.{◌≡◌, false, ◌*◌, ◌≤◌, ◌<◌, length};
+ghost use Rattle.std.specs.Prelude.{◌≡◌, false, ◌*◌, ◌≤◌, ◌<◌, length, IfOk};
+ghost use Rattle.refusal.specs.Numbers.{code_of};
 ghost use Rattle.machine.specs.Calls.{reading, progress, moving, running, collecting};
 ghost use Rattle.machine.specs.Touched.{Still};
 ghost use Rattle.layout.specs.Record.{dec_raw, decode};
@@ -11,83 +12,77 @@ ghost use Rattle.calls.specs.Equation.{equation_raw};
 ghost use Rattle.calls.specs.Reply.{reply_in};
 ghost use Rattle.calls.specs.Search.{Neither, Untouched, NoneBelow, Searched};
 
+use refusal::Refusal;
+
 // Offers a reading (stream, stamp, value) of an input.
-pub fn offer_reading(state: &mut [u8], n: usize, stream: u32, stamp: u32, value: i64) -> u32
+pub fn offer_reading(
+    state: &mut [u8],
+    n: usize,
+    stream: u32,
+    stamp: u32,
+    value: i64,
+) -> Result<(), Refusal>
     requires { IsState state.old n }
-    ensures number { result ≡ (reply_in (reading stream stamp value) state.old).number }
+    ensures number { code_of result ≡ (reply_in (reading stream stamp value) state.old).number }
     ensures buffer { state.new ≡ (reply_in (reading stream stamp value) state.old).buffer }
     ensures still { IsState state.new n }
 {
-    let number = offers::reading_number(state, n, stream, stamp);
-    if number != 0 {
-        return number;
-    }
+    offers::check_reading(state, n, stream, stamp)?;
     readers::offer(state, n, stream as usize, stamp, num::bits(value));
-    0
+    Ok(())
 }
 
 // Offers progress (stream, new bound) of an input.
-pub fn offer_progress(state: &mut [u8], n: usize, stream: u32, bound: u64) -> u32
+pub fn offer_progress(state: &mut [u8], n: usize, stream: u32, bound: u64) -> Result<(), Refusal>
     requires { IsState state.old n }
-    ensures number { result ≡ (reply_in (progress stream bound) state.old).number }
+    ensures number { code_of result ≡ (reply_in (progress stream bound) state.old).number }
     ensures buffer { state.new ≡ (reply_in (progress stream bound) state.old).buffer }
     ensures still { IsState state.new n }
 {
-    let number = offers::progress_number(state, n, stream, bound);
-    if number != 0 {
-        return number;
-    }
+    offers::check_progress(state, n, stream, bound)?;
     offers::progress(state, n, stream as usize, bound);
-    0
+    Ok(())
 }
 
 // Moves one equation.
-pub fn move_stream(state: &mut [u8], n: usize, stream: u32) -> u32
+pub fn move_stream(state: &mut [u8], n: usize, stream: u32) -> Result<(), Refusal>
     requires { IsState state.old n }
-    ensures number { result ≡ (reply_in (moving stream) state.old).number }
+    ensures number { code_of result ≡ (reply_in (moving stream) state.old).number }
     ensures buffer { state.new ≡ (reply_in (moving stream) state.old).buffer }
     ensures still { IsState state.new n }
 {
     if !is_equation(state, n, stream) {
-        return 11;
+        return Err(Refusal::NoEquation);
     }
     if !moves::move_one(state, n, stream as usize) {
-        return 12;
+        return Err(Refusal::CannotMove);
     }
-    0
+    Ok(())
 }
 
 // Collects the oldest waiting event of an output.
-pub fn collect(state: &mut [u8], n: usize, stream: u32, stamp: &mut u32, value: &mut i64) -> u32
+pub fn collect(state: &mut [u8], n: usize, stream: u32) -> Result<(u32, i64), Refusal>
     requires { IsState state.old n }
-    ensures number { result ≡ (reply_in (collecting stream) state.old).number }
-    ensures stamp { stamp.new ≡ (reply_in (collecting stream) state.old).stamp }
-    ensures value { value.new ≡ (reply_in (collecting stream) state.old).value }
+    ensures number { code_of result ≡ (reply_in (collecting stream) state.old).number }
+    ensures stamp { IfOk result (λ x. x.0 ≡ (reply_in (collecting stream) state.old).stamp) }
+    ensures value { IfOk result (λ x. x.1 ≡ (reply_in (collecting stream) state.old).value) }
     ensures buffer { state.new ≡ (reply_in (collecting stream) state.old).buffer }
     ensures still { IsState state.new n }
 {
-    *stamp = 0;
-    *value = 0;
-    let number = offers::collect_number(state, n, stream);
-    if number != 0 {
-        return number;
-    }
+    offers::check_collect(state, n, stream)?;
     let i = stream as usize;
     let j = offers::oldest(state, n, i);
-    *stamp = offers::stamp_of(state, n, i, j);
-    *value = num::of_bits(offers::value_of(state, n, i, j));
+    let stamp = offers::stamp_of(state, n, i, j);
+    let value = num::of_bits(offers::value_of(state, n, i, j));
     offers::collect(state, n, i, j);
-    0
+    Ok((stamp, value))
 }
 
 // Whether z is one of two numbers.
 fn one_of(z: u8, x: u8, y: u8) -> bool
     ensures { result ≡ false → Neither z x y }
 {
-    if z == x {
-        return true;
-    }
-    z == y
+    z == x || z == y
 }
 
 // Whether a move of stream s, with the arguments a and b as they are stored, can have let the stream of this record, j, move: it
@@ -98,19 +93,10 @@ fn touched(r: &[u8], j: u8, s: u8, a: u8, b: u8) -> bool
 {
     let x = layout::byte_at(r, layout::A) as u8;
     let y = layout::byte_at(r, layout::B) as u8;
-    if one_of(s, x, y) {
-        return true;
-    }
-    if one_of(j, a, b) {
-        return true;
-    }
-    if !operators::is_keeper(layout::byte_at(r, layout::OP)) {
-        return false;
-    }
-    if one_of(x, a, b) {
-        return true;
-    }
-    one_of(y, a, b)
+    one_of(s, x, y)
+        || one_of(j, a, b)
+        || (operators::is_keeper(layout::byte_at(r, layout::OP))
+            && (one_of(x, a, b) || one_of(y, a, b)))
 }
 
 // Moves the lowest-numbered equation below s that can move, where the last move was one of s; its number, or s if there is none.
@@ -122,15 +108,11 @@ fn move_touched(state: &mut [u8], n: usize, s: usize) -> usize
     let a = layout::byte_at(row, layout::A) as u8;
     let b = layout::byte_at(row, layout::B) as u8;
     let last = s as u8;
-    let mut j: u8 = 0;
-    while j < last {
+    for j in 0..last {
         let i = j as usize;
-        if touched(layout::row_at(state, i), j, last, a, b) {
-            if moves::move_one(state, n, i) {
-                return i;
-            }
+        if touched(layout::row_at(state, i), j, last, a, b) && moves::move_one(state, n, i) {
+            return i;
         }
-        j += 1;
     }
     s
 }
@@ -140,12 +122,10 @@ fn move_from(state: &mut [u8], n: usize, from: usize) -> usize
     requires { IsState state.old n × (from ≤ n) × NoneBelow from state.old }
     ensures { Searched n result state.old state.new }
 {
-    let mut i = from;
-    while i < n {
+    for i in from..n {
         if moves::move_one(state, n, i) {
             return i;
         }
-        i += 1;
     }
     n
 }
@@ -170,16 +150,14 @@ pub fn run(state: &mut [u8], n: usize, most: u32) -> u32
     ensures buffer { state.new ≡ (reply_in (running most) state.old).buffer }
     ensures still { IsState state.new n }
 {
-    let mut made: u32 = 0;
     let mut s = 0;
-    while made < most {
+    for made in 0..most {
         s = move_next(state, n, s);
         if s == n {
             return made;
         }
-        made += 1;
     }
-    made
+    most
 }
 
 // Whether the stream is there and is no input.

@@ -12,15 +12,11 @@ use native.Mathlib.Decide.{ℕ_discrete}
 use mir.Syntax.{w64}
 use mir.Val.{to_z}
 use Rattle.meaning.specs.Events.{horizon}
-use Rattle.lines.specs.declared.Word.{Word}
-use Rattle.lines.specs.declared.Word.TheVariants.{Past, Absent}
-use Rattle.lines.specs.declared.Numeral.{Numeral}
-use Rattle.lines.specs.declared.Numeral.TheVariants.{Number, Fault}
+use Rattle.std.specs.Prelude.{Option, Some, None}
 use Rattle.lines.specs.declared.Scanned.{Scanned}
 use Rattle.lines.specs.Form.{ending, stands, skip, digit, scanned, scan, counted, or_zero, whole, positive, negative, signed_after, signed}
 use Rattle.trace.specs.declared.Record.TheVariants.{Reading, Progress}
-use Rattle.trace.specs.declared.Line.{Line}
-use Rattle.trace.specs.declared.Line.TheVariants.{Bad}
+use Rattle.trace.specs.declared.Record.{Record}
 use Rattle.trace.specs.Trace.{input_key, stamp_key, value_key, bound_key, word, number, value_after, stamp_after, bound_after, either_key, input_after, line}
 use Rattle.chunks.specs.Window.{Same, Alike, read, bad}
 
@@ -28,9 +24,9 @@ module _ (s : List ℕ) (a : ℕ) (t : List ℕ) (b : ℕ) (n : ℕ) (same : Sam
   -- ## Words
 
   -- m bytes on at most
-  data Words (m : ℕ) : Word → Word → Type 0 where
-    past : (k : ℕ) → k ≤ m → Words m (Past (a + k)) (Past (b + k))
-    absent : Words m Absent Absent
+  data Words (m : ℕ) : Option ℕ → Option ℕ → Type 0 where
+    past : (k : ℕ) → k ≤ m → Words m (Some (a + k)) (Some (b + k))
+    absent : Words m None None
 
   skip_alike : (w : List ℕ) (k : ℕ) → k + length w ≤ n → Words (k + length w) (skip s (a + k) w) (skip t (b + k) w)
   unfolding skip
@@ -42,15 +38,15 @@ module _ (s : List ℕ) (a : ℕ) (t : List ℕ) (b : ℕ) (n : ℕ) (same : Sam
       let m : k + suc (length w) ≡ k + 1 + length w = omega arith in
       rw (q.0, q.1, e, f, m) (go (stands t (b + k) c) (skip_alike w (k + 1) (omega arith)))
     where
-      go : (p : Bool) → Words (k + 1 + length w) (skip s (a + (k + 1)) w) (skip t (b + (k + 1)) w) → Words (k + 1 + length w) (cond p (skip s (a + (k + 1)) w) Absent) (cond p (skip t (b + (k + 1)) w) Absent)
+      go : (p : Bool) → Words (k + 1 + length w) (skip s (a + (k + 1)) w) (skip t (b + (k + 1)) w) → Words (k + 1 + length w) (cond p (skip s (a + (k + 1)) w) None) (cond p (skip t (b + (k + 1)) w) None)
       go true x = x
       go false x = absent
 
   -- ## Numbers
 
-  data Numbers (m : ℕ) : Numeral → Numeral → Type 0 where
-    numbers : (v k : ℕ) → k ≤ m → Numbers m (Number v (a + k)) (Number v (b + k))
-    fault : Numbers m Fault Fault
+  data Numbers (m : ℕ) : Option (ℕ × ℕ) → Option (ℕ × ℕ) → Type 0 where
+    numbers : (v k : ℕ) → k ≤ m → Numbers m (Some (v, a + k)) (Some (v, b + k))
+    fault : Numbers m None None
 
   data Scans (m : ℕ) : Scanned → Scanned → Type 0 where
     scans : (v k : ℕ) → k ≤ m → Scans m (scanned v (a + k)) (scanned v (b + k))
@@ -80,7 +76,7 @@ module _ (s : List ℕ) (a : ℕ) (t : List ℕ) (b : ℕ) (n : ℕ) (same : Sam
   counted_alike : (m k : ℕ) {x y : Scanned} → Scans m x y → Numbers m (counted (a + k) x) (counted (b + k) y)
   counted_alike m k (scans v j h) = rw (eqb_moved a j k, eqb_moved b j k) (go (eqb j k))
     where
-      go : (p : Bool) → Numbers m (cond p Fault (Number v (a + j))) (cond p Fault (Number v (b + j)))
+      go : (p : Bool) → Numbers m (cond {A = Option (ℕ × ℕ)} p None (Some (v, a + j))) (cond {A = Option (ℕ × ℕ)} p None (Some (v, b + j)))
       go true = fault
       go false = numbers v j h
 
@@ -88,28 +84,28 @@ module _ (s : List ℕ) (a : ℕ) (t : List ℕ) (b : ℕ) (n : ℕ) (same : Sam
   unfolding whole
   whole_alike k max z h = go (skip_alike (48 ∷ []) k (omega arith)) (counted_alike (k + max) k (scan_alike max k 0 h))
     where
-      go : {x y : Word} → Words (k + 1) x y → {u v : Numeral} → Numbers (k + max) u v → Numbers (k + max) (or_zero x u) (or_zero y v)
+      go : {x y : Option ℕ} → Words (k + 1) x y → {u v : Option (ℕ × ℕ)} → Numbers (k + max) u v → Numbers (k + max) (or_zero x u) (or_zero y v)
       go (past j l) q = numbers 0 j (omega arith)
       go absent q = q
 
-  positive_alike : (m : ℕ) {x y : Numeral} → Numbers m x y → Numbers m (positive x) (positive y)
+  positive_alike : (m : ℕ) {x y : Option (ℕ × ℕ)} → Numbers m x y → Numbers m (positive x) (positive y)
   positive_alike m (numbers v k h) = go (ltb v (2 ^ 63))
     where
-      go : (p : Bool) → Numbers m (cond p (Number v (a + k)) Fault) (cond p (Number v (b + k)) Fault)
+      go : (p : Bool) → Numbers m (cond {A = Option (ℕ × ℕ)} p (Some (v, a + k)) None) (cond {A = Option (ℕ × ℕ)} p (Some (v, b + k)) None)
       go true = numbers v k h
       go false = fault
   positive_alike m fault = fault
 
-  negative_alike : (m : ℕ) {x y : Numeral} → Numbers m x y → Numbers m (negative x) (negative y)
+  negative_alike : (m : ℕ) {x y : Option (ℕ × ℕ)} → Numbers m x y → Numbers m (negative x) (negative y)
   negative_alike m (numbers v k h) = go (eqb v 0) (leb v (2 ^ 63))
     where
-      go : (p q : Bool) → Numbers m (cond p Fault (cond q (Number (2 ^ 64 - v) (a + k)) Fault)) (cond p Fault (cond q (Number (2 ^ 64 - v) (b + k)) Fault))
+      go : (p q : Bool) → Numbers m (cond {A = Option (ℕ × ℕ)} p None (cond q (Some (2 ^ 64 - v, a + k)) None)) (cond {A = Option (ℕ × ℕ)} p None (cond q (Some (2 ^ 64 - v, b + k)) None))
       go true q = fault
       go false true = numbers (2 ^ 64 - v) k h
       go false false = fault
   negative_alike m fault = fault
 
-  wider : {m l : ℕ} {x y : Numeral} → Numbers m x y → m ≤ l → Numbers l x y
+  wider : {m l : ℕ} {x y : Option (ℕ × ℕ)} → Numbers m x y → m ≤ l → Numbers l x y
   wider (numbers v k h) q = numbers v k (omega arith)
   wider fault q = fault
 
@@ -117,17 +113,17 @@ module _ (s : List ℕ) (a : ℕ) (t : List ℕ) (b : ℕ) (n : ℕ) (same : Sam
   unfolding signed
   signed_alike k h = go (skip_alike (45 ∷ []) k (omega arith))
     where
-      go : {x y : Word} → Words (k + 1) x y → Numbers (k + 20) (signed_after s (a + k) x) (signed_after t (b + k) y)
+      go : {x y : Option ℕ} → Words (k + 1) x y → Numbers (k + 20) (signed_after s (a + k) x) (signed_after t (b + k) y)
       go (past j l) = wider (negative_alike (j + 19) (whole_alike j 19 (omega arith) (omega arith))) (omega arith)
       go absent = wider (positive_alike (k + 19) (whole_alike k 19 (omega arith) (omega arith))) (omega arith)
 
   -- ## Lines
 
-  words : {m : ℕ} {x y : Word} → Words m x y → (f g : ℕ → Line) → ((k : ℕ) → k ≤ m → Alike a b (f (a + k)) (g (b + k))) → Alike a b (word x f) (word y g)
+  words : {m : ℕ} {x y : Option ℕ} → Words m x y → (f g : ℕ → Option (Record × ℕ)) → ((k : ℕ) → k ≤ m → Alike a b (f (a + k)) (g (b + k))) → Alike a b (word x f) (word y g)
   words (past k h) f g q = q k h
   words absent f g q = bad
 
-  found : {m : ℕ} {x y : Numeral} → Numbers m x y → (f g : ℕ → ℕ → Line) → ((v k : ℕ) → k ≤ m → Alike a b (f v (a + k)) (g v (b + k))) → Alike a b (number x f) (number y g)
+  found : {m : ℕ} {x y : Option (ℕ × ℕ)} → Numbers m x y → (f g : ℕ → ℕ → Option (Record × ℕ)) → ((v k : ℕ) → k ≤ m → Alike a b (f v (a + k)) (g v (b + k))) → Alike a b (number x f) (number y g)
   found (numbers v k h) f g q = q v k h
   found fault f g q = bad
 
@@ -142,7 +138,7 @@ module _ (s : List ℕ) (a : ℕ) (t : List ℕ) (b : ℕ) (n : ℕ) (same : Sam
   unfolding stamp_after
   stamp_alike i k h = found (whole_alike k 10 (omega arith) (omega arith)) _ _ (λ st p l. go st p l (ltb st horizon))
     where
-      go : (st p : ℕ) → p ≤ k + 10 → (q : Bool) → Alike a b (cond q (value_after s i st (a + p)) Bad) (cond q (value_after t i st (b + p)) Bad)
+      go : (st p : ℕ) → p ≤ k + 10 → (q : Bool) → Alike a b (cond q (value_after s i st (a + p)) None) (cond q (value_after t i st (b + p)) None)
       go st p l true = value_alike i st p (omega arith)
       go st p l false = bad
 
@@ -156,7 +152,7 @@ module _ (s : List ℕ) (a : ℕ) (t : List ℕ) (b : ℕ) (n : ℕ) (same : Sam
   unfolding input_after
   input_alike i k h = go (skip_alike stamp_key k (omega arith))
     where
-      go : {x y : Word} → Words (k + 3) x y → Alike a b (either_key s i (a + k) x) (either_key t i (b + k) y)
+      go : {x y : Option ℕ} → Words (k + 3) x y → Alike a b (either_key s i (a + k) x) (either_key t i (b + k) y)
       go (past j l) = stamp_alike i j (omega arith)
       go absent = words (skip_alike bound_key k (omega arith)) _ _ (λ p l. bound_alike i p (omega arith))
 

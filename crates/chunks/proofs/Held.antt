@@ -11,9 +11,9 @@ use lib.ListN.{length, get_or, drop, length-append, length-drop, get_or-append, 
 use lib.Seq.{get_or-drop}
 use borrow.Author.Tests.{lt-ltb, le-ltb}
 use Rattle.trace.specs.declared.Record.{Record}
-use Rattle.trace.specs.declared.Line.{Line}
-use Rattle.trace.specs.declared.Line.TheVariants.{Read, Bad}
+use Rattle.std.specs.Prelude.{Option, Some, None}
 use Rattle.trace.specs.Trace.{line}
+use Rattle.trace.proofs.Bounds.{same_first, same_second}
 use Rattle.trace.proofs.Ends.{line_ends}
 use Rattle.chunks.specs.Window.{Same, Alike, read, bad, Enough}
 use Rattle.chunks.proofs.Alike.{line_alike}
@@ -42,26 +42,26 @@ module _ (text : List ℕ) (at : ℕ) (more : List ℕ) (inside : at ≤ length 
   pub window_line : Alike at 0 (line text at) (line (drop at text ++ more) 0)
   window_line = line_alike text at (drop at text ++ more) 0 42 same (omega arith)
 
-  alike_read : {x y : Line} → Alike at 0 x y → (r : Record) (next : ℕ) → x ≡ Read r next → (k : ℕ) × (next ≡ at + k) × (y ≡ Read r k)
+  alike_read : {x y : Option (Record × ℕ)} → Alike at 0 x y → (r : Record) (next : ℕ) → x ≡ Some (r, next) → (k : ℕ) × (next ≡ at + k) × (y ≡ Some (r, k))
   alike_read (read q k) r next e =
-      let a : q ≡ r = cc in
-      let b : at + k ≡ next = cc in
-      (k, sym b, rw (zero-add k) (ap (λ (q : Record). Read q k) a))
+      let a : q ≡ r = same_first e in
+      let b : at + k ≡ next = same_second e in
+      (k, sym b, rw (zero-add k) (ap (λ (q : Record). Some (q, k)) a))
   alike_read bad r next e = let z : ◌≡◌ {A = ℕ} 0 1 = cc in absurd (omega arith)
 
-  alike_bad : {x y : Line} → Alike at 0 x y → x ≡ Bad → y ≡ Bad
+  alike_bad : {x y : Option (Record × ℕ)} → Alike at 0 x y → x ≡ None → y ≡ None
   alike_bad (read q k) e = let z : ◌≡◌ {A = ℕ} 0 1 = cc in absurd (omega arith)
   alike_bad bad e = refl
 
   -- the same record, as many bytes on
-  pub window_read : (r : Record) (next : ℕ) → line text at ≡ Read r next → (k : ℕ) × (next ≡ at + k) × (line (drop at text ++ more) 0 ≡ Read r k)
+  pub window_read : (r : Record) (next : ℕ) → line text at ≡ Some (r, next) → (k : ℕ) × (next ≡ at + k) × (line (drop at text ++ more) 0 ≡ Some (r, k))
   window_read r next e = alike_read window_line r next e
 
-  pub window_bad : line text at ≡ Bad → line (drop at text ++ more) 0 ≡ Bad
+  pub window_bad : line text at ≡ None → line (drop at text ++ more) 0 ≡ None
   window_bad e = alike_bad window_line e
 
 -- a line that was read ends within the text, past its start
-pub window_next : (text : List ℕ) (at : ℕ) → at ≤ length text → (r : Record) (next : ℕ) → line text at ≡ Read r next → (at < next) × (next ≤ length text)
+pub window_next : (text : List ℕ) (at : ℕ) → at ≤ length text → (r : Record) (next : ℕ) → line text at ≡ Some (r, next) → (at < next) × (next ≤ length text)
 window_next text at inside r next e =
     let x = window_read text at [] inside (inr refl) r next e in
     let p = x.1 in

@@ -3,7 +3,9 @@ use Prim.Native.Nat.{ℕ, suc, ◌+◌, ◌*◌, ◌/◌, ◌%◌, ◌^◌, ◌<
 use native.Mathlib.Omega.{arith}
 use mathlib.Core.Path.{◌≡◌, refl, sym, ap, ◌∙◌}
 use mathlib.Core.Bool.{Bool, true, false, cond, ◌||◌}
-use mathlib.Core.Option.{Option}
+use mathlib.Core.Logic.{◌⊎◌}
+use Rattle.std.specs.Prelude.{Option, None, Some, is_some}
+use Rattle.events.proofs.Laws.{neither_has, either_has}
 use mathlib.Core.List.{List, []}
 use lib.Dec.{ltb, lit<}
 use lib.Seq.{set-get_or}
@@ -11,8 +13,8 @@ use lib.IntN.{ℤ}
 use lib.ListN.{length}
 use borrow.Author.Tests.{lt-ltb, le-ltb}
 use Rattle.meaning.specs.Plan.{Calc}
-use Rattle.meaning.specs.Events.{found, has}
-use Rattle.meaning.specs.Missing.{Reason, outside, divisor, said_for, calc_says, signal_says, count_limit}
+use Rattle.meaning.specs.Events.{has}
+use Rattle.meaning.specs.Missing.{Reason, Outside, ZeroDivisor, said_for, calc_says, signal_says, count_limit}
 use Rattle.machine.specs.Windows.{take_below}
 use Rattle.machine.specs.Counting.{tally_of}
 use Rattle.layout.specs.Record.{Slot, Raw, dec_raw, num, with_num, slot_at, counts_f}
@@ -25,8 +27,6 @@ use Rattle.apply.specs.declared.Binary.{Binary}
 use Rattle.streams.specs.declared.Op.{Op}
 use Rattle.streams.specs.declared.Op.TheVariants.{One, Two, Signal}
 use Rattle.streams.specs.declared.Kept.{Kept}
-use Rattle.apply.specs.declared.Lack.{Lack}
-use Rattle.apply.specs.declared.Lack.TheVariants.{No, Outside, ZeroDivisor}
 use Rattle.apply.specs.Lack.{lack_for}
 use Rattle.windows.proofs.Fits.{events_in, events_more, events_none}
 use Rattle.counting.specs.declared.Tally.{Tally}
@@ -38,30 +38,30 @@ abbrev pub of : (m n : ℕ) → Tally
 of m n = record { outside = m; divisors = n }
 
 pub none_is : (q : Reason) → count_in q (of 0 0) ≡ 0
-none_is outside = refl
-none_is divisor = refl
+none_is Outside = refl
+none_is ZeroDivisor = refl
 
-pub more_none : (q : Reason) (c : Tally) {x : Lack} → x ≡ No → count_in q c ≡ cond (lack_for q x) (suc (count_in q c)) (count_in q c)
+pub more_none : (q : Reason) (c : Tally) {x : Option Reason} → x ≡ None → count_in q c ≡ cond (lack_for q x) (suc (count_in q c)) (count_in q c)
 more_none q c e = rw e
 
-pub more_outside : (q : Reason) (c : Tally) {x : Lack} → x ≡ Outside → count_in q (of (c.outside + 1) c.divisors) ≡ cond (lack_for q x) (suc (count_in q c)) (count_in q c)
-more_outside outside c e = rw e (omega arith)
-more_outside divisor c e = rw e
+pub more_outside : (q : Reason) (c : Tally) {x : Option Reason} {r : Reason} → x ≡ Some r → r ≡ Outside → count_in q (of (c.outside + 1) c.divisors) ≡ cond (lack_for q x) (suc (count_in q c)) (count_in q c)
+more_outside Outside c e d = rw (e, d) (omega arith)
+more_outside ZeroDivisor c e d = rw (e, d)
 
-pub more_divisor : (q : Reason) (c : Tally) {x : Lack} → x ≡ ZeroDivisor → count_in q (of c.outside (c.divisors + 1)) ≡ cond (lack_for q x) (suc (count_in q c)) (count_in q c)
-more_divisor outside c e = rw e
-more_divisor divisor c e = rw e (omega arith)
+pub more_divisor : (q : Reason) (c : Tally) {x : Option Reason} {r : Reason} → x ≡ Some r → r ≡ ZeroDivisor → count_in q (of c.outside (c.divisors + 1)) ≡ cond (lack_for q x) (suc (count_in q c)) (count_in q c)
+more_divisor Outside c e d = rw (e, d)
+more_divisor ZeroDivisor c e d = rw (e, d) (omega arith)
 
 -- ---- a signal form
 
 module _ (q : Reason) (c : Calc) (u w x y : Option ℤ) where
-  pub signal_quiet : (has u || has w) ≡ false → false ≡ said_for q (signal_says c u w x y)
+  pub signal_quiet : is_some u ≡ false → is_some w ≡ false → false ≡ said_for q (signal_says c u w x y)
   unfolding signal_says
-  signal_quiet e = rw e
+  signal_quiet e d = let k : (has u || has w) ≡ false = neither_has u w e d in rw k
 
-  pub signal_heard : (has u || has w) ≡ true → said_for q (calc_says c x y) ≡ said_for q (signal_says c u w x y)
+  pub signal_heard : (is_some u ≡ true) ⊎ (is_some w ≡ true) → said_for q (calc_says c x y) ≡ said_for q (signal_says c u w x y)
   unfolding signal_says
-  signal_heard e = rw e
+  signal_heard e = let k : (has u || has w) ≡ true = either_has u w e in rw k
 
 -- ---- an arm of a match on the operator
 
@@ -85,23 +85,11 @@ module _ (q : Reason) (k : Kept) (A B : List ℕ) (y x : ℕ) where
       → first op + tally_of (asked_in q true op k A B) (take_below x (drop_below y (held_of (dec_raw B)))) ≡ tallied_in q op k A B y x
   signal_tallied g a b e = rw e
 
--- ---- the stamps of the second argument
-
-module _ (q : Reason) (op : Op) (k : Kept) (A B : List ℕ) (t : ℕ) {second : Bool} where
-  pub beside_first : second ≡ false → said_for q (hears_in op k A B t) ≡ asked_in q second op k A B t
-  beside_first e = rw e
-
-  pub beside_there : second ≡ true → has (found (held_of (dec_raw A)) t) ≡ true → false ≡ asked_in q second op k A B t
-  beside_there e d = rw (e, d)
-
-  pub beside_alone : second ≡ true → has (found (held_of (dec_raw A)) t) ≡ false → said_for q (hears_in op k A B t) ≡ asked_in q second op k A B t
-  beside_alone e d = rw (e, d)
-
 -- ---- of both arguments
 
 pub both_sum : (q : Reason) (c d : Tally) → count_in q (of (c.outside + d.outside) (c.divisors + d.divisors)) ≡ count_in q c + count_in q d
-both_sum outside c d = refl
-both_sum divisor c d = refl
+both_sum Outside c d = refl
+both_sum ZeroDivisor c d = refl
 
 -- ---- a turn of the count
 

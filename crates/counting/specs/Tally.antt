@@ -2,7 +2,7 @@
 use Rattle.std.specs.Prelude.{ℕ, ◌+◌, ◌*◌, ◌/◌, ◌%◌, ◌^◌, min, Bool, true, false, not, ◌&&◌, List}
 use Rattle.meaning.specs.Plan.{nil}
 use Rattle.meaning.specs.Events.{found, has}
-use Rattle.meaning.specs.Missing.{Said, Reason, outside, divisor, said_for, count_limit}
+use Rattle.meaning.specs.Missing.{Said, Reason, Outside, ZeroDivisor, said_for, count_limit}
 use Rattle.machine.specs.Step.{hears}
 use Rattle.machine.specs.Counting.{tallied}
 use Rattle.layout.specs.Record.{Raw, dec_raw, num, with_num, counts_f}
@@ -15,8 +15,8 @@ use Rattle.counting.specs.declared.Tally.{Tally}
 
 -- the count of a reason
 abbrev pub count_in : Reason → Tally → ℕ
-count_in outside c = c.outside
-count_in divisor c = c.divisors
+count_in Outside c = c.outside
+count_in ZeroDivisor c = c.divisors
 
 -- what the equation has to say at t
 abbrev pub hears_in : Op → Kept → (A B : List ℕ) → ℕ → Said

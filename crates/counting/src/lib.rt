@@ -12,14 +12,14 @@ ghost use Rattle.machine.specs.State.{room};
 ghost use Rattle.machine.specs.Windows.{take_below};
 ghost use Rattle.layout.specs.Record.{enc_raw, dec_raw};
 ghost use Rattle.encoding.specs.Back.{held_of};
-ghost use Rattle.queue.specs.Found.{as_option};
 ghost use Rattle.apply.specs.Named.{calculation};
 ghost use Rattle.apply.specs.Lack.{lack_for};
 ghost use Rattle.events.specs.Near.{holding};
 ghost use Rattle.counting.specs.Tally.{count_in, hears_in, asked_in, tallied_in, counted_row};
 
-use apply::{Calc, Lack};
+use apply::Calc;
 use limits::Count;
+use num::Reason;
 use streams::{Kept, Op};
 
 // At how many stamps an event is missing, by the reason.
@@ -43,76 +43,63 @@ fn none() -> Tally
 }
 
 // One stamp more.
-fn more(c: Tally, x: Lack) -> Tally
+fn more(c: Tally, x: Option<Reason>) -> Tally
     requires { (c.outside < 2 ^ 32) × (c.divisors < 2 ^ 32) }
     ensures { ((q : Reason) → count_in q result ≡ cond (lack_for q x) (suc (count_in q c)) (count_in q c)) × (result.outside ≤ c.outside + 1) × (result.divisors ≤ c.divisors + 1) }
 {
     match x {
-        Lack::No => c,
-        Lack::Outside => Tally {
+        None => c,
+        Some(Reason::Outside) => Tally {
             outside: c.outside + 1,
-            divisors: c.divisors,
+            ..c
         },
-        Lack::ZeroDivisor => Tally {
-            outside: c.outside,
+        Some(Reason::ZeroDivisor) => Tally {
             divisors: c.divisors + 1,
+            ..c
         },
     }
 }
 
 // sadd to seq: if either argument has an event at t, why there is no value of what both had latest at t or before, held or kept.
-fn signal_lack(g: Calc, k: Kept, a: &[u8], b: &[u8], t: u64) -> Lack
+fn signal_lack(g: Calc, k: Kept, a: &[u8], b: &[u8], t: u64) -> Option<Reason>
     requires { (length a.now ≡ 256) × (length b.now ≡ 256) × (t ≤ horizon) }
-    ensures { (q : Reason) → lack_for q result ≡ said_for q (signal_says (calculation g) (found (held_of (dec_raw a.now)) t) (found (held_of (dec_raw b.now)) t) (machine.held_latest (holding a.now) (suc t) (as_option k.prev)) (machine.held_latest (holding b.now) (suc t) (as_option k.prevb))) }
+    ensures { (q : Reason) → lack_for q result ≡ said_for q (signal_says (calculation g) (found (held_of (dec_raw a.now)) t) (found (held_of (dec_raw b.now)) t) (machine.held_latest (holding a.now) (suc t) k.prev) (machine.held_latest (holding b.now) (suc t) k.prevb)) }
 {
     let x = queue::find(a, t);
     let y = queue::find(b, t);
-    if !events::either(x, y) {
-        return Lack::No;
+    if x.is_none() && y.is_none() {
+        return None;
     }
-    let prev = k.prev;
-    let prevb = k.prevb;
-    let v = events::held_latest(a, t + 1, prev);
-    let w = events::held_latest(b, t + 1, prevb);
+    let v = events::held_latest(a, t + 1, k.prev);
+    let w = events::held_latest(b, t + 1, k.prevb);
     apply::calc_lack(g, v, w)
 }
 
 // Why an equation with this operator, that keeps k, has no event at t.
-fn lack_at(op: Op, k: Kept, a: &[u8], b: &[u8], t: u64) -> Lack
+fn lack_at(op: Op, k: Kept, a: &[u8], b: &[u8], t: u64) -> Option<Reason>
     requires { (length a.now ≡ 256) × (length b.now ≡ 256) × (t ≤ horizon) }
     ensures { (q : Reason) → lack_for q result ≡ said_for q (hears_in op k a.now b.now t) }
 {
     match op {
-        Op::In => Lack::No,
-        Op::Nil => Lack::No,
-        Op::Unit => Lack::No,
-        Op::One(f, _) => {
-            let x = queue::find(a, t);
-            apply::one_lack(f, x)
-        }
+        Op::In | Op::Nil | Op::Unit | Op::Last(_, _) | Op::Delay(_, _) | Op::Window(_, _, _) =>
+            None,
+        Op::One(f, _) => apply::one_lack(f, queue::find(a, t)),
         Op::Two(g, _, _) => {
             let x = queue::find(a, t);
             let y = queue::find(b, t);
             apply::two_lack(g, x, y)
         }
-        Op::Last(_, _) => Lack::No,
-        Op::Delay(_, _) => Lack::No,
         Op::Signal(g, _, _) => signal_lack(g, k, a, b, t),
-        Op::Window(_, _, _) => Lack::No,
     }
 }
 
 // The same; if only stamps at which a has no event are asked for, nothing where it has one.
-fn lack_beside(second: bool, op: Op, k: Kept, a: &[u8], b: &[u8], t: u64) -> Lack
+fn lack_beside(second: bool, op: Op, k: Kept, a: &[u8], b: &[u8], t: u64) -> Option<Reason>
     requires { (length a.now ≡ 256) × (length b.now ≡ 256) × (t ≤ horizon) }
     ensures { (q : Reason) → lack_for q result ≡ asked_in q second op k a.now b.now t }
 {
-    if !second {
-        return lack_at(op, k, a, b, t);
-    }
-    let x = queue::find(a, t);
-    if events::is_some(x) {
-        return Lack::No;
+    if second && queue::find(a, t).is_some() {
+        return None;
     }
     lack_at(op, k, a, b, t)
 }
@@ -147,15 +134,13 @@ fn tally_held(
     let n = queue::count(held);
     let first = queue::first_from(held, n, y);
     let mut c = none();
-    let mut i = first;
-    while i < n {
+    for i in first..n {
         let t = layout::stamp_at(held, i);
         if x <= t {
             return c;
         }
         let lack = lack_beside(second, op, k, a, b, t);
         c = more(c, lack);
-        i += 1;
     }
     c
 }
@@ -179,15 +164,10 @@ pub fn missed(op: Op, k: Kept, a: &[u8], b: &[u8], y: u64, x: u64) -> Tally
     ensures { ((q : Reason) → count_in q result ≡ tallied_in q op k a.now b.now y x) × (result.outside ≤ room + room) × (result.divisors ≤ room + room) }
 {
     match op {
-        Op::In => none(),
-        Op::Nil => none(),
-        Op::Unit => none(),
-        Op::One(_, _) => tally_held(false, op, k, a, b, a, y, x),
-        Op::Two(_, _, _) => tally_held(false, op, k, a, b, a, y, x),
-        Op::Last(_, _) => none(),
-        Op::Delay(_, _) => none(),
+        Op::In | Op::Nil | Op::Unit | Op::Last(_, _) | Op::Delay(_, _) | Op::Window(_, _, _) =>
+            none(),
+        Op::One(_, _) | Op::Two(_, _, _) => tally_held(false, op, k, a, b, a, y, x),
         Op::Signal(_, _, _) => tally_both(op, k, a, b, y, x),
-        Op::Window(_, _, _) => none(),
     }
 }
 

@@ -8,7 +8,7 @@ use mathlib.Core.List.{List}
 use native.Mathlib.Omega.{arith}
 use lib.ListN.{length}
 use borrow.Author.Tests.{lt-ltb, le-ltb}
-use Rattle.meaning.specs.Missing.{outside, divisor}
+use Rattle.meaning.specs.Missing.{Outside, ZeroDivisor}
 use Rattle.machine.specs.State.{State, cell_at}
 use Rattle.machine.specs.Calls.{Missing, no_counts, missing}
 use Rattle.le.specs.Bytes.{part}
@@ -36,8 +36,8 @@ module _ (s : List ℕ) (n : ℕ) (h : IsState s n) (i : ℕ) where
       let k = h.streams in
       let j : i < count s = omega arith in
       let r = record_row (count s) s p i j e in
-      let u : (cell_at (state_of (count s) s) i).passed.outside ≡ num counts_f (dec_raw p) % 2 ^ 32 = state_counts (count s) s i j outside ∙ ap (λ (x : Raw). num counts_f x % 2 ^ 32) (sym r) in
-      let v : (cell_at (state_of (count s) s) i).passed.divisors ≡ num counts_f (dec_raw p) / 2 ^ 32 = state_counts (count s) s i j divisor ∙ ap (λ (x : Raw). num counts_f x / 2 ^ 32) (sym r) in
+      let u : (cell_at (state_of (count s) s) i).passed.outside ≡ num counts_f (dec_raw p) % 2 ^ 32 = state_counts (count s) s i j Outside ∙ ap (λ (x : Raw). num counts_f x % 2 ^ 32) (sym r) in
+      let v : (cell_at (state_of (count s) s) i).passed.divisors ≡ num counts_f (dec_raw p) / 2 ^ 32 = state_counts (count s) s i j ZeroDivisor ∙ ap (λ (x : Raw). num counts_f x / 2 ^ 32) (sym r) in
       rw (m, lt-ltb i (count s) j, u, v)
 
 -- ---- on any bytes

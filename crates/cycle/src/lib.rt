@@ -53,10 +53,7 @@ fn found(graph: &[u8; GRAPH], i: u8) -> bool
     ensures { result ≡ (present i && eqb (get_or graph.now (3 * i) 0) 1) }
 {
     let stream = index_of(i);
-    if Plan::MOST <= stream {
-        return false;
-    }
-    graph[3 * stream] == CLEAR
+    stream < Plan::MOST && graph[3 * stream] == CLEAR
 }
 
 // Whether stream i is clear, followed at most this deep. A stream once found clear is not followed again.
@@ -99,9 +96,7 @@ pub fn follow(graph: &mut [u8; GRAPH], i: u8, depth: u8) -> bool
 pub fn clear(graph: &mut [u8; GRAPH], n: u8, depth: u8) -> bool
     ensures { walked result graph.new ≡ cleared depth n graph.old }
 {
-    let mut i = n;
-    while 0 < i {
-        i -= 1;
+    for i in (0..n).rev() {
         if found(graph, i) {
             continue;
         }

@@ -2,7 +2,7 @@
 use Prim.Native.Nat.{ℕ, suc, ◌-◌, ◌<◌, ◌≤◌, max}
 use mathlib.Core.Path.{◌≡◌, refl, sym, ap, ap₂, ◌∙◌}
 use mathlib.Core.Bool.{Bool, true, false, cond, ◌&&◌}
-use mathlib.Core.Option.{Option, none, some}
+use Rattle.std.specs.Prelude.{Option, None}
 use mathlib.Core.List.{List, [], ◌∷◌, ◌++◌, map}
 use native.Mathlib.Omega.{arith}
 use lib.Dec.{leb, ltb}
@@ -11,7 +11,7 @@ use borrow.Author.Tests.{lt-ltb, le-ltb}
 use Rattle.meaning.specs.Plan.{Unary, Binary, Calc, Eqn, input, nil, unit, one, two, last, delay, signal, window}
 use Rattle.meaning.specs.Events.{has}
 use Rattle.machine.specs.State.{Cell, with_passed}
-use Rattle.machine.specs.Reach.{least, limit, stops, gives, reach, first, event, silent, next_of, decide}
+use Rattle.machine.specs.Reach.{least, limit, stops, gives, reach, first, silent, next_of, decide}
 use Rattle.machine.proofs.Search.{least_ge}
 use Rattle.streams.specs.Look.{own_cell, arg_cell}
 use Rattle.decide.specs.Search.{pick, stamps, due_at, wanted, halts, test, candidate_of, search}
@@ -120,20 +120,14 @@ module _ (o a b : Cell) where
     unfolding decide
     next_silent h =
         ap silent er
-        ∙ sym (ap (λ (c : Bool). next_of (first e o a b) (reach e o a b) (cond c (gives e o a b (first e o a b)) none)) (le-ltb (first e o a b) (reach e o a b) (rw (et, er) at h)))
+        ∙ sym (ap (λ (c : Bool). next_of (first e o a b) (reach e o a b) (cond c (gives e o a b (first e o a b)) None)) (le-ltb (first e o a b) (reach e o a b) (rw (et, er) at h)))
 
-    next_shown : (x : Option ℤ) → t < r → x ≡ gives e o a b t → next_of t r x ≡ decide e o a b
+    pub next_shown : (x : Option ℤ) → t < r → x ≡ gives e o a b t → next_of t r x ≡ decide e o a b
     unfolding decide
     next_shown x h w =
         ap₂ (λ (t r : ℕ). next_of t r x) et er
         ∙ ap (next_of (first e o a b) (reach e o a b)) (w ∙ ap (gives e o a b) et)
-        ∙ sym (ap (λ (c : Bool). next_of (first e o a b) (reach e o a b) (cond c (gives e o a b (first e o a b)) none)) (lt-ltb (first e o a b) (reach e o a b) (rw (et, er) at h)))
-
-    pub next_none : (x : Option ℤ) → t < r → x ≡ gives e o a b t → x ≡ none → silent r ≡ decide e o a b
-    next_none x h w z = ap (next_of t r) (sym z) ∙ next_shown x h w
-
-    pub next_some : (x : Option ℤ) (v : ℤ) → t < r → x ≡ gives e o a b t → x ≡ some v → event t v ≡ decide e o a b
-    next_some x v h w z = ap (next_of t r) (sym z) ∙ next_shown x h w
+        ∙ sym (ap (λ (c : Bool). next_of (first e o a b) (reach e o a b) (cond c (gives e o a b (first e o a b)) None)) (lt-ltb (first e o a b) (reach e o a b) (rw (et, er) at h)))
 
 -- ---- a move looks at no more of the cells than this
 

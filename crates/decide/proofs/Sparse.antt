@@ -2,7 +2,7 @@
 use mathlib.Core.Path.{◌≡◌, refl, subst}
 use mathlib.Core.Logic.{◌⊎◌, inl, inr}
 use mathlib.Core.Bool.{Bool, true, false, not, cond, ◌&&◌, ◌||◌}
-use mathlib.Core.Option.{Option, none, some}
+use Rattle.std.specs.Prelude.{Option, None, Some}
 use mathlib.Core.List.{List, [], ◌∷◌, ◌++◌, map}
 use Prim.Native.Nat.{ℕ, zero, suc, pred, ◌+◌, ◌-◌, ◌≤◌, ◌<◌, max}
 use native.Mathlib.Omega.{arith}
@@ -114,38 +114,38 @@ in_each g (x ∷ xs) c h = go (T-or (eqb c x) (any (eqb c) xs) h) (λ k. in_each
     go (inr k) ih = T-or-r (eqb (g c) (g x)) (any (eqb (g c)) (map g xs)) (ih k)
 
 is_size : (n : ℕ) (o : Option ℤ) → T (is n o) → size o ≡ n
-is_size n none h = absurd h
-is_size n (some (pos m)) h = eqb→eq m n h
-is_size n (some (negsuc m)) h = absurd h
+is_size n None h = absurd h
+is_size n (Some (pos m)) h = eqb→eq m n h
+is_size n (Some (negsuc m)) h = absurd h
 
 one_has : (f : Unary) (t : ℕ) (o : Option ℤ) → T (has (one_at f t o)) → T (has o)
 unfolding one_at
-one_has f t none h = h
-one_has f t (some x) h = tt
+one_has f t None h = h
+one_has f t (Some x) h = tt
 
 two_has : (g : Binary) (o p : Option ℤ) → T (has (two_at g o p)) → T (has o) ⊎ T (has p)
 unfolding two_at
-two_has g (some x) p h = inl tt
-two_has g none (some y) h = inr tt
-two_has (calc g) none none h = absurd h
-two_has keep none none h = absurd h
-two_has merge none none h = absurd h
+two_has g (Some x) p h = inl tt
+two_has g None (Some y) h = inr tt
+two_has (calc g) None None h = absurd h
+two_has keep None None h = absurd h
+two_has merge None None h = absurd h
 
 signal_has : (c : Calc) (o p x y : Option ℤ) → T (has (signal_at c o p x y)) → T (has o) ⊎ T (has p)
 unfolding signal_at
-signal_has c (some v) p x y h = inl tt
-signal_has c none (some w) x y h = inr tt
-signal_has c none none x y h = absurd h
+signal_has c (Some v) p x y h = inl tt
+signal_has c None (Some w) x y h = inr tt
+signal_has c None None x y h = absurd h
 
 window_has : (f : Fold) (o : Option ℤ) (xs : List ℤ) → T (has (window_at_lem f o xs)) → T (has o)
 unfolding window_at_lem
-window_has f none xs h = h
-window_has f (some x) xs h = tt
+window_has f None xs h = h
+window_has f (Some x) xs h = tt
 
 last_has : (o v : Option ℤ) → T (has (last_at o v)) → T (has o)
 unfolding last_at
-last_has none v h = h
-last_has (some x) v h = tt
+last_has None v h = h
+last_has (Some x) v h = tt
 
 unit_has : (t : ℕ) → T (has (unit_at t)) → T (any (eqb t) (0 ∷ []))
 unfolding unit_at
@@ -196,7 +196,7 @@ gives_in_lem (delay _ _) o a b t l h = go (point_in o b t)
     z = point o b t
 
     v : Option ℤ
-    v = or_else (view a (pred z)) (cond (eqb z o.kept.since) o.kept.value none)
+    v = or_else (view a (pred z)) (cond (eqb z o.kept.since) o.kept.value None)
 
     fired : T (ltb 0 z && is (t - pred z) v)
     fired = delay_has (due o a z t) h

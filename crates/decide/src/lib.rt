@@ -13,7 +13,6 @@ ghost use Rattle.decide.specs.Search.{due_at};
 ghost use Rattle.decide.specs.Near.{test_in, nearer_in, candidate_in, search_in, reach_in, first_in, next_in, to_next, known_to};
 
 use limits::Bound;
-use queue::Found;
 use streams::{Kept, Look, Op, Stream};
 
 // What a move finds: an event, or silence up to a bound.
@@ -29,27 +28,21 @@ fn stops(l: Look, b: &[u8], t: u64) -> bool
     ensures { (x : List Event) → result ≡ machine.stops (plain l.stream.op) (own_of l.stream) (arg_cell l.abound x) (arg_of l.bbound b.now) t }
 {
     let s = l.stream;
-    let op = s.op;
-    match op {
-        Op::In => false,
-        Op::Nil => false,
-        Op::Unit => false,
-        Op::One(_, _) => false,
-        Op::Two(_, _, _) => false,
+    match s.op {
+        Op::In
+        | Op::Nil
+        | Op::Unit
+        | Op::One(_, _)
+        | Op::Two(_, _, _)
+        | Op::Signal(_, _, _)
+        | Op::Window(_, _, _) => false,
         Op::Last(_, _) => {
             if t <= l.abound {
                 return false;
             }
-            let y = queue::find(b, t);
-            events::is_some(y)
+            queue::find(b, t).is_some()
         }
-        Op::Delay(_, _) => {
-            let k = s.kept;
-            let z = events::point(k, b, t);
-            l.abound < z
-        }
-        Op::Signal(_, _, _) => false,
-        Op::Window(_, _, _) => false,
+        Op::Delay(_, _) => l.abound < events::point(s.kept, b, t),
     }
 }
 
@@ -59,8 +52,7 @@ fn passes(give: bool, l: Look, a: &[u8], b: &[u8], t: u64) -> bool
     ensures { result ≡ test_in give l a.now b.now t }
 {
     if give {
-        let x = events::event_at(l, a, b, t);
-        return events::is_some(x);
+        return events::event_at(l, a, b, t).is_some();
     }
     stops(l, b, t)
 }
@@ -87,8 +79,7 @@ fn due_at(k: Kept, a: &[u8], z: u64) -> u64
     requires { (length a.now ≡ 256) × (z ≤ horizon) }
     ensures { result ≡ due_at (keeping k) (holding a.now) z }
 {
-    let n = events::stamps_of(events::set_value(k, a, z));
-    events::before(z) + n
+    z.saturating_sub(1) + events::stamps_of(events::set_value(k, a, z))
 }
 
 // The candidate that a held event at stamp s makes.
@@ -97,23 +88,21 @@ fn candidate(give: bool, l: Look, a: &[u8], s: u64) -> u64
     ensures { result ≡ candidate_in give l a.now s }
 {
     let stream = l.stream;
-    let op = stream.op;
-    match op {
-        Op::In => s,
-        Op::Nil => s,
-        Op::Unit => s,
-        Op::One(_, _) => s,
-        Op::Two(_, _, _) => s,
-        Op::Last(_, _) => s,
+    match stream.op {
+        Op::In
+        | Op::Nil
+        | Op::Unit
+        | Op::One(_, _)
+        | Op::Two(_, _, _)
+        | Op::Last(_, _)
+        | Op::Signal(_, _, _)
+        | Op::Window(_, _, _) => s,
         Op::Delay(_, _) => {
             if give {
-                let k = stream.kept;
-                return due_at(k, a, s + 1);
+                return due_at(stream.kept, a, s + 1);
             }
             s + 1
         }
-        Op::Signal(_, _, _) => s,
-        Op::Window(_, _, _) => s,
     }
 }
 
@@ -125,12 +114,10 @@ fn scan(give: bool, l: Look, a: &[u8], b: &[u8], q: &[u8], hi: u64) -> u64
 {
     let n = queue::count(q);
     let mut best = hi;
-    let mut i = 0;
-    while i < n {
+    for i in 0..n {
         let stamp = layout::stamp_at(q, i);
         let c = candidate(give, l, a, stamp);
         best = closer(give, l, a, b, c, best);
-        i += 1;
     }
     best
 }
@@ -150,17 +137,13 @@ fn limit(l: Look) -> u64
     ensures { ((x y : List Event) → result ≡ machine.limit (plain l.stream.op) (own_of l.stream) (arg_cell l.abound x) (arg_cell l.bbound y)) × (result ≤ horizon) }
 {
     let s = l.stream;
-    let op = s.op;
-    match op {
+    match s.op {
         Op::In => s.bound,
-        Op::Nil => Bound::HORIZON,
-        Op::Unit => Bound::HORIZON,
+        Op::Nil | Op::Unit | Op::Window(_, _, _) => Bound::HORIZON,
         Op::One(_, _) => l.abound,
-        Op::Two(_, _, _) => limits::smaller(l.abound, l.bbound),
+        Op::Two(_, _, _) | Op::Signal(_, _, _) => l.abound.min(l.bbound),
         Op::Last(_, _) => l.bbound,
-        Op::Delay(_, _) => limits::smaller(l.bbound + 1, Bound::HORIZON),
-        Op::Signal(_, _, _) => limits::smaller(l.abound, l.bbound),
-        Op::Window(_, _, _) => Bound::HORIZON,
+        Op::Delay(_, _) => (l.bbound + 1).min(Bound::HORIZON),
     }
 }
 
@@ -170,21 +153,20 @@ fn reach(l: Look, a: &[u8], b: &[u8]) -> u64
     ensures { (result ≡ reach_in l a.now b.now) × (result ≤ horizon) }
 {
     let s = l.stream;
-    let hi = limits::larger(s.bound, limit(l));
-    let op = s.op;
-    match op {
-        Op::In => hi,
-        Op::Nil => hi,
-        Op::Unit => hi,
-        Op::One(_, _) => hi,
-        Op::Two(_, _, _) => hi,
+    let hi = s.bound.max(limit(l));
+    match s.op {
+        Op::In
+        | Op::Nil
+        | Op::Unit
+        | Op::One(_, _)
+        | Op::Two(_, _, _)
+        | Op::Signal(_, _, _)
+        | Op::Window(_, _, _) => hi,
         Op::Last(_, _) => scan(false, l, a, b, b, hi),
         Op::Delay(_, _) => {
             let best = scan(false, l, a, b, b, hi);
             closer(false, l, a, b, s.bound, best)
         }
-        Op::Signal(_, _, _) => hi,
-        Op::Window(_, _, _) => hi,
     }
 }
 
@@ -194,22 +176,17 @@ fn first(l: Look, a: &[u8], b: &[u8], r: u64) -> u64
     ensures { result ≡ first_in l a.now b.now }
 {
     let s = l.stream;
-    let op = s.op;
-    match op {
-        Op::In => r,
-        Op::Nil => r,
+    match s.op {
+        Op::In | Op::Nil | Op::Window(_, _, _) => r,
         Op::Unit => closer(true, l, a, b, 0, r),
         Op::One(_, _) => scan(true, l, a, b, a, r),
-        Op::Two(_, _, _) => scan_both(l, a, b, r),
+        Op::Two(_, _, _) | Op::Signal(_, _, _) => scan_both(l, a, b, r),
         Op::Last(_, _) => scan(true, l, a, b, b, r),
         Op::Delay(_, _) => {
             let best = scan(true, l, a, b, b, r);
-            let k = s.kept;
-            let c = due_at(k, a, k.since);
+            let c = due_at(s.kept, a, s.kept.since);
             closer(true, l, a, b, c, best)
         }
-        Op::Signal(_, _, _) => scan_both(l, a, b, r),
-        Op::Window(_, _, _) => r,
     }
 }
 
@@ -223,11 +200,10 @@ fn next_in(l: Look, a: &[u8], b: &[u8]) -> Next
     if r <= t {
         return Next::Silent(r);
     }
-    let x = events::event_at(l, a, b, t);
-    let Found::Value(v) = x else {
-        return Next::Silent(r);
-    };
-    Next::Event(t as u32, v)
+    match events::event_at(l, a, b, t) {
+        Some(v) => Next::Event(t as u32, v),
+        None => Next::Silent(r),
+    }
 }
 
 // What a move of the stream s finds, with its arguments in a and b.

@@ -7,8 +7,8 @@ use lib.IntN.{ℤ, pos, negsuc}
 use mir.Syntax.{w64}
 use mir.Val.{SFits, of_z, to_z}
 use mir.Facts.{to_z-of_z, to_z_pos, to_z-neg}
-use lib.ListN.{length, get_or, take, drop, set, length-append, drop_of_length-le}
-use lib.Seq.{sets, length-sets, drop-cons, sets-eq, set_comm, take_at, length-take-le}
+use lib.ListN.{length, take, drop, set, length-append}
+use lib.Seq.{sets, length-sets, sets-eq, set_comm, take_at, length-take-le}
 use Rattle.le.proofs.RoundTrip.{sets_append}
 use Rattle.decimal.specs.Decimal.{digits, decimal, most_digits, value_text}
 use Rattle.decimal.proofs.Digits.{digit_one, digit_more, small_or}
@@ -27,15 +27,6 @@ pub put_length : {l : List ℕ} {at : ℕ} {v : List ℕ} {p : ℕ} {m : List �
 put_length {l} {at} {v} x = ap length x.bytes ∙ length-sets l at v
 
 -- ## The loop over a word
-
-pub word_turn : (l w : List ℕ) (p i : ℕ) → i < length w → sets (set l p (get_or w i 0)) (p + 1) (drop (i + 1) w) ≡ sets l p (drop i w)
-word_turn l w p i h =
-    let e : i + 1 ≡ suc i = omega arith in
-    let f : p + 1 ≡ suc p = omega arith in
-    rw (e, f, drop-cons w i 0 h)
-
-pub word_end : (l w : List ℕ) (p i : ℕ) → length w ≤ i → sets l p (drop i w) ≡ l
-word_end l w p i h = rw (drop_of_length-le w h)
 
 -- ## Digits
 

@@ -25,14 +25,9 @@ pub fn put_word(out: &mut [u8], at: usize, word: &[u8]) -> usize
     requires { at + length word.now ≤ length out.old }
     ensures { Put out.old at word.now result out.new }
 {
-    let mut p = at;
-    let mut i = 0;
-    while i < word.len() {
-        out[p] = word[i];
-        p += 1;
-        i += 1;
-    }
-    p
+    let end = at + word.len();
+    out[at..end].copy_from_slice(word);
+    end
 }
 
 // How many digits n has, at most `most`.
@@ -62,9 +57,7 @@ fn put_digits(out: &mut [u8], at: usize, end: usize, n: u64)
     ensures { out.new ≡ sets out.old at (last_digits (end - at) n) }
 {
     let mut rest = n;
-    let mut p = end;
-    while at < p {
-        p -= 1;
+    for p in (at..end).rev() {
         let tenth = rest / 10;
         out[p] = 48 + (rest - tenth * 10) as u8;
         rest = tenth;

@@ -1,7 +1,7 @@
 // Runs every operation on all pairs of edge values and prints each answer: a value, `outside` or `zero`.
 #![tactic(auto)]
 
-use num::Answer;
+use num::Reason;
 
 const EDGES: [i64; 25] = [
     -9223372036854775808,
@@ -41,16 +41,16 @@ fn print_value(rt: &impl Print, v: i64) {
     }
 }
 
-fn print_answer(rt: &impl Print, a: Answer) {
+fn print_answer(rt: &impl Print, a: Result<i64, Reason>) {
     match a {
-        Answer::Value(v) => {
+        Ok(v) => {
             let _ = print!(rt; " ");
             print_value(rt, v);
         }
-        Answer::Outside => {
+        Err(Reason::Outside) => {
             let _ = print!(rt; " outside");
         }
-        Answer::ZeroDivisor => {
+        Err(Reason::ZeroDivisor) => {
             let _ = print!(rt; " zero");
         }
     }

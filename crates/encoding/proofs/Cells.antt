@@ -6,7 +6,7 @@ use mathlib.Core.List.{List, [], ◌∷◌, map}
 use lib.ListN.{length, take, drop, get_or}
 use lib.IntN.{ℤ}
 use native.Mathlib.Omega.{arith}
-use Rattle.meaning.specs.Missing.{Reason, outside, divisor}
+use Rattle.meaning.specs.Missing.{Reason, Outside, ZeroDivisor}
 use Rattle.machine.specs.State.{plan_of, cell_at, count_of, with_window, with_passed}
 use Rattle.operators.specs.Operators.{group_of, is_window}
 use Rattle.layout.specs.Record.{Raw, no_raw, num, decode, row_at, op_f, flag_f}
@@ -50,8 +50,8 @@ cells_counts [] b i h q = absurd (omega arith)
 cells_counts (r ∷ rs) b i h q = go (is_window (group_of (num op_f r))) refl i h (λ d j k. cells_counts rs d j k q)
   where
     same : (q : Reason) (xs : List ℤ) → count_of q (with_window xs (counts_in r)) ≡ count_of q (counts_in r)
-    same outside xs = refl
-    same divisor xs = refl
+    same Outside xs = refl
+    same ZeroDivisor xs = refl
 
     go : (w : Bool) → is_window (group_of (num op_f r)) ≡ w → (i : ℕ) → i < suc (length rs)
         → ((d : List ℕ) (j : ℕ) → j < length rs → count_of q (cell_at (cells rs d) j).passed ≡ count_of q (counts_in (get_or rs j no_raw)))

@@ -3,7 +3,7 @@ use Prim.Native.Nat.{ℕ, zero, suc, ◌+◌, ◌*◌, ◌^◌, ◌<◌, ◌≤�
 use mathlib.Core.Path.{◌≡◌, refl, sym, ap, ap₂, ◌∙◌}
 use mathlib.Core.List.{List, [], ◌∷◌, map}
 use mathlib.Core.Bool.{Bool, true, false, not}
-use mathlib.Core.Option.{Option, none, some}
+use Rattle.std.specs.Prelude.{Option, None, Some}
 use native.Mathlib.Omega.{arith}
 use lib.Dec.{eqb, lit<}
 use lib.IntN.{ℤ, pos, negsuc}
@@ -14,7 +14,7 @@ use mir.Facts.{to_z-of_z}
 use Rattle.meaning.specs.Plan.{Eqn, input, nil, unit, one, two, last, delay, signal, window}
 use Rattle.meaning.specs.Arguments.{reads, arg_a, arg_b, AllBelow}
 use Rattle.meaning.specs.Events.{Event, ev, horizon}
-use Rattle.meaning.specs.Missing.{outside, divisor, can_lack}
+use Rattle.meaning.specs.Missing.{Outside, ZeroDivisor, can_lack}
 use Rattle.machine.specs.State.{Kept, Passed, Cell, room, no_passed, with_passed}
 use Rattle.operators.specs.Windows.{IsWidth}
 use Rattle.operators.specs.Operators.{group_of, number_of, value_of, eqn_of}
@@ -36,20 +36,20 @@ pub value_back : (v : ℤ) → IsValue v → to_z w64 (of_z w64 v) ≡ v
 value_back v h = to_z-of_z {w = w64} {z = v} (record { sfits = h })
 
 flag_below : (o : Option ℤ) → flag_of o < 256
-flag_below none = lit< tt
-flag_below (some v) = lit< tt
+flag_below None = lit< tt
+flag_below (Some v) = lit< tt
 
 bool_below : (b : Bool) → flag b < 256
 bool_below true = lit< tt
 bool_below false = lit< tt
 
 optional_below : (o : Option ℤ) → IsOptional o → bits_of o < 2 ^ 64
-optional_below none h = lit< tt
-optional_below (some v) h = bits_below v h
+optional_below None h = lit< tt
+optional_below (Some v) h = bits_below v h
 
 optional_back : (o : Option ℤ) → IsOptional o → optional (flag_of o) (bits_of o) ≡ o
-optional_back none h = refl
-optional_back (some v) h = ap some (value_back v h)
+optional_back None h = refl
+optional_back (Some v) h = ap Some (value_back v h)
 
 number_below : (e : Eqn) → number_of e < 256
 number_below e = let r = number_range e in omega arith
@@ -143,7 +143,7 @@ cell_raw n c h ok =
               bool_below c.out,
               (
                 omega arith,
-                (k.flag, (k.prior_flag, (lit< tt, (bits_below (value_of c.eqn) ok.value, (omega arith, (next_small c.out ok.next, (k.kept, (k.value, (k.prior, (counts_small c.passed.outside c.passed.divisors (ok.counts outside) (ok.counts divisor), tt)))))))))),
+                (k.flag, (k.prior_flag, (lit< tt, (bits_below (value_of c.eqn) ok.value, (omega arith, (next_small c.out ok.next, (k.kept, (k.value, (k.prior, (counts_small c.passed.outside c.passed.divisors (ok.counts Outside) (ok.counts ZeroDivisor), tt)))))))))),
               ),
             ),
           ),

@@ -1,6 +1,5 @@
 -- How: a raw record read as a cell of the machine: total, also where the numbers are no cell's.
-use Rattle.std.specs.Prelude.{ℕ, ◌-◌, ◌/◌, ◌%◌, ◌^◌, min, not, cond, List, [], ◌∷◌, map, eqb, length, take, drop, ℤ}
-use Rattle.std.proofs.Math.Option.{Option, none, some}
+use Rattle.std.specs.Prelude.{ℕ, ◌-◌, ◌/◌, ◌%◌, ◌^◌, min, not, cond, List, [], ◌∷◌, map, eqb, length, take, drop, ℤ, Option, None, Some}
 use Rattle.std.specs.Int.{w64}
 use Rattle.std.proofs.Common.{to_z}
 use Rattle.meaning.specs.Events.{Event, ev}
@@ -11,7 +10,7 @@ use Rattle.layout.specs.Record.{Slot, Raw, num, decode, op_f, a_f, b_f, out_f, c
 
 -- what may be absent
 abbrev pub optional : ℕ → ℕ → Option ℤ
-optional has x = cond (eqb has 0) none (some (to_z w64 x))
+optional has x = cond (eqb has 0) None (Some (to_z w64 x))
 
 abbrev pub event_of : Slot → Event
 event_of e = ev e.stamp (to_z w64 e.value)
@@ -22,15 +21,15 @@ held_of r = map event_of (take (min (num count_f r) room) r.slots)
 
 -- what a last keeps, a delay, and a signal form
 abbrev pub last_of : Raw → Kept
-last_of r = record { prev = optional (num flag_f r) (num kept_f r); prev_b = none; since = 0; value = none; prior = none }
+last_of r = record { prev = optional (num flag_f r) (num kept_f r); prev_b = None; since = 0; value = None; prior = None }
 
 abbrev pub delay_of : Raw → Kept
 delay_of r =
-    record { prev = none; prev_b = none; since = num kept_f r; value = optional (num flag_f r) (num value_f r); prior = optional (num prior_flag_f r) (num prior_f r) }
+    record { prev = None; prev_b = None; since = num kept_f r; value = optional (num flag_f r) (num value_f r); prior = optional (num prior_flag_f r) (num prior_f r) }
 
 abbrev pub signal_of : Raw → Kept
 signal_of r =
-    record { prev = optional (num flag_f r) (num kept_f r); prev_b = optional (num prior_flag_f r) (num value_f r); since = 0; value = none; prior = none }
+    record { prev = optional (num flag_f r) (num kept_f r); prev_b = optional (num prior_flag_f r) (num value_f r); since = 0; value = None; prior = None }
 
 unfoldable pub kept_of : Raw → Kept
 kept_of r =

@@ -1,6 +1,5 @@
 -- Believe: the states that the layout can hold: what holds of every cell, of a run or not.
-use Rattle.std.specs.Prelude.{ℕ, suc, ◌^◌, ◌≤◌, ◌<◌, ◌≡◌, Bool, true, false, List, [], ◌∷◌, T, length, ℤ}
-use Rattle.std.proofs.Math.Option.{Option, none, some}
+use Rattle.std.specs.Prelude.{ℕ, suc, ◌^◌, ◌≤◌, ◌<◌, ◌≡◌, Bool, true, false, List, [], ◌∷◌, T, length, ℤ, Option, None, Some}
 use Rattle.std.specs.Int.Signed.{mag}
 use Rattle.meaning.specs.Plan.{Eqn, input, nil, unit, one, two, last, delay, signal, window, is_input}
 use Rattle.meaning.specs.Table.{width}
@@ -18,8 +17,8 @@ abbrev pub IsValue : ℤ → Type 0
 IsValue v = mag v < 2 ^ 63
 
 abbrev pub IsOptional : Option ℤ → Type 0
-IsOptional none = Unit {0}
-IsOptional (some v) = IsValue v
+IsOptional None = Unit {0}
+IsOptional (Some v) = IsValue v
 
 -- held events, by rising stamp from lo on, below top
 abbrev pub Rising : (lo top : ℕ) → List Event → Type 0
@@ -34,29 +33,29 @@ IsNext false next bound = next ≡ 0
 -- what an equation with this bound may keep
 pub record LastKept (y : ℕ) (k : Kept) : Type 0 where
   pub prev : IsOptional k.prev
-  pub fresh : y ≡ 0 → k.prev ≡ none
-  pub prev_b : k.prev_b ≡ none
+  pub fresh : y ≡ 0 → k.prev ≡ None
+  pub prev_b : k.prev_b ≡ None
   pub since : k.since ≡ 0
-  pub value : k.value ≡ none
-  pub prior : k.prior ≡ none
+  pub value : k.value ≡ None
+  pub prior : k.prior ≡ None
 
 pub record DelayKept (y : ℕ) (k : Kept) : Type 0 where
-  pub prev : k.prev ≡ none
-  pub prev_b : k.prev_b ≡ none
+  pub prev : k.prev ≡ None
+  pub prev_b : k.prev_b ≡ None
   pub since : k.since ≤ y
   pub value : IsOptional k.value
   pub prior : IsOptional k.prior
-  pub unset : k.since ≡ 0 → k.value ≡ none
-  pub fresh : y ≡ 0 → k.prior ≡ none
+  pub unset : k.since ≡ 0 → k.value ≡ None
+  pub fresh : y ≡ 0 → k.prior ≡ None
 
 pub record SignalKept (y : ℕ) (k : Kept) : Type 0 where
   pub prev : IsOptional k.prev
   pub prev_b : IsOptional k.prev_b
-  pub fresh : y ≡ 0 → k.prev ≡ none
-  pub fresh_b : y ≡ 0 → k.prev_b ≡ none
+  pub fresh : y ≡ 0 → k.prev ≡ None
+  pub fresh_b : y ≡ 0 → k.prev_b ≡ None
   pub since : k.since ≡ 0
-  pub value : k.value ≡ none
-  pub prior : k.prior ≡ none
+  pub value : k.value ≡ None
+  pub prior : k.prior ≡ None
 
 abbrev pub IsKept : Eqn → ℕ → Kept → Type 0
 IsKept input y k = k ≡ no_kept

@@ -1,6 +1,5 @@
 -- Believe: a cell of the machine as a raw record, and a state as bytes.
-use Rattle.std.specs.Prelude.{ℕ, zero, suc, ◌+◌, ◌*◌, ◌-◌, ◌^◌, Bool, true, false, cond, List, [], ◌∷◌, ◌++◌, map, length, replicate, ℤ}
-use Rattle.std.proofs.Math.Option.{Option, none, some}
+use Rattle.std.specs.Prelude.{ℕ, zero, suc, ◌+◌, ◌*◌, ◌-◌, ◌^◌, Bool, true, false, cond, List, [], ◌∷◌, ◌++◌, map, length, replicate, ℤ, Option, None, Some}
 use Rattle.std.specs.Int.{w64}
 use Rattle.std.proofs.Common.{of_z}
 use Rattle.meaning.specs.Plan.{Eqn}
@@ -18,12 +17,12 @@ flag false = 0
 
 -- what may be absent: whether it is there, and its bits, 0 if not
 abbrev pub flag_of : Option ℤ → ℕ
-flag_of none = 0
-flag_of (some v) = 1
+flag_of None = 0
+flag_of (Some v) = 1
 
 abbrev pub bits_of : Option ℤ → ℕ
-bits_of none = 0
-bits_of (some v) = of_z w64 v
+bits_of None = 0
+bits_of (Some v) = of_z w64 v
 
 -- the numbers of what is kept: two flags, three words
 pub record KeptNums : Type 0 where

@@ -13,7 +13,7 @@ ghost use Rattle.counts.specs.Missing.{missing_reply};
 ghost use Rattle.widen.specs.Widen.{widen_reply};
 
 use operators::Plan;
-use valid::Tested;
+use refusal::Refusal;
 
 // Loads a plan text: on 0 the state is fresh, with the plan's streams; on any other number it is as it was.
 pub fn tessla_load(state: &mut [u8], text: &[u8]) -> u32
@@ -22,11 +22,10 @@ pub fn tessla_load(state: &mut [u8], text: &[u8]) -> u32
 {
     let most = Plan::capacity(state.len());
     if most == 0 {
-        return 15;
+        return Refusal::BadState.number();
     }
-    let number = plan::number(text, most);
-    if number != 0 {
-        return number;
+    if let Err(r) = plan::check(text, most) {
+        return r.number();
     }
     load::fill(state, text, most);
     0
@@ -38,8 +37,8 @@ pub fn tessla_offer_reading(state: &mut [u8], stream: u32, stamp: u32, value: i6
     ensures buffer { state.new ≡ (reply (reading stream stamp value) state.old).buffer }
 {
     match valid::streams(state) {
-        Tested::State(n) => calls::offer_reading(state, n, stream, stamp, value),
-        Tested::NoState => 15,
+        Some(n) => refusal::code(calls::offer_reading(state, n, stream, stamp, value)),
+        None => Refusal::BadState.number(),
     }
 }
 
@@ -49,8 +48,8 @@ pub fn tessla_offer_progress(state: &mut [u8], stream: u32, bound: u64) -> u32
     ensures buffer { state.new ≡ (reply (progress stream bound) state.old).buffer }
 {
     match valid::streams(state) {
-        Tested::State(n) => calls::offer_progress(state, n, stream, bound),
-        Tested::NoState => 15,
+        Some(n) => refusal::code(calls::offer_progress(state, n, stream, bound)),
+        None => Refusal::BadState.number(),
     }
 }
 
@@ -61,13 +60,18 @@ pub fn tessla_collect(state: &mut [u8], stream: u32, stamp: &mut u32, value: &mu
     ensures value { value.new ≡ (reply (collecting stream) state.old).value }
     ensures buffer { state.new ≡ (reply (collecting stream) state.old).buffer }
 {
+    *stamp = 0;
+    *value = 0;
     match valid::streams(state) {
-        Tested::State(n) => calls::collect(state, n, stream, stamp, value),
-        Tested::NoState => {
-            *stamp = 0;
-            *value = 0;
-            15
-        }
+        Some(n) => match calls::collect(state, n, stream) {
+            Ok((at, event)) => {
+                *stamp = at;
+                *value = event;
+                0
+            }
+            Err(reason) => reason.number(),
+        },
+        None => Refusal::BadState.number(),
     }
 }
 
@@ -77,8 +81,8 @@ pub fn tessla_move(state: &mut [u8], stream: u32) -> u32
     ensures buffer { state.new ≡ (reply (moving stream) state.old).buffer }
 {
     match valid::streams(state) {
-        Tested::State(n) => calls::move_stream(state, n, stream),
-        Tested::NoState => 15,
+        Some(n) => refusal::code(calls::move_stream(state, n, stream)),
+        None => Refusal::BadState.number(),
     }
 }
 
@@ -89,13 +93,13 @@ pub fn tessla_run(state: &mut [u8], n: u32, moves: &mut u32) -> u32
     ensures buffer { state.new ≡ (reply (running n) state.old).buffer }
 {
     match valid::streams(state) {
-        Tested::State(streams) => {
+        Some(streams) => {
             *moves = calls::run(state, streams, n);
             0
         }
-        Tested::NoState => {
+        None => {
             *moves = 0;
-            15
+            Refusal::BadState.number()
         }
     }
 }
@@ -106,12 +110,16 @@ pub fn tessla_plan_text(state: &[u8], text: &mut [u8], length: &mut u64) -> u32
     ensures length { length.new ≡ (plan_text state.now text.old).length }
     ensures buffer { text.new ≡ (plan_text state.now text.old).buffer }
 {
+    *length = 0;
     match valid::streams(state) {
-        Tested::State(n) => writing::write(state, n, text, length),
-        Tested::NoState => {
-            *length = 0;
-            15
-        }
+        Some(n) => match writing::write(state, n, text) {
+            Ok(size) => {
+                *length = size as u64;
+                0
+            }
+            Err(reason) => reason.number(),
+        },
+        None => Refusal::BadState.number(),
     }
 }
 
@@ -122,13 +130,18 @@ pub fn tessla_missing(state: &[u8], stream: u32, outside: &mut u32, zero: &mut u
     ensures outside { outside.new ≡ (missing_reply stream state.now).outside }
     ensures zero { zero.new ≡ (missing_reply stream state.now).divisors }
 {
+    *outside = 0;
+    *zero = 0;
     match valid::streams(state) {
-        Tested::State(n) => counts::missing(state, n, stream, outside, zero),
-        Tested::NoState => {
-            *outside = 0;
-            *zero = 0;
-            15
-        }
+        Some(n) => match counts::missing(state, n, stream) {
+            Ok((past, divisors)) => {
+                *outside = past;
+                *zero = divisors;
+                0
+            }
+            Err(reason) => reason.number(),
+        },
+        None => Refusal::BadState.number(),
     }
 }
 
@@ -137,7 +150,7 @@ pub fn tessla_widen(from: &[u8], to: &mut [u8]) -> u32
     ensures number { result ≡ (widen_reply from.now to.old).number }
     ensures buffer { to.new ≡ (widen_reply from.now to.old).buffer }
 {
-    widen::widen(from, to)
+    refusal::code(widen::widen(from, to))
 }
 
 // Writes a byte of the reader board's block; writing the command starts it.
@@ -146,7 +159,7 @@ pub fn tessla_register_write(state: &mut [u8], block: &mut [u8], at: u32, byte: 
     ensures block { block.new ≡ (write state.old block.old at byte).block }
     ensures buffer { state.new ≡ (write state.old block.old at byte).state }
 {
-    registers::write(state, block, at, byte)
+    refusal::code(registers::write(state, block, at, byte))
 }
 
 // Whether the board's line is up.
@@ -154,5 +167,14 @@ pub fn tessla_register_line(block: &[u8], up: &mut u32) -> u32
     ensures number { result ≡ (board.line block.now).number }
     ensures up { up.new ≡ (board.line block.now).up }
 {
-    block::line(block, up)
+    match block::line(block) {
+        Ok(raised) => {
+            *up = raised as u32;
+            0
+        }
+        Err(reason) => {
+            *up = 0;
+            reason.number()
+        }
+    }
 }

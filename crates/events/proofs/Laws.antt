@@ -1,21 +1,18 @@
 -- The laws that the functions of this crate cite: one for each way out.
-use Prim.Native.Nat.{ℕ, zero, suc, pred, ◌-◌, ◌<◌, ◌≤◌, ◌^◌}
+use Prim.Native.Nat.{ℕ, zero, suc, pred, ◌-◌, ◌<◌, ◌≤◌}
 use mathlib.Core.Path.{◌≡◌, refl, sym, ap, ap₂, ◌∙◌}
-use mathlib.Core.Bool.{Bool, true, false, cond, ◌&&◌, ◌||◌}
-use mathlib.Core.Option.{Option, none, some}
+use mathlib.Core.Bool.{Bool, true, false, ◌&&◌, ◌||◌, false≢true}
+use mathlib.Core.Logic.{◌⊎◌, inl, inr}
+use Rattle.std.specs.Prelude.{Option, None, Some, is_some}
 use mathlib.Core.List.{List}
 use native.Mathlib.Omega.{arith}
-use lib.Dec.{T, ltb, eqb}
-use lib.IntN.{ℤ, pos, negsuc, nat_abs}
-use lib.Signed.{mag, lt_z, non_neg}
-use mir.Syntax.{w64}
-use mir.Val.{Fits}
-use borrow.Author.Tests.{lt-ltb, le-ltb, eq-eqb, ne_eqb, ltb-true}
+use lib.Dec.{ltb, eqb}
+use lib.IntN.{ℤ, pos, negsuc}
+use borrow.Author.Tests.{lt-ltb, le-ltb, ne_eqb}
 use Rattle.meaning.specs.Plan.{Calc, calc}
-use Rattle.meaning.specs.Events.{Stream, has, or_else}
+use Rattle.meaning.specs.Events.{has}
 use Rattle.meaning.specs.Table.{is, unit_at, two_at, signal_at}
 use Rattle.machine.specs.Reach as machine
-use Rattle.machine.proofs.Window.{or_none}
 use Rattle.streams.specs.declared.Op.{Op}
 use Rattle.streams.specs.declared.Look.{Look}
 use Rattle.streams.specs.Look.{plain, own_of, arg_of}
@@ -23,31 +20,10 @@ use Rattle.events.specs.Near.{size}
 
 -- ---- a value as a number of stamps
 
-pub size_neg : (v : ℤ) → lt_z v (pos 0) ≡ true → 0 ≡ size (some v)
-size_neg (pos n) e = let h = ltb-true n 0 e in absurd (omega arith)
-size_neg (negsuc n) e = refl
-
-pub size_cast : (v : ℤ) → mag v < 2 ^ 63 → lt_z v (pos 0) ≡ false → T (non_neg v) × Fits w64 (nat_abs v)
-size_cast (pos n) h e = (tt, omega arith)
-size_cast (negsuc n) h e = let z : ◌≡◌ {A = ℕ} 0 1 = cc in absurd (omega arith)
-
-pub size_pos : (v : ℤ) → mag v < 2 ^ 63 → lt_z v (pos 0) ≡ false → (nat_abs v ≡ size (some v)) × (nat_abs v < 2 ^ 63)
-size_pos (pos n) h e = (refl, omega arith)
-size_pos (negsuc n) h e = let z : ◌≡◌ {A = ℕ} 0 1 = cc in absurd (omega arith)
-
 is_size : (n : ℕ) (o : Option ℤ) → 0 < n → eqb (size o) n ≡ is n o
-is_size n none h = ne_eqb 0 n (λ e. omega arith)
-is_size n (some (pos m)) h = refl
-is_size n (some (negsuc m)) h = ne_eqb 0 n (λ e. omega arith)
-
--- ---- an event, held or kept
-
-module _ (f : Stream) (p z since : ℕ) (o v : Option ℤ) (e : o ≡ f p) (q : p ≡ pred z) where
-  pub set_kept : z ≡ since → or_else o v ≡ or_else (f (pred z)) (cond (eqb z since) v none)
-  set_kept w = ap₂ or_else (e ∙ ap f q) (sym (ap (λ b. cond b v none) (eq-eqb z since w)))
-
-  pub set_held : (z ≡ since → ⊥) → o ≡ or_else (f (pred z)) (cond (eqb z since) v none)
-  set_held w = e ∙ ap f q ∙ sym (ap (λ b. or_else (f (pred z)) (cond b v none)) (ne_eqb z since w) ∙ or_none (f (pred z)))
+is_size n None h = ne_eqb 0 n (λ e. omega arith)
+is_size n (Some (pos m)) h = refl
+is_size n (Some (negsuc m)) h = ne_eqb 0 n (λ e. omega arith)
 
 -- ---- due
 
@@ -61,11 +37,11 @@ due_some z t n o h l e =
 
 -- ---- unit
 
-pub unit_zero : (t : ℕ) → t ≡ 0 → some (pos 0) ≡ unit_at t
+pub unit_zero : (t : ℕ) → t ≡ 0 → Some (pos 0) ≡ unit_at t
 unfolding unit_at
 unit_zero t e = ap unit_at (sym e)
 
-pub unit_later : (t : ℕ) → (t ≡ 0 → ⊥) → none ≡ unit_at t
+pub unit_later : (t : ℕ) → (t ≡ 0 → ⊥) → None ≡ unit_at t
 unfolding unit_at
 unit_later zero h = absurd (h refl)
 unit_later (suc t) h = refl
@@ -76,12 +52,29 @@ pub gives_arm : (l : Look) (A B : List ℕ) (t : ℕ) {p q : Op} → p ≡ q
     → machine.gives (plain q) (own_of l.stream) (arg_of l.abound A) (arg_of l.bbound B) t ≡ machine.gives (plain p) (own_of l.stream) (arg_of l.abound A) (arg_of l.bbound B) t
 gives_arm l A B t e = sym (ap (λ (o : Op). machine.gives (plain o) (own_of l.stream) (arg_of l.abound A) (arg_of l.bbound B) t) e)
 
+-- ---- whether there is a value
+
+pub is_some_has : (o : Option ℤ) → is_some o ≡ has o
+is_some_has None = refl
+is_some_has (Some v) = refl
+
+pub neither_has : (u w : Option ℤ) → is_some u ≡ false → is_some w ≡ false → (has u || has w) ≡ false
+neither_has None None e q = refl
+neither_has None (Some v) e q = absurd (false≢true (sym q))
+neither_has (Some v) w e q = absurd (false≢true (sym e))
+
+pub either_has : (u w : Option ℤ) → (is_some u ≡ true) ⊎ (is_some w ≡ true) → (has u || has w) ≡ true
+either_has (Some v) w e = refl
+either_has None (Some v) e = refl
+either_has None None (inl e) = absurd (false≢true e)
+either_has None None (inr e) = absurd (false≢true e)
+
 -- a signal form, where neither argument has an event and where one has
 module _ (c : Calc) (u w x y : Option ℤ) where
-  pub signal_none : (has u || has w) ≡ false → none ≡ signal_at c u w x y
+  pub signal_none : is_some u ≡ false → is_some w ≡ false → None ≡ signal_at c u w x y
   unfolding signal_at
-  signal_none e = rw e
+  signal_none e q = let k : (has u || has w) ≡ false = neither_has u w e q in rw k
 
-  pub signal_some : (has u || has w) ≡ true → two_at (calc c) x y ≡ signal_at c u w x y
+  pub signal_some : (is_some u ≡ true) ⊎ (is_some w ≡ true) → two_at (calc c) x y ≡ signal_at c u w x y
   unfolding signal_at
-  signal_some e = rw e
+  signal_some e = let k : (has u || has w) ≡ true = either_has u w e in rw k

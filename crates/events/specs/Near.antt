@@ -1,6 +1,5 @@
 -- How: the three cells of a move as the code has them: the equation's own in a struct, its arguments' in their bytes.
-use Rattle.std.specs.Prelude.{ℕ, List, ℤ, pos, negsuc}
-use Rattle.std.proofs.Math.Option.{Option, none, some}
+use Rattle.std.specs.Prelude.{ℕ, List, ℤ, pos, negsuc, Option, None, Some}
 use Rattle.meaning.specs.Plan.{nil}
 use Rattle.machine.specs.State.{Cell}
 use Rattle.machine.specs.Reach.{gives}
@@ -18,9 +17,9 @@ holding s = arg_of 0 s
 
 -- a value as a number of stamps; one below 0 is 0
 abbrev pub size : Option ℤ → ℕ
-size none = 0
-size (some (pos n)) = n
-size (some (negsuc n)) = 0
+size None = 0
+size (Some (pos n)) = n
+size (Some (negsuc n)) = 0
 
 -- what the equation has at t
 abbrev pub gives_in : Look → (A B : List ℕ) → ℕ → Option ℤ

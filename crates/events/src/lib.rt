@@ -7,31 +7,20 @@ ghost use Rattle.meaning.specs.Table.{last_at, delay_at, signal_at, unit_at};
 ghost use Rattle.machine.specs.Reach as machine;
 ghost use Rattle.layout.specs.Record.{dec_raw};
 ghost use Rattle.encoding.specs.Back.{held_of};
-ghost use Rattle.queue.specs.Found.{as_option};
 ghost use Rattle.apply.specs.Named.{calculation};
 ghost use Rattle.events.specs.Near.{keeping, holding, size, gives_in};
 
 use apply::Calc;
-use queue::Found;
 use streams::{Kept, Look, Op};
 
-// One less, and 0 of 0.
-pub fn before(z: u64) -> u64
-    ensures { result ≡ pred z }
-{
-    if z == 0 { 0 } else { z - 1 }
-}
-
 // The first argument's event one below z, held or kept.
-pub fn set_value(k: Kept, a: &[u8], z: u64) -> Found
+pub fn set_value(k: Kept, a: &[u8], z: u64) -> Option<i64>
     requires { length a.now ≡ 256 }
-    ensures { as_option result ≡ machine.value_at (keeping k) (holding a.now) z }
+    ensures { result ≡ machine.value_at (keeping k) (holding a.now) z }
 {
-    let p = before(z);
-    let x = queue::find(a, p);
+    let x = queue::find(a, z.saturating_sub(1));
     if z == k.since {
-        let v = k.value;
-        return apply::or_else(x, v);
+        return x.or(k.value);
     }
     x
 }
@@ -41,19 +30,14 @@ pub fn point(k: Kept, b: &[u8], t: u64) -> u64
     requires { length b.now ≡ 256 }
     ensures { result ≡ machine.point (keeping k) (holding b.now) t }
 {
-    let since = k.since;
-    let z = queue::past_latest(b, t);
-    if since < z {
-        return z;
-    }
-    since
+    k.since.max(queue::past_latest(b, t))
 }
 
 // A value as a number of stamps; one below 0 is 0.
-pub fn stamps_of(x: Found) -> u64
-    ensures { (result ≡ size (as_option x)) × (result < 2 ^ 63) }
+pub fn stamps_of(x: Option<i64>) -> u64
+    ensures { (result ≡ size x) × (result < 2 ^ 63) }
 {
-    let Found::Value(v) = x else {
+    let Some(v) = x else {
         return 0;
     };
     if v < 0 {
@@ -75,118 +59,76 @@ fn due(k: Kept, a: &[u8], z: u64, t: u64) -> bool
 }
 
 // What a stream had latest below t: held in its record, or else kept.
-pub fn held_latest(r: &[u8], t: u64, kept: Found) -> Found
+pub fn held_latest(r: &[u8], t: u64, kept: Option<i64>) -> Option<i64>
     requires { length r.now ≡ 256 }
-    ensures { as_option result ≡ machine.held_latest (holding r.now) t (as_option kept) }
+    ensures { result ≡ machine.held_latest (holding r.now) t kept }
 {
-    let x = queue::latest_before(r, t);
-    apply::or_else(x, kept)
+    queue::latest_before(r, t).or(kept)
 }
 
 // last: what the first argument had latest before t, held or kept, if the second has an event at t.
-fn last_at(k: Kept, a: &[u8], b: &[u8], t: u64) -> Found
+fn last_at(k: Kept, a: &[u8], b: &[u8], t: u64) -> Option<i64>
     requires { (length a.now ≡ 256) × (length b.now ≡ 256) }
-    ensures { as_option result ≡ last_at (found (held_of (dec_raw b.now)) t) (machine.held_latest (holding a.now) t (as_option k.prev)) }
+    ensures { result ≡ last_at (found (held_of (dec_raw b.now)) t) (machine.held_latest (holding a.now) t k.prev) }
 {
-    let y = queue::find(b, t);
-    let Found::Value(_) = y else {
-        return Found::Nothing;
-    };
-    let prev = k.prev;
-    held_latest(a, t, prev)
-}
-
-// Whether there is a value.
-pub fn is_some(x: Found) -> bool
-    ensures { result ≡ has (as_option x) }
-{
-    match x {
-        Found::Value(_) => true,
-        Found::Nothing => false,
-    }
-}
-
-// Whether one of the two is there.
-pub fn either(x: Found, y: Found) -> bool
-    ensures { result ≡ (has (as_option x) || has (as_option y)) }
-{
-    match x {
-        Found::Value(_) => true,
-        Found::Nothing => is_some(y),
-    }
+    queue::find(b, t)?;
+    held_latest(a, t, k.prev)
 }
 
 // sadd to seq: if either argument has an event at t, the calculation on what both had latest at t or before, held or kept.
-fn signal_at(g: Calc, k: Kept, a: &[u8], b: &[u8], t: u64) -> Found
+fn signal_at(g: Calc, k: Kept, a: &[u8], b: &[u8], t: u64) -> Option<i64>
     requires { (length a.now ≡ 256) × (length b.now ≡ 256) × (t ≤ horizon) }
-    ensures { as_option result ≡ signal_at (calculation g) (found (held_of (dec_raw a.now)) t) (found (held_of (dec_raw b.now)) t) (machine.held_latest (holding a.now) (suc t) (as_option k.prev)) (machine.held_latest (holding b.now) (suc t) (as_option k.prevb)) }
+    ensures { result ≡ signal_at (calculation g) (found (held_of (dec_raw a.now)) t) (found (held_of (dec_raw b.now)) t) (machine.held_latest (holding a.now) (suc t) k.prev) (machine.held_latest (holding b.now) (suc t) k.prevb) }
 {
     let x = queue::find(a, t);
     let y = queue::find(b, t);
-    if !either(x, y) {
-        return Found::Nothing;
+    if x.is_none() && y.is_none() {
+        return None;
     }
-    let prev = k.prev;
-    let prevb = k.prevb;
-    let v = held_latest(a, t + 1, prev);
-    let w = held_latest(b, t + 1, prevb);
+    let v = held_latest(a, t + 1, k.prev);
+    let w = held_latest(b, t + 1, k.prevb);
     apply::calc_at(g, v, w)
 }
 
 // delay: 0, if it is due at t from its latest set point.
-fn delay_at(k: Kept, a: &[u8], b: &[u8], t: u64) -> Found
+fn delay_at(k: Kept, a: &[u8], b: &[u8], t: u64) -> Option<i64>
     requires { (length a.now ≡ 256) × (length b.now ≡ 256) × (k.since ≤ t) }
-    ensures { as_option result ≡ delay_at (machine.due (keeping k) (holding a.now) (machine.point (keeping k) (holding b.now) t) t) }
+    ensures { result ≡ delay_at (machine.due (keeping k) (holding a.now) (machine.point (keeping k) (holding b.now) t) t) }
 {
     let z = point(k, b, t);
     if due(k, a, z, t) {
-        return Found::Value(0);
+        return Some(0);
     }
-    Found::Nothing
+    None
 }
 
 // unit: 0 at stamp 0.
-fn unit_at(t: u64) -> Found
-    ensures { as_option result ≡ unit_at t }
+fn unit_at(t: u64) -> Option<i64>
+    ensures { result ≡ unit_at t }
 {
     if t == 0 {
-        return Found::Value(0);
+        return Some(0);
     }
-    Found::Nothing
+    None
 }
 
 // What the equation has at t. A window is not looked for by stamps, and has nothing here.
-pub fn event_at(l: Look, a: &[u8], b: &[u8], t: u64) -> Found
+pub fn event_at(l: Look, a: &[u8], b: &[u8], t: u64) -> Option<i64>
     requires { (length a.now ≡ 256) × (length b.now ≡ 256) × (l.stream.kept.since ≤ t) × (t ≤ horizon) }
-    ensures { as_option result ≡ gives_in l a.now b.now t }
+    ensures { result ≡ gives_in l a.now b.now t }
 {
     let s = l.stream;
-    let op = s.op;
-    match op {
-        Op::In => Found::Nothing,
-        Op::Nil => Found::Nothing,
+    match s.op {
+        Op::In | Op::Nil | Op::Window(_, _, _) => None,
         Op::Unit => unit_at(t),
-        Op::One(f, _) => {
-            let x = queue::find(a, t);
-            apply::one_at(f, t, x)
-        }
+        Op::One(f, _) => apply::one_at(f, t, queue::find(a, t)),
         Op::Two(g, _, _) => {
             let x = queue::find(a, t);
             let y = queue::find(b, t);
             apply::two_at(g, x, y)
         }
-        Op::Last(_, _) => {
-            let k = s.kept;
-            last_at(k, a, b, t)
-        }
-        Op::Delay(_, _) => {
-            let k = s.kept;
-            delay_at(k, a, b, t)
-        }
-        Op::Signal(g, _, _) => {
-            let k = s.kept;
-            signal_at(g, k, a, b, t)
-        }
-        Op::Window(_, _, _) => Found::Nothing,
+        Op::Last(_, _) => last_at(s.kept, a, b, t),
+        Op::Delay(_, _) => delay_at(s.kept, a, b, t),
+        Op::Signal(g, _, _) => signal_at(g, s.kept, a, b, t),
     }
 }

@@ -14,12 +14,8 @@ use Rattle.operators.specs.Operators.{no_operator, operators, name_of}
 use Rattle.operators.proofs.Numbers.{agreeing}
 use Rattle.operators.proofs.Tests.{left, right}
 use Rattle.lines.specs.Form.{ending, value_key, out_key, skip, field, value_line, out_line}
-use Rattle.lines.specs.declared.Word.TheVariants.{Past}
-use Rattle.lines.specs.declared.Numeral.TheVariants.{Number}
-use Rattle.text.specs.declared.Name.TheVariants as Name
+use Rattle.std.specs.Prelude.{Some, Ok}
 use Rattle.text.specs.declared.Fields.{Fields}
-use Rattle.text.specs.declared.Lines.TheVariants as Lines
-use Rattle.text.specs.declared.Head.TheVariants as Head
 use Rattle.text.specs.Grammar.{plan_line, streams_key, op_key, first_key, second_key, op_line, stream, head}
 use Rattle.decimal.specs.Decimal.{digits, decimal, value_text}
 use Rattle.render.specs.Render.{bit_text, line}
@@ -84,21 +80,21 @@ module _ (s : List ℕ) where
   }
 
   module _ {l : ℕ} where
-    op_after : {at n q : ℕ} → Begins s l at → op_line s at ≡ Name.Operator n q → Begins s (l + 1) q
+    op_after : {at n q : ℕ} → Begins s l at → op_line s at ≡ Ok (n, q) → Begins s (l + 1) q
     op_after {at} {n} {q} g e = line_after q op_key (name_of n) g (clean_unended op_key refl) (name_unended n) (op_read s at n q e)
 
-    field_after : {at v q : ℕ} (key : List ℕ) → clean key ≡ true → Begins s l at → field s at key 3 ≡ Number v q → Begins s (l + 1) q
+    field_after : {at v q : ℕ} (key : List ℕ) → clean key ≡ true → Begins s l at → field s at key 3 ≡ Some (v, q) → Begins s (l + 1) q
     field_after {at} {v} {q} key c g e = line_after q key (decimal v) g (clean_unended key c) (digits_unended 19 v) (field_read s at key 3 v q (lit< tt) (lit≤ tt) e)
 
-    value_after : {at v q : ℕ} → Begins s l at → value_line s at ≡ Number v q → Begins s (l + 1) q
+    value_after : {at v q : ℕ} → Begins s l at → value_line s at ≡ Some (v, q) → Begins s (l + 1) q
     value_after {at} {v} {q} g e = line_after q value_key (value_text (to_z w64 v)) g (clean_unended value_key refl) (value_unended (to_z w64 v)) (value_read s at v q e).0
 
-    out_after : {at v q : ℕ} → Begins s l at → out_line s at ≡ Number v q → Begins s (l + 1) q
+    out_after : {at v q : ℕ} → Begins s l at → out_line s at ≡ Some (v, q) → Begins s (l + 1) q
     out_after {at} {v} {q} g e = line_after q out_key (bit_text (eqb v 1)) g (clean_unended out_key refl) (bit_unended (eqb v 1)) (out_read s at v q e).0
 
   -- ## The lines of a stream, of all streams, of the text
 
-  stream_after_lem : {l at : ℕ} {f : Fields} → Begins s l at → stream s at ≡ Lines.Stream f → Begins s (l + 5) f.next
+  stream_after_lem : {l at : ℕ} {f : Fields} → Begins s l at → stream s at ≡ Ok f → Begins s (l + 5) f.next
   stream_after_lem {l} {at} {f} g e =
       stream_case s at f e (λ n p o r.
       fields_case s n p f r (λ x p₁ y p₂ z p₃ w end ea eb ek eo t.
@@ -118,15 +114,15 @@ module _ (s : List ℕ) where
   top_begins : Begins s 1 0
   top_begins = record { lines = 0; before = []; whole = none; split = refl; counted = refl }
 
-  count_begins : {p : ℕ} → skip s 0 plan_line ≡ Past p → Begins s 2 p
+  count_begins : {p : ℕ} → skip s 0 plan_line ≡ Some p → Begins s 2 p
   count_begins {p} e = line_after p (112 ∷ 108 ∷ 97 ∷ 110 ∷ 61 ∷ 49 ∷ []) [] top_begins (clean_unended (112 ∷ 108 ∷ 97 ∷ 110 ∷ 61 ∷ 49 ∷ []) refl) tt (skip_read s plan_line 0 p e)
 
   -- of a text of some bytes
-  head_begins : (cap : ℕ) {n at : ℕ} → head cap s ≡ Head.Streams n at → (s ≡ [] → n ≡ 0 → ⊥) → Begins s 3 at
+  head_begins : (cap : ℕ) {n at : ℕ} → head cap s ≡ Ok (n, at) → (s ≡ [] → n ≡ 0 → ⊥) → Begins s 3 at
   head_begins cap {n} {at} e some = head_case cap s n at e (λ z m q. absurd (some z m)) (λ p w f x y. field_after streams_key refl (count_begins w) f)
 
   -- no bytes have no first line
-  no_line : {q : ℕ} → skip [] 0 plan_line ≡ Past q → ⊥
+  no_line : {q : ℕ} → skip [] 0 plan_line ≡ Some q → ⊥
   unfolding skip
   no_line e = let z : ◌≡◌ {A = ℕ} 0 1 = cc in omega arith
 

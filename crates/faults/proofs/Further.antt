@@ -9,14 +9,11 @@ use lib.Dec.{eqb, ltb}
 use lib.ListN.{length}
 use Rattle.meaning.specs.CycleTest.{acyclic}
 use Rattle.operators.specs.Limits.{text_limit}
-use Rattle.lines.specs.declared.Word.{Word}
-use Rattle.lines.specs.declared.Word.TheVariants.{Past, Absent}
-use Rattle.lines.specs.declared.Numeral.{Numeral}
-use Rattle.lines.specs.declared.Numeral.TheVariants.{Number, Fault}
+use Rattle.std.specs.Prelude.{Option, Some, None, Result, Ok, Err}
+use Rattle.refusal.specs.declared.Refusal.{Refusal}
+use Rattle.refusal.specs.Numbers.{number_of}
 use Rattle.lines.specs.Form.{skip, field, value_line}
 use Rattle.text.specs.declared.Fields.{Fields}
-use Rattle.text.specs.declared.Lines.{Lines}
-use Rattle.text.specs.declared.Head.{Head}
 use Rattle.text.specs.Grammar.{plan_line, first_key, second_key, stream, head}
 use Rattle.render.proofs.Ranges.{same_stream, not_refused}
 use Rattle.faults.specs.declared.Fault as declared
@@ -26,32 +23,40 @@ use Rattle.faults.proofs.Begins.{line_begins}
 use Rattle.faults.proofs.Located.{fault_read}
 use Rattle.faults.proofs.Says.{first_told, window_told}
 
-heads_count : {n m p q : ℕ} → Head.Streams n p ≡ Head.Streams m q → n ≡ m
-heads_count e = cc
+abbrev count_in : Result (ℕ × ℕ) Refusal → ℕ
+count_in (Ok (n, p)) = n
+count_in (Err r) = 0
 
-heads_place : {n m p q : ℕ} → Head.Streams n p ≡ Head.Streams m q → p ≡ q
-heads_place e = cc
+abbrev place_in : Result (ℕ × ℕ) Refusal → ℕ
+place_in (Ok (n, p)) = p
+place_in (Err r) = 0
 
-no_head : {n p r : ℕ} → Head.Refused r ≡ Head.Streams n p → ⊥
-no_head e = let z : ◌≡◌ {A = ℕ} 0 1 = cc in omega arith
+heads_count : {n m p q : ℕ} → ◌≡◌ {A = Result (ℕ × ℕ) Refusal} (Ok (n, p)) (Ok (m, q)) → n ≡ m
+heads_count e = ap count_in e
 
-no_word : {p : ℕ} → Absent ≡ Past p → ⊥
-no_word e = let z : ◌≡◌ {A = ℕ} 0 1 = cc in omega arith
+heads_place : {n m p q : ℕ} → ◌≡◌ {A = Result (ℕ × ℕ) Refusal} (Ok (n, p)) (Ok (m, q)) → p ≡ q
+heads_place e = ap place_in e
+
+no_head : {n p : ℕ} {r : Refusal} → ◌≡◌ {A = Result (ℕ × ℕ) Refusal} (Err r) (Ok (n, p)) → ⊥
+no_head e = cc
+
+no_word : {p : ℕ} → None ≡ Some p → ⊥
+no_word e = cc
 
 module _ (s : List ℕ) where
   -- ## One stream: the grammar gets to no line after the faulty one
 
-  k_least : (t : ℕ) (x : Numeral) → 3 ≤ line_or 3 x (λ r. 4)
-  k_least t (Number v r) = omega arith
-  k_least t Fault = omega arith
+  k_least : (t : ℕ) (x : Option (ℕ × ℕ)) → 3 ≤ line_or 3 x (λ r. 4)
+  k_least t (Some (v, r)) = omega arith
+  k_least t None = omega arith
 
-  b_least : (x : Numeral) → 2 ≤ line_or 2 x (λ r. line_or 3 (value_line s r) (λ r. 4))
-  b_least (Number v r) = let h = k_least r (value_line s r) in omega arith
-  b_least Fault = omega arith
+  b_least : (x : Option (ℕ × ℕ)) → 2 ≤ line_or 2 x (λ r. line_or 3 (value_line s r) (λ r. 4))
+  b_least (Some (v, r)) = let h = k_least r (value_line s r) in omega arith
+  b_least None = omega arith
 
-  a_least : (x : Numeral) → 1 ≤ line_or 1 x (λ r. line_or 2 (field s r second_key 3) (λ r. line_or 3 (value_line s r) (λ r. 4)))
-  a_least (Number v r) = let h = b_least (field s r second_key 3) in omega arith
-  a_least Fault = omega arith
+  a_least : (x : Option (ℕ × ℕ)) → 1 ≤ line_or 1 x (λ r. line_or 2 (field s r second_key 3) (λ r. line_or 3 (value_line s r) (λ r. 4)))
+  a_least (Some (v, r)) = let h = b_least (field s r second_key 3) in omega arith
+  a_least None = omega arith
 
   line_most : {at j q : ℕ} → LineIn s at j q → (j ≤ stream_line s at) × (j < 5)
   unfolding stream_line field_line
@@ -64,7 +69,7 @@ module _ (s : List ℕ) where
   -- ## All streams
 
   module _ (at : ℕ) where
-    next_once : {p q : ℕ} {f g : Fields} → p ≡ q → stream s p ≡ Lines.Stream f → stream s q ≡ Lines.Stream g → f.next ≡ g.next
+    next_once : {p q : ℕ} {f g : Fields} → p ≡ q → stream s p ≡ Ok f → stream s q ≡ Ok g → f.next ≡ g.next
     next_once e u v = ap (λ (x : Fields). x.next) (same_stream (sym u ∙ ap (stream s) e ∙ v))
 
     stream_once : {i j p q : ℕ} → StreamIn s at i p → StreamIn s at j q → i ≡ j → p ≡ q
@@ -74,7 +79,7 @@ module _ (s : List ℕ) where
     stream_once (next w v) (next x y) e = next_once (stream_once w x (omega arith)) v y
 
     -- a refused stream is the last that the grammar gets to
-    stream_most : {i p r : ℕ} → StreamIn s at i p → stream s p ≡ Lines.Refused r → {j q : ℕ} → StreamIn s at j q → j ≤ i
+    stream_most : {i p : ℕ} {r : Refusal} → StreamIn s at i p → stream s p ≡ Err r → {j q : ℕ} → StreamIn s at j q → j ≤ i
     stream_most w e first = omega arith
     stream_most {i} {p} w e (next {i = j} {p = q} x v) = by (dec_lt j i) (stream_most w e x)
       where
@@ -82,11 +87,11 @@ module _ (s : List ℕ) where
         by (yes d) l = omega arith
         by (no d) l = not_refused (sym e ∙ ap (stream s) (stream_once w x (omega arith)) ∙ v)
 
-    module _ (cap n : ℕ) (h : head cap s ≡ Head.Streams n at) where
+    module _ (cap n : ℕ) (h : head cap s ≡ Ok (n, at)) where
       abbrev Most : ℕ → Type 0
       Most l = (m q : ℕ) → LineAt cap s m q → m ≤ l
 
-      head_count : {m p : ℕ} → head cap s ≡ Head.Streams m p → (m ≡ n) × (p ≡ at)
+      head_count : {m p : ℕ} → head cap s ≡ Ok (m, p) → (m ≡ n) × (p ≡ at)
       head_count e = (heads_count (sym e ∙ h), heads_place (sym e ∙ h))
 
       -- after all lines
@@ -97,7 +102,7 @@ module _ (s : List ℕ) where
       most_beyond m q (beyond o e w) = let z = head_count e in omega arith
 
       -- within a stream
-      most_inside : {i p r : ℕ} → i < n → StreamIn s at i p → stream s p ≡ Lines.Refused r → Most (3 + 5 * i + stream_line s p)
+      most_inside : {i p : ℕ} {r : Refusal} → i < n → StreamIn s at i p → stream s p ≡ Err r → Most (3 + 5 * i + stream_line s p)
       most_inside u w e m q top = omega arith
       most_inside u w e m q (count f) = omega arith
       most_inside {i} {p} u w e m q (inside {i = j} {p = x} f d y v) =
@@ -126,11 +131,11 @@ module _ (s : List ℕ) where
           by false l = let z : n ≡ i = omega arith in subst (λ (x : ℕ). Most (3 + 5 * x)) z most_beyond
       form_most (suc m) i p u w l = by (stream s p) refl l (λ f e. form_most m (i + 1) f.next (omega arith) (next w e))
         where
-          by : (x : Lines) → stream s p ≡ x → 0 < (stream_or x (λ r. in_stream r i (stream_line s p)) (λ f. form_fault s (i + 1) f.next m)).line
-              → ((f : Fields) → stream s p ≡ Lines.Stream f → 0 < (form_fault s (i + 1) f.next m).line → Most (form_fault s (i + 1) f.next m).line)
+          by : (x : Result Fields Refusal) → stream s p ≡ x → 0 < (stream_or x (λ r. in_stream r i (stream_line s p)) (λ f. form_fault s (i + 1) f.next m)).line
+              → ((f : Fields) → stream s p ≡ Ok f → 0 < (form_fault s (i + 1) f.next m).line → Most (form_fault s (i + 1) f.next m).line)
               → Most (stream_or x (λ r. in_stream r i (stream_line s p)) (λ f. form_fault s (i + 1) f.next m)).line
-          by (Lines.Stream f) e l ih = ih f e l
-          by (Lines.Refused r) e l ih = most_inside (omega arith) w e
+          by (Ok f) e l ih = ih f e l
+          by (Err r) e l ih = most_inside (omega arith) w e
 
 -- ## The whole text
 
@@ -160,7 +165,7 @@ module _ (cap : ℕ) (s : List ℕ) (f : declared.Fault) (l : 0 < f.line) (few :
   at_cycle true c e = same_last none e (λ z. absurd (omega arith))
   at_cycle false c e = not_above (in_stream 6 c 0) 6 (λ z. refl) (omega arith) e
 
-  at_streams : (n at : ℕ) → head cap s ≡ Head.Streams n at → f ≡ fault_of_head cap s f.stream (Head.Streams n at) → Last
+  at_streams : (n at : ℕ) → head cap s ≡ Ok (n, at) → f ≡ fault_of_head cap s f.stream (Ok (n, at)) → Last
   at_streams n at h e =
       last_or (form_fault s 0 at n) rules e (λ e. same_last (form_fault s 0 at n) e (form_most s at cap n h n 0 at (omega arith) first)) (λ e.
       last_or (rule_fault s n at) windows e (not_above (rule_fault s n at) 5 (first_told s (field_rule n) n 0 0 at) (omega arith)) (λ e.
@@ -176,17 +181,17 @@ module _ (cap : ℕ) (s : List ℕ) (f : declared.Fault) (l : 0 < f.line) (few :
       rules : declared.Fault
       rules = or_next (rule_fault s n at) windows
 
-  head_most : (r : ℕ) → head cap s ≡ Head.Refused r → (x : Word) → skip s 0 plan_line ≡ x → (m q : ℕ) → LineAt cap s m q → m ≤ head_line x
-  head_most r h (Past p) e m q top = omega arith
-  head_most r h (Past p) e m q (count g) = omega arith
-  head_most r h Absent e m q top = omega arith
-  head_most r h Absent e m q (count g) = absurd (no_word (sym e ∙ g))
+  head_most : (r : Refusal) → head cap s ≡ Err r → (x : Option ℕ) → skip s 0 plan_line ≡ x → (m q : ℕ) → LineAt cap s m q → m ≤ head_line x
+  head_most r h (Some p) e m q top = omega arith
+  head_most r h (Some p) e m q (count g) = omega arith
+  head_most r h None e m q top = omega arith
+  head_most r h None e m q (count g) = absurd (no_word (sym e ∙ g))
   head_most r h x e m q (inside g u w v) = absurd (no_head (sym h ∙ g))
   head_most r h x e m q (beyond o g w) = absurd (no_head (sym h ∙ g))
 
-  at_head : (x : Head) → head cap s ≡ x → f ≡ fault_of_head cap s f.stream x → Last
-  at_head (Head.Streams n at) h e = at_streams n at h e
-  at_head (Head.Refused r) h e = same_last (fault r (head_line (skip s 0 plan_line)) 0) e (λ z. head_most r h (skip s 0 plan_line) refl)
+  at_head : (x : Result (ℕ × ℕ) Refusal) → head cap s ≡ x → f ≡ fault_of_head cap s f.stream x → Last
+  at_head (Ok (n, at)) h e = at_streams n at h e
+  at_head (Err r) h e = same_last (fault (number_of r) (head_line (skip s 0 plan_line)) 0) e (λ z. head_most r h (skip s 0 plan_line) refl)
 
   last_line : Found cap s f → Last
   unfolding fault_with

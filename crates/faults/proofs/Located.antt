@@ -14,15 +14,11 @@ use Rattle.meaning.specs.CycleTest.{acyclic}
 use Rattle.operators.specs.Operators.{uses_a, uses_b, uses_k}
 use Rattle.operators.specs.Rules.{arg_ok, value_ok}
 use Rattle.operators.specs.Limits.{text_limit}
-use Rattle.lines.specs.declared.Word.{Word}
-use Rattle.lines.specs.declared.Word.TheVariants.{Past, Absent}
-use Rattle.lines.specs.declared.Numeral.{Numeral}
-use Rattle.lines.specs.declared.Numeral.TheVariants.{Number, Fault}
+use Rattle.std.specs.Prelude.{Option, Some, None, Result, Ok, Err}
+use Rattle.refusal.specs.declared.Refusal.{Refusal}
+use Rattle.refusal.specs.Numbers.{number_of}
 use Rattle.lines.specs.Form.{skip, field, value_line}
-use Rattle.text.specs.declared.Name.{Name}
 use Rattle.text.specs.declared.Fields.{Fields}
-use Rattle.text.specs.declared.Lines.{Lines}
-use Rattle.text.specs.declared.Head.{Head}
 use Rattle.text.specs.Grammar.{plan_line, first_key, second_key, op_line, stream, head}
 use Rattle.render.proofs.Ranges.{fields_case, stream_case}
 use Rattle.render.proofs.Heads.{head_case}
@@ -43,33 +39,32 @@ Somewhere P = (q : ℕ) × P q
 module _ (s : List ℕ) where
   -- ## One stream
 
-  field_line_in : (at n p : ℕ) → op_line s at ≡ Name.Operator n p → Somewhere (LineIn s at (field_line s p))
+  field_line_in : (at n p : ℕ) → op_line s at ≡ Ok (n, p) → Somewhere (LineIn s at (field_line s p))
   unfolding field_line
   field_line_in at n p e = by_a (field s p first_key 3) refl
     where
-      by_k : (t : ℕ) → LineIn s at 3 t → (x : Numeral) → value_line s t ≡ x → Somewhere (LineIn s at (line_or 3 x (λ r. 4)))
-      by_k t w (Number v r) q = (r, out w q)
-      by_k t w Fault q = (t, w)
+      by_k : (t : ℕ) → LineIn s at 3 t → (x : Option (ℕ × ℕ)) → value_line s t ≡ x → Somewhere (LineIn s at (line_or 3 x (λ r. 4)))
+      by_k t w (Some (v, r)) q = (r, out w q)
+      by_k t w None q = (t, w)
 
-      by_b : (t : ℕ) → LineIn s at 2 t → (x : Numeral) → field s t second_key 3 ≡ x → Somewhere (LineIn s at (line_or 2 x (λ r. line_or 3 (value_line s r) (λ r. 4))))
-      by_b t w (Number v r) q = by_k r (k w q) (value_line s r) refl
-      by_b t w Fault q = (t, w)
+      by_b : (t : ℕ) → LineIn s at 2 t → (x : Option (ℕ × ℕ)) → field s t second_key 3 ≡ x → Somewhere (LineIn s at (line_or 2 x (λ r. line_or 3 (value_line s r) (λ r. 4))))
+      by_b t w (Some (v, r)) q = by_k r (k w q) (value_line s r) refl
+      by_b t w None q = (t, w)
 
-      by_a : (x : Numeral) → field s p first_key 3 ≡ x → Somewhere (LineIn s at (line_or 1 x (λ r. line_or 2 (field s r second_key 3) (λ r. line_or 3 (value_line s r) (λ r. 4)))))
-      by_a (Number v r) q = by_b r (b (a e) q) (field s r second_key 3) refl
-      by_a Fault q = (p, a e)
+      by_a : (x : Option (ℕ × ℕ)) → field s p first_key 3 ≡ x → Somewhere (LineIn s at (line_or 1 x (λ r. line_or 2 (field s r second_key 3) (λ r. line_or 3 (value_line s r) (λ r. 4)))))
+      by_a (Some (v, r)) q = by_b r (b (a e) q) (field s r second_key 3) refl
+      by_a None q = (p, a e)
 
   stream_line_in : (at : ℕ) → Somewhere (LineIn s at (stream_line s at))
   unfolding stream_line
   stream_line_in at = by (op_line s at) refl
     where
-      by : (x : Name) → op_line s at ≡ x → Somewhere (LineIn s at (line_after s x))
-      by (Name.Operator n p) e = field_line_in at n p e
-      by Name.Unknown e = (at, op)
-      by Name.Fault e = (at, op)
+      by : (x : Result (ℕ × ℕ) Refusal) → op_line s at ≡ x → Somewhere (LineIn s at (line_after s x))
+      by (Ok (n, p)) e = field_line_in at n p e
+      by (Err r) e = (at, op)
 
   -- all five lines of a stream that is read
-  lines_in : (at : ℕ) (f : Fields) → stream s at ≡ Lines.Stream f → (j : ℕ) → j < 5 → Somewhere (LineIn s at j)
+  lines_in : (at : ℕ) (f : Fields) → stream s at ≡ Ok f → (j : ℕ) → j < 5 → Somewhere (LineIn s at j)
   lines_in at f e j h =
       stream_case s at f e (λ o p eo r.
       fields_case s o p f r (λ x p₁ y p₂ z p₃ w end ea eb ek eu t.
@@ -85,7 +80,7 @@ module _ (s : List ℕ) where
 
   -- ## All streams
 
-  module _ (cap n at : ℕ) (h : head cap s ≡ Head.Streams n at) where
+  module _ (cap n at : ℕ) (h : head cap s ≡ Ok (n, at)) where
     abbrev Read : ℕ → Type 0
     Read l = Somewhere (LineAt cap s l)
 
@@ -109,11 +104,11 @@ module _ (s : List ℕ) where
             (λ q f g x y. subst (λ (x : ℕ). Read (3 + 5 * x)) z (p, beyond f h (subst (λ (x : ℕ). StreamIn s at x p) (sym z) w)))
     form_read (suc m) i p u w l = by (stream s p) refl l (λ f e. form_read m (i + 1) f.next (omega arith) (next w e))
       where
-        by : (x : Lines) → stream s p ≡ x → 0 < (stream_or x (λ r. in_stream r i (stream_line s p)) (λ f. form_fault s (i + 1) f.next m)).line
-            → ((f : Fields) → stream s p ≡ Lines.Stream f → 0 < (form_fault s (i + 1) f.next m).line → Read (form_fault s (i + 1) f.next m).line)
+        by : (x : Result Fields Refusal) → stream s p ≡ x → 0 < (stream_or x (λ r. in_stream r i (stream_line s p)) (λ f. form_fault s (i + 1) f.next m)).line
+            → ((f : Fields) → stream s p ≡ Ok f → 0 < (form_fault s (i + 1) f.next m).line → Read (form_fault s (i + 1) f.next m).line)
             → Read (stream_or x (λ r. in_stream r i (stream_line s p)) (λ f. form_fault s (i + 1) f.next m)).line
-        by (Lines.Stream f) e l ih = ih f e l
-        by (Lines.Refused r) e l ih = read_in (omega arith) w (stream_line_in p)
+        by (Ok f) e l ih = ih f e l
+        by (Err r) e l ih = read_in (omega arith) w (stream_line_in p)
 
     -- a rule is broken at one of a stream's five lines
     first_read : (r : Rule) → ((f : Fields) → r.line f < 5) → (m w i p : ℕ) → i + m ≡ n → StreamIn s at i p → 0 < (first_broken r s w i p m).line → Read (first_broken r s w i p m).line
@@ -124,15 +119,15 @@ module _ (s : List ℕ) where
         after : Fields → declared.Fault
         after f = first_broken r s (r.count w f) (i + 1) f.next m
 
-        by_test : (t : Bool) (f : Fields) → stream s p ≡ Lines.Stream f → 0 < (cond t (after f) (in_stream r.number i (r.line f))).line → (0 < (after f).line → Read (after f).line) → Read (cond t (after f) (in_stream r.number i (r.line f))).line
+        by_test : (t : Bool) (f : Fields) → stream s p ≡ Ok f → 0 < (cond t (after f) (in_stream r.number i (r.line f))).line → (0 < (after f).line → Read (after f).line) → Read (cond t (after f) (in_stream r.number i (r.line f))).line
         by_test true f e l ih = ih l
         by_test false f e l ih = read_in (omega arith) x (lines_in p f e (r.line f) (five f))
 
-        by : (y : Lines) → stream s p ≡ y → 0 < (stream_or y (λ q. none) (λ f. cond (r.kept w f) (after f) (in_stream r.number i (r.line f)))).line
-            → ((f : Fields) → stream s p ≡ Lines.Stream f → 0 < (after f).line → Read (after f).line)
+        by : (y : Result Fields Refusal) → stream s p ≡ y → 0 < (stream_or y (λ q. none) (λ f. cond (r.kept w f) (after f) (in_stream r.number i (r.line f)))).line
+            → ((f : Fields) → stream s p ≡ Ok f → 0 < (after f).line → Read (after f).line)
             → Read (stream_or y (λ q. none) (λ f. cond (r.kept w f) (after f) (in_stream r.number i (r.line f)))).line
-        by (Lines.Stream f) e l ih = by_test (r.kept w f) f e l (ih f e)
-        by (Lines.Refused q) e l ih = absurd (omega arith)
+        by (Ok f) e l ih = by_test (r.kept w f) f e l (ih f e)
+        by (Err q) e l ih = absurd (omega arith)
 
     -- every stream of a text that was read
     stream_read : (m i p : ℕ) (fs : List Fields) (end : ℕ) → StreamIn s at i p → streams s p m ≡ formed fs end → (c : ℕ) → i ≤ c → c < i + m → Somewhere (StreamIn s at c)
@@ -140,15 +135,15 @@ module _ (s : List ℕ) where
     stream_read zero i p fs end w e c l u = absurd (omega arith)
     stream_read (suc m) i p fs end w e c l u = by (stream s p) refl e (eqb i c) refl (λ f q gs t z d. stream_read m (i + 1) f.next gs t (next w q) z c d (omega arith))
       where
-        later : (f : Fields) → stream s p ≡ Lines.Stream f → (x : Form) → streams s f.next m ≡ x → put f x ≡ formed fs end → (i ≡ c → ⊥) → ((gs : List Fields) (t : ℕ) → streams s f.next m ≡ formed gs t → i + 1 ≤ c → Somewhere (StreamIn s at c)) → Somewhere (StreamIn s at c)
+        later : (f : Fields) → stream s p ≡ Ok f → (x : Form) → streams s f.next m ≡ x → put f x ≡ formed fs end → (i ≡ c → ⊥) → ((gs : List Fields) (t : ℕ) → streams s f.next m ≡ formed gs t → i + 1 ≤ c → Somewhere (StreamIn s at c)) → Somewhere (StreamIn s at c)
         later f q (refused r) z y d ih = clash y
         later f q (formed gs t) z y d ih = ih gs t z (omega arith)
 
-        by : (x : Lines) → stream s p ≡ x → others x (λ f. streams s f.next m) ≡ formed fs end → (t : Bool) → eqb i c ≡ t
-            → ((f : Fields) → stream s p ≡ Lines.Stream f → (gs : List Fields) (t : ℕ) → streams s f.next m ≡ formed gs t → i + 1 ≤ c → Somewhere (StreamIn s at c)) → Somewhere (StreamIn s at c)
-        by (Lines.Refused r) q y t d ih = clash y
-        by (Lines.Stream f) q y true d ih = subst (λ (x : ℕ). Somewhere (StreamIn s at x)) (eqb-true i c d) (p, w)
-        by (Lines.Stream f) q y false d ih = later f q (streams s f.next m) refl y (eqb-false i c d) (ih f q)
+        by : (x : Result Fields Refusal) → stream s p ≡ x → others x (λ f. streams s f.next m) ≡ formed fs end → (t : Bool) → eqb i c ≡ t
+            → ((f : Fields) → stream s p ≡ Ok f → (gs : List Fields) (t : ℕ) → streams s f.next m ≡ formed gs t → i + 1 ≤ c → Somewhere (StreamIn s at c)) → Somewhere (StreamIn s at c)
+        by (Err r) q y t d ih = clash y
+        by (Ok f) q y true d ih = subst (λ (x : ℕ). Somewhere (StreamIn s at x)) (eqb-true i c d) (p, w)
+        by (Ok f) q y false d ih = later f q (streams s f.next m) refl y (eqb-false i c d) (ih f q)
 
 -- ## The whole text
 
@@ -187,7 +182,7 @@ module _ (cap : ℕ) (s : List ℕ) (f : declared.Fault) (l : 0 < f.line) where
       by false z e = same_line g e here
 
   module _ (lowest : f.number ≡ 6 → Lowest (plan_of cap s) f.stream) where
-    at_cycle : (n at : ℕ) → head cap s ≡ Head.Streams n at → (fs : List Fields) (end : ℕ) → streams s at n ≡ formed fs end → (t : Bool) → f ≡ cond t none (in_stream 6 f.stream 0) → Told
+    at_cycle : (n at : ℕ) → head cap s ≡ Ok (n, at) → (fs : List Fields) (end : ℕ) → streams s at n ≡ formed fs end → (t : Bool) → f ≡ cond t none (in_stream 6 f.stream 0) → Told
     at_cycle n at h fs end r true e = same_line none e (λ z. absurd (omega arith))
     at_cycle n at h fs end r false e =
         let c = f.stream in
@@ -199,11 +194,11 @@ module _ (cap : ℕ) (s : List ℕ) (f : declared.Fault) (l : 0 < f.line) where
         by c w q (yes d) = let p = stream_read s cap n at h n 0 at fs end first r c (omega arith) (omega arith) in (p.0, inside h d p.1 op)
         by c w q (no d) = absurd (no_way (plan_from fs) c (omega arith) w)
 
-    after_form : (n at : ℕ) → head cap s ≡ Head.Streams n at → (x : Form) → streams s at n ≡ x → FormSays s (0 + n) x (form_fault s 0 at n) → (form_fault s 0 at n).line ≡ 0 → f ≡ cycle_fault cap (plan_of cap s) f.stream → Told
+    after_form : (n at : ℕ) → head cap s ≡ Ok (n, at) → (x : Form) → streams s at n ≡ x → FormSays s (0 + n) x (form_fault s 0 at n) → (form_fault s 0 at n).line ≡ 0 → f ≡ cycle_fault cap (plan_of cap s) f.stream → Told
     after_form n at h (refused r) q y z e = absurd (omega arith)
     after_form n at h (formed fs end) q y z e = at_cycle n at h fs end q (acyclic cap (plan_of cap s)) e
 
-    at_streams : (n at : ℕ) → head cap s ≡ Head.Streams n at → f ≡ fault_of_head cap s f.stream (Head.Streams n at) → Told
+    at_streams : (n at : ℕ) → head cap s ≡ Ok (n, at) → f ≡ fault_of_head cap s f.stream (Ok (n, at)) → Told
     at_streams n at h e =
         at_or (form_fault s 0 at n) rules e (form_read s cap n at h n 0 at (omega arith) first) (λ z e.
         at_or (rule_fault s n at) windows e (read (field_rule n) (broken_five n)) (λ y e.
@@ -223,13 +218,13 @@ module _ (cap : ℕ) (s : List ℕ) (f : declared.Fault) (l : 0 < f.line) where
         read : (r : Rule) → ((f : Fields) → r.line f < 5) → Reads (first_broken r s 0 0 at n)
         read r five = first_read s cap n at h r five n 0 0 at (omega arith) first
 
-    at_head : (x : Head) → head cap s ≡ x → f ≡ fault_of_head cap s f.stream x → Told
-    at_head (Head.Streams n at) h e = at_streams n at h e
-    at_head (Head.Refused r) h e = same_line (fault r (head_line (skip s 0 plan_line)) 0) e (λ z. by (skip s 0 plan_line) refl)
+    at_head : (x : Result (ℕ × ℕ) Refusal) → head cap s ≡ x → f ≡ fault_of_head cap s f.stream x → Told
+    at_head (Ok (n, at)) h e = at_streams n at h e
+    at_head (Err r) h e = same_line (fault (number_of r) (head_line (skip s 0 plan_line)) 0) e (λ z. by (skip s 0 plan_line) refl)
       where
-        by : (x : Word) → skip s 0 plan_line ≡ x → Somewhere (LineAt cap s (head_line x))
-        by (Past p) q = (p, count q)
-        by Absent q = (0, top)
+        by : (x : Option ℕ) → skip s 0 plan_line ≡ x → Somewhere (LineAt cap s (head_line x))
+        by (Some p) q = (p, count q)
+        by None q = (0, top)
 
   pub fault_read : Found cap s f → Told
   unfolding fault_with

@@ -11,7 +11,8 @@ use Rattle.operators.proofs.Tests.{left, right}
 use Rattle.operators.proofs.Rules.{arg_small, first_ok, second_ok}
 use Rattle.cycle.specs.Graph.{entry_of}
 use Rattle.text.specs.declared.Fields.{Fields}
-use Rattle.text.specs.declared.Lines.{Lines}
+use Rattle.std.specs.Prelude.{Result, Ok, Err}
+use Rattle.refusal.specs.declared.Refusal.{Refusal}
 use Rattle.text.specs.Grammar.{stream}
 use Rattle.plan.specs.Rules.{keeps, all_keep, Form, refused, formed, put, others, streams}
 use Rattle.plan.specs.Pass.{noted_all}
@@ -37,18 +38,18 @@ put_noted n i f g (refused r) h = absurd h
 put_noted n i f g (formed fs end) h = ap (λ (l : List ℕ). noted_all n (i + 1) fs l) (noted_kept n i f g (put_kept n f (formed fs end) h).0)
 
 module _ (s : List ℕ) (n i p : ℕ) where
-  opened : i < n → (l : Lines) → stream s p ≡ l → streams s p (n - i) ≡ others l (λ f. streams s f.next (n - (i + 1)))
+  opened : i < n → (l : Result Fields Refusal) → stream s p ≡ l → streams s p (n - i) ≡ others l (λ f. streams s f.next (n - (i + 1)))
   opened h l e =
       let m : n - i - 1 ≡ n - (i + 1) = omega arith in
       turn_streams s (n - i) p (omega arith) ∙ rw (m, e)
 
   module _ (h : i < n) (k : Kept n (streams s p (n - i))) where
-    pub kept_stream : (r : ℕ) → stream s p ≡ Lines.Refused r → ⊥
-    kept_stream r e = rw (opened h (Lines.Refused r) e) at k
+    pub kept_stream : (r : Refusal) → stream s p ≡ Err r → ⊥
+    kept_stream r e = rw (opened h (Err r) e) at k
 
-    module _ (f : Fields) (e : stream s p ≡ Lines.Stream f) where
+    module _ (f : Fields) (e : stream s p ≡ Ok f) where
       kept_put : Kept n (put f (streams s f.next (n - (i + 1))))
-      kept_put = subst (Kept n) (opened h (Lines.Stream f) e) k
+      kept_put = subst (Kept n) (opened h (Ok f) e) k
 
       pub kept_here : keeps n f ≡ true
       kept_here = (put_kept n f (streams s f.next (n - (i + 1))) kept_put).0
@@ -58,7 +59,7 @@ module _ (s : List ℕ) (n i p : ℕ) where
 
       pub noted_next : (g g₁ : List ℕ) → g₁ ≡ sets g (3 * i) (entry_of f.op f.a f.b) → noted_form n (i + 1) (streams s f.next (n - (i + 1))) g₁ ≡ noted_form n i (streams s p (n - i)) g
       noted_next g g₁ q =
-          ap (noted_form n (i + 1) (streams s f.next (n - (i + 1)))) q ∙ put_noted n i f g (streams s f.next (n - (i + 1))) kept_put ∙ ap (λ (x : Form). noted_form n i x g) (sym (opened h (Lines.Stream f) e))
+          ap (noted_form n (i + 1) (streams s f.next (n - (i + 1)))) q ∙ put_noted n i f g (streams s f.next (n - (i + 1))) kept_put ∙ ap (λ (x : Form). noted_form n i x g) (sym (opened h (Ok f) e))
 
   pub noted_end : n ≤ i → (g : List ℕ) → g ≡ noted_form n i (streams s p (n - i)) g
   unfolding streams noted_all

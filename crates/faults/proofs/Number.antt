@@ -13,7 +13,9 @@ use Rattle.meaning.specs.CycleTest.{acyclic}
 use Rattle.operators.specs.Limits.{text_limit}
 use Rattle.lines.specs.Form.{skip}
 use Rattle.text.specs.declared.Fields.{Fields}
-use Rattle.text.specs.declared.Head.{Head}
+use Rattle.std.specs.Prelude.{Result, Ok, Err}
+use Rattle.refusal.specs.declared.Refusal.{Refusal}
+use Rattle.refusal.specs.Numbers.{number_of}
 use Rattle.text.specs.Grammar.{plan_line, head}
 use Rattle.plan.specs.Rules.{all_keep, Form, refused, formed, streams, plan_from, windows_ok, number_after, number_of_head, number, declared}
 use Rattle.plan.proofs.Rendered.{same_plan}
@@ -31,7 +33,7 @@ module _ (cap : ℕ) (s : List ℕ) (c : ℕ) where
   number_here f g r e h = ap (λ (x : Fault). x.number) (or_here f g (λ z. omega arith)) ∙ e
 
   -- the plan that a text whose form is right declares
-  pub plan_read : (n at : ℕ) → head cap s ≡ Head.Streams n at → (fs : List Fields) (end : ℕ) → streams s at n ≡ formed fs end → plan_of cap s ≡ plan_from fs
+  pub plan_read : (n at : ℕ) → head cap s ≡ Ok (n, at) → (fs : List Fields) (end : ℕ) → streams s at n ≡ formed fs end → plan_of cap s ≡ plan_from fs
   unfolding declared
   plan_read n at h fs end e = rw (h, e) (sym (same_plan fs))
 
@@ -40,7 +42,7 @@ module _ (cap : ℕ) (s : List ℕ) (c : ℕ) where
   judged_number r true f g m j e = ap (λ (x : Fault). (or_next x g).number) j ∙ e
   judged_number r false f g m j e = number_here f g r j.0 j.1
 
-  number_streams : (n at : ℕ) → head cap s ≡ Head.Streams n at → (fault_of_head cap s c (Head.Streams n at)).number ≡ number_after cap s n (streams s at n)
+  number_streams : (n at : ℕ) → head cap s ≡ Ok (n, at) → (fault_of_head cap s c (Ok (n, at))).number ≡ number_after cap s n (streams s at n)
   unfolding number_after
   number_streams n at h = by (streams s at n) refl (form_says s n 0 at)
     where
@@ -61,17 +63,17 @@ module _ (cap : ℕ) (s : List ℕ) (c : ℕ) where
           (judged_number 18 (windows_ok fs) (window_fault s n at) cycle six (window_judged s n at fs end e)
           (by_cycle (acyclic cap (plan_of cap s)) refl ∙ ap (λ (p : Plan). cond (acyclic cap p) 0 6) (plan_read n at h fs end e)))
 
-      by_end : (b : Bool) (fs : List Fields) (end : ℕ) → streams s at n ≡ formed fs end → form_fault s 0 at n ≡ cond b none (fault 2 (3 + 5 * (0 + n)) 0) → (fault_of_head cap s c (Head.Streams n at)).number ≡ cond b (cond (all_keep n fs) (cond (windows_ok fs) (cond (acyclic cap (plan_from fs)) 0 6) 18) 5) 2
+      by_end : (b : Bool) (fs : List Fields) (end : ℕ) → streams s at n ≡ formed fs end → form_fault s 0 at n ≡ cond b none (fault 2 (3 + 5 * (0 + n)) 0) → (fault_of_head cap s c (Ok (n, at))).number ≡ cond b (cond (all_keep n fs) (cond (windows_ok fs) (cond (acyclic cap (plan_from fs)) 0 6) 18) 5) 2
       by_end true fs end e f = ap (λ (x : Fault). (or_next x rules).number) f ∙ rules_number fs end e
       by_end false fs end e f = number_here (form_fault s 0 at n) rules 2 (ap (λ (x : Fault). x.number) f) (let l : (form_fault s 0 at n).line ≡ 3 + 5 * (0 + n) = ap (λ (x : Fault). x.line) f in omega arith)
 
-      by : (x : Form) → streams s at n ≡ x → FormSays s (0 + n) x (form_fault s 0 at n) → (fault_of_head cap s c (Head.Streams n at)).number ≡ number_after cap s n x
-      by (refused r) e f = number_here (form_fault s 0 at n) rules r f.0 f.1
+      by : (x : Form) → streams s at n ≡ x → FormSays s (0 + n) x (form_fault s 0 at n) → (fault_of_head cap s c (Ok (n, at))).number ≡ number_after cap s n x
+      by (refused r) e f = number_here (form_fault s 0 at n) rules (number_of r) f.0 f.1
       by (formed fs end) e f = by_end (eqb end (length s)) fs end e f
 
-  number_head : (x : Head) → head cap s ≡ x → (fault_of_head cap s c x).number ≡ number_of_head cap s x
-  number_head (Head.Streams n at) e = number_streams n at e
-  number_head (Head.Refused r) e = refl
+  number_head : (x : Result (ℕ × ℕ) Refusal) → head cap s ≡ x → (fault_of_head cap s c x).number ≡ number_of_head cap s x
+  number_head (Ok (n, at)) e = number_streams n at e
+  number_head (Err r) e = refl
 
   -- Whatever the stream of a cycle, the number of the fault is the number of the text.
   pub fault_number : (fault_with cap s c).number ≡ number cap s
@@ -112,7 +114,7 @@ module _ (cap : ℕ) (s : List ℕ) (n at : ℕ) where
   }
 
   module _ (e : (form_fault s 0 at n).line ≡ 0) where
-    after_form : (d : ℕ) → rules d ≡ fault_of_head cap s d (Head.Streams n at)
+    after_form : (d : ℕ) → rules d ≡ fault_of_head cap s d (Ok (n, at))
     after_form d = sym (or_next_lem (form_fault s 0 at n) (rules d) e)
 
     pub found_rule : (f : Fault) → f ≡ rule_fault s n at → (f.line ≡ 0 → ⊥) → FoundAfter cap s n at f
@@ -122,7 +124,7 @@ module _ (cap : ℕ) (s : List ℕ) (n at : ℕ) where
     }
 
     module _ (q : (rule_fault s n at).line ≡ 0) where
-      after_rule : (d : ℕ) → windows d ≡ fault_of_head cap s d (Head.Streams n at)
+      after_rule : (d : ℕ) → windows d ≡ fault_of_head cap s d (Ok (n, at))
       after_rule d = sym (or_next_lem (rule_fault s n at) (windows d) q) ∙ after_form d
 
       pub found_window : (f : Fault) → f ≡ window_fault s n at → (f.line ≡ 0 → ⊥) → FoundAfter cap s n at f
@@ -131,8 +133,8 @@ module _ (cap : ℕ) (s : List ℕ) (n at : ℕ) where
         lowest = λ z. absurd (not_six f (window_fault s n at) 18 w h (window_told s n at) (λ y. omega arith) z);
       }
 
-    module _ (q : (rule_fault s n at).line ≡ 0) (v : (window_fault s n at).line ≡ 0) (h : head cap s ≡ Head.Streams n at) (room : n ≤ cap) (c : ℕ) where
-      reached : (d : ℕ) → cycles d ≡ fault_of_head cap s d (Head.Streams n at)
+    module _ (q : (rule_fault s n at).line ≡ 0) (v : (window_fault s n at).line ≡ 0) (h : head cap s ≡ Ok (n, at)) (room : n ≤ cap) (c : ℕ) where
+      reached : (d : ℕ) → cycles d ≡ fault_of_head cap s d (Ok (n, at))
       reached d = sym (or_next_lem (window_fault s n at) (cycles d) v) ∙ after_rule q d
 
       module _ (fs : List Fields) (end : ℕ) (r : streams s at n ≡ formed fs end) (k : all_keep n fs ≡ true) (w : LowestTo n (plan_from fs) c) where
@@ -165,9 +167,6 @@ module _ (cap : ℕ) (s : List ℕ) (n at : ℕ) where
         pub found_cycle : (c ≡ n → ⊥) → FoundAfter cap s n at (in_stream 6 c 0)
         found_cycle z = by_form (λ fs end r k w. one_cycle fs end r k w z)
 
-        pub stream_few : c ≤ n
-        stream_few = by_form (λ fs end r k w. w.few)
-
 -- ## What the code answers of the text
 
 module _ (cap : ℕ) (s : List ℕ) where
@@ -176,12 +175,12 @@ module _ (cap : ℕ) (s : List ℕ) where
   found_long h = record { place = sym (rw (lt-ltb text_limit (length s) h)); lowest = λ e. absurd (omega arith) }
 
   module _ (h : length s ≤ text_limit) where
-    short : (d : ℕ) (x : Head) → head cap s ≡ x → fault_with cap s d ≡ fault_of_head cap s d x
+    short : (d : ℕ) (x : Result (ℕ × ℕ) Refusal) → head cap s ≡ x → fault_with cap s d ≡ fault_of_head cap s d x
     unfolding fault_with
     short d x e = rw (le-ltb text_limit (length s) h, e)
 
-    pub found_head : (r : ℕ) → head cap s ≡ Head.Refused r → (l : ℕ) → l ≡ head_line (skip s 0 plan_line) → Found cap s (fault r l 0)
-    found_head r e l q = record { place = ap (λ (x : ℕ). fault r x 0) q ∙ sym (short 0 (Head.Refused r) e); lowest = λ z. absurd (omega (arith, head_low cap s r e)) }
+    pub found_head : (r : Refusal) → head cap s ≡ Err r → (l : ℕ) → l ≡ head_line (skip s 0 plan_line) → Found cap s (fault (number_of r) l 0)
+    found_head r e l q = record { place = ap (λ (x : ℕ). fault (number_of r) x 0) q ∙ sym (short 0 (Err r) e); lowest = λ z. absurd (omega (arith, head_low cap s r e)) }
 
-    pub found_after : (n at : ℕ) → head cap s ≡ Head.Streams n at → (f : Fault) → FoundAfter cap s n at f → Found cap s f
-    found_after n at e f w = record { place = w.place ∙ sym (short f.stream (Head.Streams n at) e); lowest = w.lowest }
+    pub found_after : (n at : ℕ) → head cap s ≡ Ok (n, at) → (f : Fault) → FoundAfter cap s n at f → Found cap s f
+    found_after n at e f w = record { place = w.place ∙ sym (short f.stream (Ok (n, at)) e); lowest = w.lowest }

@@ -11,7 +11,8 @@ use borrow.Author.Tests.{eqb-true, eqb-false}
 use Rattle.meaning.specs.Plan.{Plan}
 use Rattle.meaning.specs.CycleTest.{acyclic}
 use Rattle.operators.specs.Limits.{text_limit}
-use Rattle.text.specs.declared.Head.{Head}
+use Rattle.std.specs.Prelude.{Result, Ok, Err}
+use Rattle.refusal.specs.declared.Refusal.{Refusal}
 use Rattle.text.specs.Grammar.{head}
 use Rattle.faults.specs.declared.Fault.{Fault}
 use Rattle.faults.specs.Faults.{fault, none, in_stream, or_next, form_fault, rule_fault, window_fault, Lowest, cycle_fault, plan_of, fault_of_head, fault_with, Found}
@@ -45,9 +46,9 @@ module _ (cap : ℕ) (s : List ℕ) (c d : ℕ) where
       by true h = refl
       by false h = absurd (h refl)
 
-  elsewhere_head : (x : Head) → ((fault_of_head cap s c x).number ≡ 6 → ⊥) → fault_of_head cap s c x ≡ fault_of_head cap s d x
-  elsewhere_head (Head.Refused r) h = refl
-  elsewhere_head (Head.Streams n at) h = or_elsewhere (form_fault s 0 at n) (rules c) (rules d) (or_elsewhere (rule_fault s n at) (windows c) (windows d) (or_elsewhere (window_fault s n at) (cycles c) (cycles d) cycle_elsewhere)) h
+  elsewhere_head : (x : Result (ℕ × ℕ) Refusal) → ((fault_of_head cap s c x).number ≡ 6 → ⊥) → fault_of_head cap s c x ≡ fault_of_head cap s d x
+  elsewhere_head (Err r) h = refl
+  elsewhere_head (Ok (n, at)) h = or_elsewhere (form_fault s 0 at n) (rules c) (rules d) (or_elsewhere (rule_fault s n at) (windows c) (windows d) (or_elsewhere (window_fault s n at) (cycles c) (cycles d) cycle_elsewhere)) h
     where
       windows : ℕ → Fault
       windows x = or_next (window_fault s n at) (cycles x)

@@ -16,16 +16,13 @@ use Rattle.operators.specs.Operators.{group_of, is_window}
 use Rattle.operators.specs.Limits.{window_limit, count_fits}
 use Rattle.operators.specs.Windows.{width_ok, windows}
 use Rattle.operators.proofs.Laws.{window_by_number}
-use Rattle.lines.specs.declared.Word.{Word}
-use Rattle.lines.specs.declared.Word.TheVariants.{Past, Absent}
-use Rattle.lines.specs.declared.Numeral.{Numeral}
-use Rattle.lines.specs.declared.Numeral.TheVariants.{Number, Fault}
-use Rattle.lines.specs.Form.{skip, field, value_line, out_line}
-use Rattle.text.specs.declared.Name.{Name}
+use Rattle.std.specs.Prelude.{Option, Some, None, Result, Ok, Err}
+use Rattle.refusal.specs.declared.Refusal.{Refusal}
+use Rattle.refusal.specs.Numbers.{number_of}
+use Rattle.refusal.specs.declared.Refusal.TheVariants.{TextStreams}
+use Rattle.lines.specs.Form.{ending, skip, field, value_line, out_line}
 use Rattle.text.specs.declared.Fields.{Fields}
-use Rattle.text.specs.declared.Lines.{Lines}
-use Rattle.text.specs.declared.Head.{Head}
-use Rattle.text.specs.Grammar.{plan_line, streams_key, first_key, second_key, op_line, next, fields_after, stream_after, stream, counts, head_after, head}
+use Rattle.text.specs.Grammar.{plan_line, streams_key, op_key, number_named, known, named, name_at, name_after, first_key, second_key, op_line, next, fields_after, stream_after, stream, counts, head_after, head}
 use Rattle.text.proofs.Heads.{no_bytes, some_bytes}
 use Rattle.plan.specs.Rules.{keeps, all_keep, Form, refused, formed, put, others, streams, plan_from, all_widths, windows_ok}
 use Rattle.faults.specs.declared.Fault as declared
@@ -34,13 +31,13 @@ use Rattle.faults.specs.Search.{Kept}
 
 -- ## A faulty line is refused by 2, 3 or 4
 
-abbrev Low : Lines → Type 0
-Low (Lines.Stream f) = Unit {0}
-Low (Lines.Refused r) = r ≤ 4
+abbrev Low : Result Fields Refusal → Type 0
+Low (Ok f) = Unit {0}
+Low (Err r) = number_of r ≤ 4
 
-next_low : (x : Numeral) (f : ℕ → ℕ → Lines) → ((v p : ℕ) → Low (f v p)) → Low (next x f)
-next_low (Number v p) f h = h v p
-next_low Fault f h = lit≤ tt
+next_low : (x : Option (ℕ × ℕ)) (f : ℕ → ℕ → Result Fields Refusal) → ((v p : ℕ) → Low (f v p)) → Low (next x f)
+next_low (Some (v, p)) f h = h v p
+next_low None f h = lit≤ tt
 
 fields_low : (s : List ℕ) (op at : ℕ) → Low (fields_after s op at)
 unfolding fields_after
@@ -50,33 +47,50 @@ fields_low s op at =
     next_low (value_line s q) _ (λ k t.
     next_low (out_line s t) _ (λ out end. tt))))
 
+abbrev LowHead : Result (ℕ × ℕ) Refusal → Type 0
+LowHead (Ok (n, at)) = Unit {0}
+LowHead (Err r) = number_of r ≤ 4
+
+known_low : (n : ℕ) (x : Option ℕ) → LowHead (known n x)
+known_low zero None = lit≤ tt
+known_low (suc n) None = lit≤ tt
+known_low zero (Some p) = lit≤ tt
+known_low (suc n) (Some p) = tt
+
+op_low : (s : List ℕ) (at : ℕ) → LowHead (op_line s at)
+unfolding op_line named
+op_low s at = by (skip s at op_key)
+  where
+    by_name : (p : ℕ) (w : List ℕ) → LowHead (named s p w)
+    by_name p [] = lit≤ tt
+    by_name p (c ∷ w) = known_low (number_named (c ∷ w)) (skip s (p + length (c ∷ w)) ending)
+
+    by : (x : Option ℕ) → LowHead (name_after s x)
+    by (Some p) = by_name p (name_at s p 5)
+    by None = lit≤ tt
+
 stream_low : (s : List ℕ) (at : ℕ) → Low (stream s at)
 unfolding stream
-stream_low s at = by (op_line s at)
+stream_low s at = by (op_line s at) (op_low s at)
   where
-    by : (x : Name) → Low (stream_after s x)
-    by (Name.Operator op p) = fields_low s op p
-    by Name.Unknown = lit≤ tt
-    by Name.Fault = lit≤ tt
+    by : (x : Result (ℕ × ℕ) Refusal) → LowHead x → Low (stream_after s x)
+    by (Ok (op, p)) h = fields_low s op p
+    by (Err r) h = h
 
-abbrev LowHead : Head → Type 0
-LowHead (Head.Streams n at) = Unit {0}
-LowHead (Head.Refused r) = r ≤ 4
-
-pub head_low : (cap : ℕ) (s : List ℕ) (r : ℕ) → head cap s ≡ Head.Refused r → r ≤ 4
+pub head_low : (cap : ℕ) (s : List ℕ) (r : Refusal) → head cap s ≡ Err r → number_of r ≤ 4
 head_low cap s r e = subst LowHead e (by (ℕ_discrete (length s) 0))
   where
-    by_count : (n p : ℕ) (b : Bool) → LowHead (cond b (Head.Streams n p) (Head.Refused 3))
+    by_count : (n p : ℕ) (b : Bool) → LowHead (cond b (Ok (n, p)) (Err TextStreams))
     by_count n p true = tt
     by_count n p false = lit≤ tt
 
-    by_number : (x : Numeral) → LowHead (counts cap x)
-    by_number (Number n p) = by_count n p (count_fits cap n)
-    by_number Fault = lit≤ tt
+    by_number : (x : Option (ℕ × ℕ)) → LowHead (counts cap x)
+    by_number (Some (n, p)) = by_count n p (count_fits cap n)
+    by_number None = lit≤ tt
 
-    by_word : (x : Word) → LowHead (head_after cap s x)
-    by_word (Past p) = by_number (field s p streams_key 3)
-    by_word Absent = lit≤ tt
+    by_word : (x : Option ℕ) → LowHead (head_after cap s x)
+    by_word (Some p) = by_number (field s p streams_key 3)
+    by_word None = lit≤ tt
 
     by : Dec (length s ≡ 0) → LowHead (head cap s)
     by (yes z) = rw (no_bytes cap s z) tt
@@ -90,13 +104,12 @@ or_here f g h = rw (ne_eqb f.line 0 h)
 pub or_next_lem : (f g : declared.Fault) → f.line ≡ 0 → or_next f g ≡ g
 or_next_lem f g h = rw (eq-eqb f.line 0 h)
 
--- what the code tells first, and what it tells next
-module _ (f g h : declared.Fault) (e : f ≡ g) where
-  pub tells_here : (f.line ≡ 0 → ⊥) → f ≡ or_next g h
-  tells_here n = subst (λ (x : declared.Fault). f ≡ or_next x h) e (sym (or_here f h n))
+pub no_line : {f : declared.Fault} → none ≡ f → f.line ≡ 0
+no_line e = sym (ap (λ (x : declared.Fault). x.line) e)
 
-  pub tells_next : f.line ≡ 0 → (k : declared.Fault) → k ≡ h → k ≡ or_next g h
-  tells_next z k q = q ∙ sym (or_next_lem g h (sym (ap (λ (x : declared.Fault). x.line) e) ∙ z))
+-- what the code tells first
+pub tells_here : (f g h : declared.Fault) → f ≡ g → (f.line ≡ 0 → ⊥) → f ≡ or_next g h
+tells_here f g h e n = subst (λ (x : declared.Fault). f ≡ or_next x h) e (sym (or_here f h n))
 
 module _ (number : ℕ) where
   or_told : (f g : declared.Fault) → (0 < f.line → f.number ≡ number) → (0 < g.line → g.number ≡ number) → 0 < (or_next f g).line → (or_next f g).number ≡ number
@@ -161,12 +174,12 @@ module _ (s : List ℕ) where
   form_low zero i at = left_low i (eqb at (length s))
   form_low (suc n) i at = by (stream s at) (stream_low s at) (λ f. form_low n (i + 1) f.next)
     where
-      by : (l : Lines) → Low l → ((f : Fields) → (form_fault s (i + 1) f.next n).number ≤ 4) → (stream_or l (λ r. in_stream r i (stream_line s at)) (λ f. form_fault s (i + 1) f.next n)).number ≤ 4
-      by (Lines.Stream f) h ih = ih f
-      by (Lines.Refused r) h ih = h
+      by : (l : Result Fields Refusal) → Low l → ((f : Fields) → (form_fault s (i + 1) f.next n).number ≤ 4) → (stream_or l (λ r. in_stream r i (stream_line s at)) (λ f. form_fault s (i + 1) f.next n)).number ≤ 4
+      by (Ok f) h ih = ih f
+      by (Err r) h ih = h
 
   abbrev pub FormSays : ℕ → Form → declared.Fault → Type 0
-  FormSays lines (refused r) f = (f.number ≡ r) × (0 < f.line)
+  FormSays lines (refused r) f = (f.number ≡ number_of r) × (0 < f.line)
   FormSays lines (formed fs end) f = f ≡ cond (eqb end (length s)) none (fault 2 (3 + 5 * lines) 0)
 
   pub form_says : (n i at : ℕ) → FormSays (i + n) (streams s at n) (form_fault s i at n)
@@ -178,9 +191,9 @@ module _ (s : List ℕ) where
       more f (refused q) r h = h
       more f (formed fs end) r h = let z : i + suc n ≡ i + 1 + n = omega arith in rw z h
 
-      by : (l : Lines) → ((f : Fields) → FormSays (i + 1 + n) (streams s f.next n) (form_fault s (i + 1) f.next n)) → FormSays (i + suc n) (others l (λ f. streams s f.next n)) (stream_or l (λ r. in_stream r i (stream_line s at)) (λ f. form_fault s (i + 1) f.next n))
-      by (Lines.Stream f) ih = more f (streams s f.next n) (form_fault s (i + 1) f.next n) (ih f)
-      by (Lines.Refused r) ih = (refl, omega arith)
+      by : (l : Result Fields Refusal) → ((f : Fields) → FormSays (i + 1 + n) (streams s f.next n) (form_fault s (i + 1) f.next n)) → FormSays (i + suc n) (others l (λ f. streams s f.next n)) (stream_or l (λ r. in_stream r i (stream_line s at)) (λ f. form_fault s (i + 1) f.next n))
+      by (Ok f) ih = more f (streams s f.next n) (form_fault s (i + 1) f.next n) (ih f)
+      by (Err r) ih = (refl, omega arith)
 
   -- ## The first stream that breaks a rule
 
@@ -194,11 +207,11 @@ module _ (s : List ℕ) where
         by_test true f g h l = h l
         by_test false f g h l = refl
 
-        by : (x : Lines) → 0 < (stream_or x (λ q. none) (λ f. cond (r.kept w f) (first_broken r s (r.count w f) (i + 1) f.next m) (in_stream r.number i (r.line f)))).line
+        by : (x : Result Fields Refusal) → 0 < (stream_or x (λ q. none) (λ f. cond (r.kept w f) (first_broken r s (r.count w f) (i + 1) f.next m) (in_stream r.number i (r.line f)))).line
             → ((f : Fields) → 0 < (first_broken r s (r.count w f) (i + 1) f.next m).line → (first_broken r s (r.count w f) (i + 1) f.next m).number ≡ r.number)
             → (stream_or x (λ q. none) (λ f. cond (r.kept w f) (first_broken r s (r.count w f) (i + 1) f.next m) (in_stream r.number i (r.line f)))).number ≡ r.number
-        by (Lines.Stream f) l ih = by_test (r.kept w f) f (first_broken r s (r.count w f) (i + 1) f.next m) (ih f) l
-        by (Lines.Refused q) l ih = absurd (omega arith)
+        by (Ok f) l ih = by_test (r.kept w f) f (first_broken r s (r.count w f) (i + 1) f.next m) (ih f) l
+        by (Err q) l ih = absurd (omega arith)
 
     abbrev FirstSays : ℕ → Form → declared.Fault → Type 0
     FirstSays w (refused q) f = Unit {0}
@@ -217,10 +230,10 @@ module _ (s : List ℕ) where
         more f (refused q) g h = tt
         more f (formed fs end) g h = judged (r.kept w f) (all_by r (r.count w f) fs) g (in_stream r.number i (r.line f)) refl (omega arith) h
 
-        by : (l : Lines) → ((f : Fields) → FirstSays (r.count w f) (streams s f.next m) (first_broken r s (r.count w f) (i + 1) f.next m))
+        by : (l : Result Fields Refusal) → ((f : Fields) → FirstSays (r.count w f) (streams s f.next m) (first_broken r s (r.count w f) (i + 1) f.next m))
             → FirstSays w (others l (λ f. streams s f.next m)) (stream_or l (λ q. none) (λ f. cond (r.kept w f) (first_broken r s (r.count w f) (i + 1) f.next m) (in_stream r.number i (r.line f))))
-        by (Lines.Stream f) ih = more f (streams s f.next m) (first_broken r s (r.count w f) (i + 1) f.next m) (ih f)
-        by (Lines.Refused q) ih = tt
+        by (Ok f) ih = more f (streams s f.next m) (first_broken r s (r.count w f) (i + 1) f.next m) (ih f)
+        by (Err q) ih = tt
 
     -- of streams that were read
     first_judged : (n at : ℕ) (fs : List Fields) (end : ℕ) → streams s at n ≡ formed fs end → (b : Bool) → all_by r 0 fs ≡ b → Judged r.number b (first_broken r s 0 0 at n)

@@ -1,6 +1,6 @@
 -- The walks over the streams' lines, one stream after the other, as the code takes them.
 use Prim.Native.Nat.{ℕ, zero, suc, ◌+◌, ◌*◌, ◌-◌, ◌<◌, ◌≤◌}
-use mathlib.Core.Path.{◌≡◌, ap, ◌∙◌}
+use mathlib.Core.Path.{◌≡◌, sym, ap, ◌∙◌}
 use mathlib.Core.Bool.{true, false, cond}
 use mathlib.Core.List.{List}
 use native.Mathlib.Omega.{arith}
@@ -9,9 +9,17 @@ use borrow.Author.Tests.{eq-eqb, ne_eqb, lt-ltb, le-ltb}
 use Rattle.operators.specs.Operators.{group_of, is_window}
 use Rattle.operators.specs.Limits.{window_limit}
 use Rattle.text.specs.declared.Fields.{Fields}
-use Rattle.text.specs.declared.Lines.{Lines}
+use Rattle.std.specs.Prelude.{Some, None, Result, Ok, Err}
+use Rattle.std.specs.Result.{result_ok}
+use Rattle.refusal.specs.declared.Refusal.{Refusal}
+use Rattle.refusal.specs.Numbers.{number_of}
 use Rattle.text.specs.Grammar.{stream}
 use Rattle.faults.specs.Faults.{fault, none, in_stream, stream_line, stream_or, form_fault, Rule, first_broken, ninth_rule}
+
+-- a stream as `.ok()?` reads it
+pub stream_ok : {x y : Result Fields Refusal} {f : Fields} → x ≡ y → Some f ≡ result_ok x → y ≡ Ok f
+stream_ok {x = Ok g} e h = sym e ∙ cc
+stream_ok {x = Err r} e h = absurd cc
 
 -- ## The first faulty line
 
@@ -27,12 +35,12 @@ module _ (s : List ℕ) where
   form_none i p m e = rw e
 
   module _ (n i p : ℕ) where
-    pub form_go : i < n → (f : Fields) → stream s p ≡ Lines.Stream f → form_fault s (i + 1) f.next (n - (i + 1)) ≡ form_fault s i p (n - i)
+    pub form_go : i < n → (f : Fields) → stream s p ≡ Ok f → form_fault s (i + 1) f.next (n - (i + 1)) ≡ form_fault s i p (n - i)
     form_go h f e =
         let m : n - (i + 1) ≡ n - i - 1 = omega arith in
         rw (m, form_turn i p (n - i) (omega arith), e)
 
-    pub form_halt : i < n → (r : ℕ) → stream s p ≡ Lines.Refused r → in_stream r i (stream_line s p) ≡ form_fault s i p (n - i)
+    pub form_halt : i < n → (r : Refusal) → stream s p ≡ Err r → in_stream (number_of r) i (stream_line s p) ≡ form_fault s i p (n - i)
     form_halt h r e = rw (form_turn i p (n - i) (omega arith), e)
 
     pub form_right : n ≤ i → p ≡ length s → none ≡ form_fault s i p (n - i)
@@ -57,16 +65,17 @@ module _ (r : Rule) (s : List ℕ) where
   first_none w i p m e = rw e
 
   module _ (n w i p : ℕ) where
-    pub first_go : i < n → (f : Fields) → stream s p ≡ Lines.Stream f → r.kept w f ≡ true → first_broken r s (r.count w f) (i + 1) f.next (n - (i + 1)) ≡ first_broken r s w i p (n - i)
+    pub first_go : i < n → (f : Fields) → stream s p ≡ Ok f → r.kept w f ≡ true → first_broken r s (r.count w f) (i + 1) f.next (n - (i + 1)) ≡ first_broken r s w i p (n - i)
     first_go h f e k =
         let m : n - (i + 1) ≡ n - i - 1 = omega arith in
         rw (m, first_turn w i p (n - i) (omega arith), e, k)
 
-    pub first_broken_lem : i < n → (f : Fields) → stream s p ≡ Lines.Stream f → r.kept w f ≡ false → in_stream r.number i (r.line f) ≡ first_broken r s w i p (n - i)
+    pub first_broken_lem : i < n → (f : Fields) → stream s p ≡ Ok f → r.kept w f ≡ false → in_stream r.number i (r.line f) ≡ first_broken r s w i p (n - i)
     first_broken_lem h f e k = rw (first_turn w i p (n - i) (omega arith), e, k)
 
-    pub first_halt : i < n → (q : ℕ) → stream s p ≡ Lines.Refused q → none ≡ first_broken r s w i p (n - i)
-    first_halt h q e = rw (first_turn w i p (n - i) (omega arith), e)
+    pub first_halt : i < n → {x : Result Fields Refusal} → x ≡ stream s p → None ≡ result_ok x → none ≡ first_broken r s w i p (n - i)
+    first_halt h {x = Ok f} e k = absurd cc
+    first_halt h {x = Err q} e k = rw (first_turn w i p (n - i) (omega arith), sym e)
 
     pub first_end : n ≤ i → none ≡ first_broken r s w i p (n - i)
     unfolding first_broken
@@ -74,7 +83,7 @@ module _ (r : Rule) (s : List ℕ) where
 
 -- ## The ninth window
 
-module _ (s : List ℕ) (n w i p : ℕ) (h : i < n) (f : Fields) (e : stream s p ≡ Lines.Stream f) where
+module _ (s : List ℕ) (n w i p : ℕ) (h : i < n) (f : Fields) (e : stream s p ≡ Ok f) where
   pub ninth_window : is_window (group_of f.op) ≡ true → w < window_limit → first_broken ninth_rule s (w + 1) (i + 1) f.next (n - (i + 1)) ≡ first_broken ninth_rule s w i p (n - i)
   ninth_window q l =
       let a : w + 1 ≡ suc w = omega arith in

@@ -1,5 +1,5 @@
 -- Believe: where a plan text is wrong: its number, the line counted from 1, and the stream.
-use Rattle.std.specs.Prelude.{ℕ, zero, suc, ◌+◌, ◌*◌, ◌<◌, ◌≡◌, Bool, true, cond, List, eqb, ltb, length}
+use Rattle.std.specs.Prelude.{ℕ, zero, suc, ◌+◌, ◌*◌, ◌<◌, ◌≡◌, Bool, true, cond, List, eqb, ltb, length, Option, Some, None, Result, Ok, Err}
 use Rattle.meaning.specs.Plan.{Plan}
 use Rattle.meaning.specs.Cycle.{Leads}
 use Rattle.meaning.specs.CycleTest.{acyclic}
@@ -8,14 +8,10 @@ use Rattle.operators.specs.Operators.{group_of, is_window, uses_a, uses_b, uses_
 use Rattle.operators.specs.Rules.{arg_ok, value_ok}
 use Rattle.operators.specs.Limits.{window_limit, text_limit}
 use Rattle.operators.specs.Windows.{width_ok}
-use Rattle.lines.specs.declared.Word.{Word}
-use Rattle.lines.specs.declared.Word.TheVariants.{Past, Absent}
-use Rattle.lines.specs.declared.Numeral.{Numeral}
+use Rattle.refusal.specs.declared.Refusal.{Refusal}
+use Rattle.refusal.specs.Numbers.{number_of}
 use Rattle.lines.specs.Form.{skip, field, value_line}
-use Rattle.text.specs.declared.Name.{Name}
 use Rattle.text.specs.declared.Fields.{Fields}
-use Rattle.text.specs.declared.Lines.{Lines}
-use Rattle.text.specs.declared.Head.{Head}
 use Rattle.text.specs.Grammar.{plan_line, first_key, second_key, op_line, stream, head}
 use Rattle.plan.specs.Rules.{keeps, declared}
 use Rattle.faults.specs.declared.Fault.{Fault}
@@ -38,31 +34,30 @@ or_next f g = cond (eqb f.line 0) g f
 -- ## "then the first faulty line decides", by 2, 3 and 4
 
 -- of the first two lines
-abbrev pub head_line : Word → ℕ
-head_line Absent = 1
-head_line (Past p) = 2
+abbrev pub head_line : Option ℕ → ℕ
+head_line None = 1
+head_line (Some p) = 2
 
 -- line j, if it is faulty, or one after it
-abbrev pub line_or : ℕ → Numeral → (ℕ → ℕ) → ℕ
-line_or j (Numeral.Number v p) after = after p
-line_or j Numeral.Fault after = j
+abbrev pub line_or : ℕ → Option (ℕ × ℕ) → (ℕ → ℕ) → ℕ
+line_or j (Some (v, p)) after = after p
+line_or j None after = j
 
 -- a, b, k, or else out
 unfoldable pub field_line : List ℕ → ℕ → ℕ
 field_line s at = line_or 1 (field s at first_key 3) (λ p. line_or 2 (field s p second_key 3) (λ q. line_or 3 (value_line s q) (λ t. 4)))
 
-abbrev pub line_after : List ℕ → Name → ℕ
-line_after s (Name.Operator op p) = field_line s p
-line_after s Name.Unknown = 0
-line_after s Name.Fault = 0
+abbrev pub line_after : List ℕ → Result (ℕ × ℕ) Refusal → ℕ
+line_after s (Ok (op, p)) = field_line s p
+line_after s (Err r) = 0
 
 -- of the five lines of a stream that is refused
 unfoldable pub stream_line : List ℕ → ℕ → ℕ
 stream_line s at = line_after s (op_line s at)
 
-abbrev pub stream_or : Lines → (ℕ → Fault) → (Fields → Fault) → Fault
-stream_or (Lines.Refused r) here after = here r
-stream_or (Lines.Stream f) here after = after f
+abbrev pub stream_or : Result Fields Refusal → (ℕ → Fault) → (Fields → Fault) → Fault
+stream_or (Err r) here after = here (number_of r)
+stream_or (Ok f) here after = after f
 
 -- of the lines of n streams, the first of them stream i at a position; "bytes left over" begin the line after them
 unfoldable pub form_fault : List ℕ → ℕ → ℕ → ℕ → Fault
@@ -139,9 +134,9 @@ cycle_fault cap plan c = cond (acyclic cap plan) none (in_stream 6 c 0)
 abbrev pub plan_of : ℕ → List ℕ → Plan
 plan_of cap s = declared_plan (declared cap s)
 
-abbrev pub fault_of_head : ℕ → List ℕ → ℕ → Head → Fault
-fault_of_head cap s c (Head.Refused r) = fault r (head_line (skip s 0 plan_line)) 0
-fault_of_head cap s c (Head.Streams n at) = or_next (form_fault s 0 at n) (or_next (rule_fault s n at) (or_next (window_fault s n at) (cycle_fault cap (plan_of cap s) c)))
+abbrev pub fault_of_head : ℕ → List ℕ → ℕ → Result (ℕ × ℕ) Refusal → Fault
+fault_of_head cap s c (Err r) = fault (number_of r) (head_line (skip s 0 plan_line)) 0
+fault_of_head cap s c (Ok (n, at)) = or_next (form_fault s 0 at n) (or_next (rule_fault s n at) (or_next (window_fault s n at) (cycle_fault cap (plan_of cap s) c)))
 
 -- c is the stream that 6 tells; of a text that is too long no line is told
 unfoldable pub fault_with : ℕ → List ℕ → ℕ → Fault

@@ -1,12 +1,7 @@
 -- Believe: the lines of a text as an editor counts them, and where the grammar reads each.
-use Rattle.std.specs.Prelude.{ℕ, ◌+◌, ◌*◌, ◌<◌, ◌≤◌, ◌≡◌, List, [], ◌∷◌, ◌++◌, drop}
-use Rattle.lines.specs.declared.Word.TheVariants.{Past}
-use Rattle.lines.specs.declared.Numeral.TheVariants.{Number}
+use Rattle.std.specs.Prelude.{ℕ, ◌+◌, ◌*◌, ◌<◌, ◌≤◌, ◌≡◌, List, [], ◌∷◌, ◌++◌, drop, Some, Ok}
 use Rattle.lines.specs.Form.{ending, skip, field, value_line}
-use Rattle.text.specs.declared.Name.TheVariants as Name
 use Rattle.text.specs.declared.Fields.{Fields}
-use Rattle.text.specs.declared.Lines.TheVariants as Lines
-use Rattle.text.specs.declared.Head.TheVariants as Head
 use Rattle.faults.specs.declared.Fault.{Fault}
 use Rattle.text.specs.Grammar.{plan_line, first_key, second_key, op_line, stream, head}
 
@@ -35,22 +30,22 @@ pub record Begins (s : List ℕ) (line at : ℕ) : Type 0 where
 -- line j of the stream at a position
 pub data LineIn (s : List ℕ) (at : ℕ) : ℕ → ℕ → Type 0 where
   op : LineIn s at 0 at
-  a : {n p : ℕ} → op_line s at ≡ Name.Operator n p → LineIn s at 1 p
-  b : {v p q : ℕ} → LineIn s at 1 p → field s p first_key 3 ≡ Number v q → LineIn s at 2 q
-  k : {v p q : ℕ} → LineIn s at 2 p → field s p second_key 3 ≡ Number v q → LineIn s at 3 q
-  out : {v p q : ℕ} → LineIn s at 3 p → value_line s p ≡ Number v q → LineIn s at 4 q
+  a : {n p : ℕ} → op_line s at ≡ Ok (n, p) → LineIn s at 1 p
+  b : {v p q : ℕ} → LineIn s at 1 p → field s p first_key 3 ≡ Some (v, q) → LineIn s at 2 q
+  k : {v p q : ℕ} → LineIn s at 2 p → field s p second_key 3 ≡ Some (v, q) → LineIn s at 3 q
+  out : {v p q : ℕ} → LineIn s at 3 p → value_line s p ≡ Some (v, q) → LineIn s at 4 q
 
 -- stream i, with the first at a position
 pub data StreamIn (s : List ℕ) (at : ℕ) : ℕ → ℕ → Type 0 where
   first : StreamIn s at 0 at
-  next : {i p : ℕ} {f : Fields} → StreamIn s at i p → stream s p ≡ Lines.Stream f → StreamIn s at (i + 1) f.next
+  next : {i p : ℕ} {f : Fields} → StreamIn s at i p → stream s p ≡ Ok f → StreamIn s at (i + 1) f.next
 
 -- a line of a text that announces n streams, and where a text that has lines should end
 pub data LineAt (cap : ℕ) (s : List ℕ) : ℕ → ℕ → Type 0 where
   top : LineAt cap s 1 0
-  count : {p : ℕ} → skip s 0 plan_line ≡ Past p → LineAt cap s 2 p
-  inside : {n at i p j q : ℕ} → head cap s ≡ Head.Streams n at → i < n → StreamIn s at i p → LineIn s p j q → LineAt cap s (3 + 5 * i + j) q
-  beyond : {n at p q : ℕ} → skip s 0 plan_line ≡ Past q → head cap s ≡ Head.Streams n at → StreamIn s at n p → LineAt cap s (3 + 5 * n) p
+  count : {p : ℕ} → skip s 0 plan_line ≡ Some p → LineAt cap s 2 p
+  inside : {n at i p j q : ℕ} → head cap s ≡ Ok (n, at) → i < n → StreamIn s at i p → LineIn s p j q → LineAt cap s (3 + 5 * i + j) q
+  beyond : {n at p q : ℕ} → skip s 0 plan_line ≡ Some q → head cap s ≡ Ok (n, at) → StreamIn s at n p → LineAt cap s (3 + 5 * n) p
 
 -- ## The line of a fault
 

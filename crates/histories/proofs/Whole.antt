@@ -3,7 +3,7 @@
 use Prim.Native.Nat.{ℕ, zero, suc, ◌+◌, ◌*◌, ◌≤◌, ◌<◌}
 use mathlib.Core.Path.{◌≡◌, refl, sym, ap, ap₂, ◌∙◌, subst}
 use mathlib.Core.Bool.{Bool, true, false, cond}
-use mathlib.Core.Option.{Option, none, some}
+use Rattle.std.specs.Prelude.{Option, None, Some}
 use mathlib.Core.List.{List, [], ◌∷◌, ◌++◌, append-nil, append_assoc}
 use native.Mathlib.Omega.{arith}
 use lib.Dec.{eqb, lit<, lit≤}
@@ -186,8 +186,8 @@ calls_kept (c ∷ more) ds cs seen b t k =
 
 -- and the text is that of the plan
 abbrev KeptIn : Option Course → List ℕ → Type 0
-KeptIn none b = Unit {0}
-KeptIn (some x) b = (cs : List Call) × Kept x.plan cs x.seen b × (render x.plan ≡ x.text)
+KeptIn None b = Unit {0}
+KeptIn (Some x) b = (cs : List Call) × Kept x.plan cs x.seen b × (render x.plan ≡ x.text)
 
 abbrev KeptAt : Point → Type 0
 KeptAt p = KeptIn p.course p.bytes
@@ -210,7 +210,7 @@ unfolding acted
 kept_act (load text) past p t h k = by (eqb (load_reply text p.bytes).number 0) refl
   where
     by : (x : Bool) → eqb (load_reply text p.bytes).number 0 ≡ x
-        → KeptIn (cond x (some (record { text = text; plan = declared (capacity (length (load_reply text p.bytes).buffer)) text; seen = [] })) p.course) (load_reply text p.bytes).buffer
+        → KeptIn (cond x (Some (record { text = text; plan = declared (capacity (length (load_reply text p.bytes).buffer)) text; seen = [] })) p.course) (load_reply text p.bytes).buffer
     by true e =
         let d = load_done text p.bytes (eqb-true (load_reply text p.bytes).number 0 e) in
         let b = (load_reply text p.bytes).buffer in
@@ -220,15 +220,15 @@ kept_act (load text) past p t h k = by (eqb (load_reply text p.bytes).number 0) 
 kept_act (make c) past p t h k = by p.course k
   where
     by : (o : Option Course) → KeptIn o p.bytes → KeptIn (course_of_call c (reply c p.bytes) o) (reply c p.bytes).buffer
-    by none k = tt
-    by (some x) k = (k.0 ++ c ∷ [], further x.plan k.0 x.seen p.bytes c t k.1, k.2)
+    by None k = tt
+    by (Some x) k = (k.0 ++ c ∷ [], further x.plan k.0 x.seen p.bytes c t k.1, k.2)
 kept_act (ask_text b) past p t h k = k
 kept_act (ask_missing i) past p t h k = k
 kept_act (widen b) past p t h k = by (eqb (widen_reply p.bytes b).number 0) refl
   where
     moved : (widen_reply p.bytes b).number ≡ 0 → (o : Option Course) → KeptIn o p.bytes → KeptIn o (widen_reply p.bytes b).buffer
-    moved z none k = tt
-    moved z (some x) k = (k.0, longer x.plan k.0 x.seen p.bytes b z k.1, k.2)
+    moved z None k = tt
+    moved z (Some x) k = (k.0, longer x.plan k.0 x.seen p.bytes b z k.1, k.2)
 
     by : (x : Bool) → eqb (widen_reply p.bytes b).number 0 ≡ x → KeptAt (cond x (record { bytes = (widen_reply p.bytes b).buffer; course = p.course }) p)
     by true e = moved (eqb-true (widen_reply p.bytes b).number 0 e) p.course k
@@ -237,8 +237,8 @@ kept_act (write_to b at x) past p t h k = by (starts b at x) refl p.course k
   where
     by : (q : Bool) → starts b at x ≡ q → (o : Option Course) → KeptIn o p.bytes
         → KeptIn (cond q (course_of_call (call_in b x) (shown_in x (reply (call_in b x) p.bytes) (write p.bytes b at x)) o) o) (write p.bytes b at x).state
-    by true q none k = tt
-    by true q (some y) k =
+    by true q None k = tt
+    by true q (Some y) k =
         let bytes : Bytes p.bytes = subst Bytes (sym k.1.bytes) (state_bytes (length p.bytes) (final y.plan k.0)) in
         let e = shown_is p.bytes b at x bytes q in
         let f = ((one_write p.bytes b at x).started q).1 in (
@@ -356,7 +356,7 @@ kept_demands x b cs k text =
 -- ---- the theorems
 
 history_kept : (acts : List Act) → AllTypedActs acts → (s : List ℕ) → KeptAt (point_after acts s)
-history_kept acts t s = kept_all acts [] (record { bytes = s; course = none }) t tt tt
+history_kept acts t s = kept_all acts [] (record { bytes = s; course = None }) t tt tt
 
 -- Whatever loads, calls and register writes are made on a lent buffer and whatever copies are put back, whatever it held before:
 -- demands 2 and 3 hold of the list since the last load that was done, by what was returned alone.
@@ -364,16 +364,16 @@ pub demands_hold : (acts : List Act) → AllTypedActs acts → (s : List ℕ) �
 demands_hold acts t s = go (point_after acts s).course (history_kept acts t s)
   where
     go : (o : Option Course) → KeptIn o (point_after acts s).bytes → DemandsAt o (point_after acts s).bytes
-    go none k = tt
-    go (some x) k = kept_demands x (point_after acts s).bytes k.0 k.1 k.2
+    go None k = tt
+    go (Some x) k = kept_demands x (point_after acts s).bytes k.0 k.1 k.2
 
 -- The same with the machine: the bytes are its state after the calls, and demand 2 holds of it.
 pub inside_holds : (acts : List Act) → AllTypedActs acts → (s : List ℕ) → InsideAt (point_after acts s).course (point_after acts s).bytes
 inside_holds acts t s = go (point_after acts s).course (history_kept acts t s)
   where
     go : (o : Option Course) → KeptIn o (point_after acts s).bytes → InsideAt o (point_after acts s).bytes
-    go none k = tt
-    go (some x) k =
+    go None k = tt
+    go (Some x) k =
         let b = (point_after acts s).bytes in
         let g = subst (λ (l : List Call). Kept x.plan l x.seen b) (sym k.1.made) k.1 in
         kept_inside x.plan (calls_of x.seen) x.seen b g
@@ -420,7 +420,7 @@ goes_back (a ∷ more) past p k l =
 pub put_back_lem : (acts more : List Act) (s : List ℕ) → point_after (acts ++ (more ++ put_back (length acts) ∷ [])) s ≡ point_after acts s
 unfolding point_from acted
 put_back_lem acts more s =
-    let g = goes_append acts (more ++ put_back (length acts) ∷ []) [] (record { bytes = s; course = none }) in
+    let g = goes_append acts (more ++ put_back (length acts) ∷ []) [] (record { bytes = s; course = None }) in
     g.1 ∙ from more g.0 g.2
   where
     from : (more : List Act) (ps : List Point) → length ps ≡ length acts → point_from (more ++ put_back (length acts) ∷ []) ps (point_after acts s) ≡ point_after acts s

@@ -2,7 +2,7 @@
 use Prim.Native.Nat.{ℕ, zero, suc, ◌≤◌, ◌<◌}
 use mathlib.Core.Path.{◌≡◌, refl, sym, ap, ap₂, ◌∙◌, subst}
 use mathlib.Core.Bool.{Bool, true, false, cond, ◌&&◌, ◌||◌}
-use mathlib.Core.Option.{Option, none, some}
+use Rattle.std.specs.Prelude.{Option, None, Some}
 use mathlib.Core.List.{List, [], ◌∷◌, ◌++◌}
 use native.Mathlib.Omega.{arith}
 use native.Mathlib.Decide.{ℕ_discrete}
@@ -231,7 +231,7 @@ at_act (load text) ps qs p q t u h k = by (ℕ_discrete (load_reply text p.bytes
         let f = long_taken p.bytes q.bytes k.0 text e in (
           load_longer p.bytes q.bytes k.0 text e,
           rw (eq-eqb (load_reply text p.bytes).number 0 e, eq-eqb (load_reply text q.bytes).number 0 f)
-              (ap (λ (ds : List Declared). some (record { text = text; plan = ds; seen = [] })) (load_plan p.bytes q.bytes k.0 text e)),
+              (ap (λ (ds : List Declared). Some (record { text = text; plan = ds; seen = [] })) (load_plan p.bytes q.bytes k.0 text e)),
         )
     by (no z) =
         let n : (load_reply text p.bytes).number ≡ (load_reply text q.bytes).number = same_number p.bytes q.bytes k.0 text u in
@@ -248,8 +248,8 @@ at_act (make c) ps qs p q t u h k = (
     by o v e = ap (course_of_call c (reply c p.bytes)) e ∙ seen v
       where
         seen : (v : Option Course) → course_of_call c (reply c p.bytes) v ≡ course_of_call c (reply c q.bytes) v
-        seen none = refl
-        seen (some x) = ap (λ (y : Seen). some (record { text = x.text; plan = x.plan; seen = x.seen ++ y ∷ [] })) (same_seen p.bytes q.bytes k.0 c)
+        seen None = refl
+        seen (Some x) = ap (λ (y : Seen). Some (record { text = x.text; plan = x.plan; seen = x.seen ++ y ∷ [] })) (same_seen p.bytes q.bytes k.0 c)
 at_act (ask_text b) ps qs p q t u h k = k
 at_act (ask_missing i) ps qs p q t u h k = k
 at_act (widen b) ps qs p q t u h k = absurd u
@@ -264,8 +264,8 @@ at_act (write_to b at x) ps qs p q t u h k = (
     by true o v e = ap (course_of_call (call_in b x) (shown_in x (reply (call_in b x) p.bytes) (write p.bytes b at x))) e ∙ seen v
       where
         seen : (v : Option Course) → course_of_call (call_in b x) (shown_in x (reply (call_in b x) p.bytes) (write p.bytes b at x)) v ≡ course_of_call (call_in b x) (shown_in x (reply (call_in b x) q.bytes) (write q.bytes b at x)) v
-        seen none = refl
-        seen (some y) = ap (λ (z : Seen). some (record { text = y.text; plan = y.plan; seen = y.seen ++ z ∷ [] })) (write_seen p.bytes q.bytes k.0 b at x t)
+        seen None = refl
+        seen (Some y) = ap (λ (z : Seen). Some (record { text = y.text; plan = y.plan; seen = y.seen ++ z ∷ [] })) (write_seen p.bytes q.bytes k.0 b at x t)
     by false o v e = e
 at_act (put_back n) ps qs p q t u h k = at_past ps qs n p q h k
 

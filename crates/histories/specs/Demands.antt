@@ -3,8 +3,7 @@
 -- of a plan (crates/meaning: Plan, Events, Table, Missing), with what a caller sees and demand 3 itself (crates/runs: Seen, Demand3),
 -- with the registers where they are written to (crates/block, crates/registers), and without machine or layout, but for where a
 -- stream's bound lies (`bound_in`).
-use Rattle.std.specs.Prelude.{ℕ, ◌+◌, ◌*◌, ◌≤◌, ◌<◌, ◌≡◌, ◌↔◌, cond, ◌&&◌, List, [], ◌∷◌, ◌++◌, eqb, length, get_or, pos}
-use Rattle.std.proofs.Math.Option.{Option, none, some}
+use Rattle.std.specs.Prelude.{ℕ, ◌+◌, ◌*◌, ◌≤◌, ◌<◌, ◌≡◌, ◌↔◌, cond, ◌&&◌, List, [], ◌∷◌, ◌++◌, eqb, length, get_or, pos, Option, None, Some}
 use Rattle.le.specs.Bytes.{Bytes, le, part}
 use Rattle.meaning.specs.Plan.{eqn_at}
 use Rattle.meaning.specs.Events.{Streams, horizon}
@@ -89,11 +88,11 @@ seen_in c r = record { made = c; number = r.number; moves = r.moves; stamp = r.s
 
 -- "A load that is done starts a new list; one that is refused leaves the list as it was."
 abbrev pub course_of_load : List ℕ → Reply → Option Course → Option Course
-course_of_load text r o = cond (eqb r.number 0) (some (record { text = text; plan = declared (capacity (length r.buffer)) text; seen = [] })) o
+course_of_load text r o = cond (eqb r.number 0) (Some (record { text = text; plan = declared (capacity (length r.buffer)) text; seen = [] })) o
 
 abbrev pub course_of_call : Call → Reply → Option Course → Option Course
-course_of_call c r none = none
-course_of_call c r (some x) = some (record { text = x.text; plan = x.plan; seen = x.seen ++ seen_in c r ∷ [] })
+course_of_call c r None = None
+course_of_call c r (Some x) = Some (record { text = x.text; plan = x.plan; seen = x.seen ++ seen_in c r ∷ [] })
 
 -- what a command's write shows of its call: the number, and of a done collect what then lies in the block, w being what the write
 -- gives and r the call's answer, of which the count of moves isn't shown
@@ -126,7 +125,7 @@ point_from (a ∷ acts) past p = point_from acts (past ++ p ∷ []) (acted a pas
 
 -- the point after a history of a buffer that held any bytes before it
 abbrev pub point_after : List Act → List ℕ → Point
-point_after acts s = point_from acts [] (record { bytes = s; course = none })
+point_after acts s = point_from acts [] (record { bytes = s; course = None })
 
 -- the arguments have the types that the calls take
 abbrev pub TypedAct : Act → Type 0
@@ -175,5 +174,5 @@ pub record Demands (x : Course) (b : List ℕ) : Type 1 where
   pub never15 : (c : Call) → (reply c b).number ≡ 15 → ⊥
 
 abbrev pub DemandsAt : Option Course → List ℕ → Type 1
-DemandsAt none b = Unit {1}
-DemandsAt (some x) b = Demands x b
+DemandsAt None b = Unit {1}
+DemandsAt (Some x) b = Demands x b

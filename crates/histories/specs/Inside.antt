@@ -1,6 +1,5 @@
 -- Believe: the same histories with the machine: which state the bytes are, and demand 2 of it.
-use Rattle.std.specs.Prelude.{ℕ, ◌≡◌, List, map, length}
-use Rattle.std.proofs.Math.Option.{Option, none, some}
+use Rattle.std.specs.Prelude.{ℕ, ◌≡◌, List, map, length, Option, None, Some}
 use Rattle.machine.specs.State.{Declared, loaded}
 use Rattle.machine.specs.Calls.{Call, call, missing}
 use Rattle.runs.specs.Seen.{Seen}
@@ -31,5 +30,5 @@ pub record Inside (ds : List Declared) (cs : List Call) (seen : List Seen) (b : 
   pub claim : Claim ds cs
 
 abbrev pub InsideAt : Option Course → List ℕ → Type 1
-InsideAt none b = Unit {1}
-InsideAt (some x) b = Inside x.plan (calls_of x.seen) x.seen b
+InsideAt None b = Unit {1}
+InsideAt (Some x) b = Inside x.plan (calls_of x.seen) x.seen b

@@ -1,6 +1,5 @@
 -- Believe: a state copied into a longer buffer goes on there from the same point: whatever is then done to both, they answer alike.
-use Rattle.std.specs.Prelude.{ℕ, ◌≡◌, true, List, [], ◌∷◌, length}
-use Rattle.std.proofs.Math.Option.{Option}
+use Rattle.std.specs.Prelude.{ℕ, ◌≡◌, true, List, [], ◌∷◌, length, Option}
 use Rattle.le.specs.Bytes.{Bytes}
 use Rattle.machine.specs.State.{State}
 use Rattle.machine.specs.Calls.{Call}

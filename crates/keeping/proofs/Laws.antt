@@ -2,7 +2,7 @@
 use Prim.Native.Nat.{ℕ, ◌<◌, ◌^◌}
 use mathlib.Core.Path.{◌≡◌, refl, sym, ap, ◌∙◌}
 use mathlib.Core.Bool.{Bool, false, cond, false≢true}
-use mathlib.Core.Option.{Option, none}
+use Rattle.std.specs.Prelude.{Option, None}
 use mathlib.Core.List.{List}
 use lib.IntN.{ℤ}
 use lib.ListN.{get_or}
@@ -21,15 +21,15 @@ use Rattle.keeping.specs.Keep.{moved_cell, value_kept, delay_kept, signal_kept, 
 
 -- z is the latest set point, x a's event just below the bound
 module _ (o a b : Cell) (z : ℕ) (ez : z ≡ later o b) (x : Option ℤ) (ex : x ≡ (absorb (delay 0 0) o a b).prior) where
-  pub delay_none : z ≡ 0 → record { prev = o.kept.prev; prev_b = o.kept.prev_b; since = z; value = none; prior = x } ≡ absorb (delay 0 0) o a b
+  pub delay_none : z ≡ 0 → record { prev = o.kept.prev; prev_b = o.kept.prev_b; since = z; value = None; prior = x } ≡ absorb (delay 0 0) o a b
   delay_none h =
-      let v : none ≡ (absorb (delay 0 0) o a b).value = sym (ap (λ (c : Bool). cond c none (value_at o a (later o b))) (eq-eqb (later o b) 0 (sym ez ∙ h))) in
+      let v : None ≡ (absorb (delay 0 0) o a b).value = sym (ap (λ (c : Bool). cond c None (value_at o a (later o b))) (eq-eqb (later o b) 0 (sym ez ∙ h))) in
       λ i. record { prev = o.kept.prev; prev_b = o.kept.prev_b; since = ez i; value = v i; prior = ex i }
 
   pub delay_some : (v : Option ℤ) → v ≡ value_at o a z → (z ≡ 0 → ⊥) → record { prev = o.kept.prev; prev_b = o.kept.prev_b; since = z; value = v; prior = x } ≡ absorb (delay 0 0) o a b
   delay_some v ev h =
       let w : v ≡ (absorb (delay 0 0) o a b).value =
-      ev ∙ ap (value_at o a) ez ∙ sym (ap (λ (c : Bool). cond c none (value_at o a (later o b))) (ne_eqb (later o b) 0 (λ q. h (ez ∙ q)))) in
+      ev ∙ ap (value_at o a) ez ∙ sym (ap (λ (c : Bool). cond c None (value_at o a (later o b))) (ne_eqb (later o b) 0 (λ q. h (ez ∙ q)))) in
       λ i. record { prev = o.kept.prev; prev_b = o.kept.prev_b; since = ez i; value = w i; prior = ex i }
 
 -- no more of the cells is needed than this
@@ -46,30 +46,28 @@ absorb_near (window f k _) o a b x y = refl
 
 -- ---- the record
 
-module _ (f j has bits : ℕ) (r : Raw) where
-  pub value_is : value_kept f j has bits r ≡ with_num j bits (with_num f has r)
-  unfolding value_kept
-  value_is = refl
+-- the flag and the bits stored are those of the value
+pub value_is : (f j : ℕ) (x : Option ℤ) (has bits : ℕ) (r : Raw) → has ≡ flag_of x → bits ≡ bits_of x → value_kept f j (flag_of x) (bits_of x) r ≡ with_num j bits (with_num f has r)
+unfolding value_kept
+value_is f j x has bits r e q = rw (e, q)
 
+module _ (f j has bits : ℕ) (r : Raw) where
   pub value_ok_lem : has < 256 ^ get_or head_widths f 0 → bits < 256 ^ get_or head_widths j 0 → RawOk r → RawOk (value_kept f j has bits r)
   unfolding value_kept
   value_ok_lem h b ok = num_ok (with_num f has r) j bits (num_ok r f has ok h) b
 
 module _ (k : Kept) (r : Raw) where
-  -- the flags and bits read before the stores
-  pub delay_is : (h v p w : ℕ) → h ≡ flag_of k.value → v ≡ bits_of k.value → p ≡ flag_of k.prior → w ≡ bits_of k.prior
-      → delay_kept k r ≡ value_kept prior_flag_f prior_f p w (value_kept flag_f value_f h v (with_num kept_f k.since r))
+  pub delay_is : delay_kept k r ≡ value_kept prior_flag_f prior_f (flag_of k.prior) (bits_of k.prior) (value_kept flag_f value_f (flag_of k.value) (bits_of k.value) (with_num kept_f k.since r))
   unfolding delay_kept
-  delay_is h v p w eh ev ep ew = rw (eh, ev, ep, ew)
+  delay_is = refl
 
-  pub signal_is : (h v p w : ℕ) → h ≡ flag_of k.prev → v ≡ bits_of k.prev → p ≡ flag_of k.prev_b → w ≡ bits_of k.prev_b
-      → signal_kept k r ≡ value_kept prior_flag_f value_f p w (value_kept flag_f kept_f h v r)
+  pub signal_is : signal_kept k r ≡ value_kept prior_flag_f value_f (flag_of k.prev_b) (bits_of k.prev_b) (value_kept flag_f kept_f (flag_of k.prev) (bits_of k.prev) r)
   unfolding signal_kept
-  signal_is h v p w eh ev ep ew = rw (eh, ev, ep, ew)
+  signal_is = refl
 
-  pub row_last : (a b h v : ℕ) → h ≡ flag_of k.prev → v ≡ bits_of k.prev → kept_row (last a b) k r ≡ value_kept flag_f kept_f h v r
+  pub row_last : (a b : ℕ) → kept_row (last a b) k r ≡ value_kept flag_f kept_f (flag_of k.prev) (bits_of k.prev) r
   unfolding kept_row
-  row_last a b h v eh ev = rw (eh, ev)
+  row_last a b = refl
 
   pub row_delay : (a b : ℕ) → kept_row (delay a b) k r ≡ delay_kept k r
   unfolding kept_row

@@ -1,5 +1,5 @@
 -- Laws of bytes that are all 0.
-use Prim.Native.Nat.{ℕ, zero, suc, ◌+◌, ◌*◌, ◌/◌, ◌%◌, ◌<◌, ◌≤◌, max}
+use Prim.Native.Nat.{ℕ, zero, suc, ◌+◌, ◌*◌, ◌/◌, ◌%◌, ◌<◌, max}
 use mathlib.Core.Path.{◌≡◌, refl, sym, ap, ap₂, ◌∙◌}
 use mathlib.Core.Bool.{Bool, true, false, cond}
 use mathlib.Core.List.{List, [], ◌∷◌}
@@ -9,8 +9,10 @@ use borrow.Author.Tests.{eq-eqb, ne_eqb}
 use lib.Arith.{bin_ind}
 use lib.Bits.{bit_or, or_step}
 use lib.Dec.{eqb}
-use lib.ListN.{length, get_or, take, drop, drop_of_length-le}
+use lib.ListN.{length, get_or, take, drop}
 use lib.Seq.{drop-cons, take-take, drop-drop}
+use Rattle.std.specs.Bool.{MatchBool}
+use Rattle.std.specs.List.{AllWithin, HoldsAt}
 use Rattle.le.specs.Bytes.{part, all_zero}
 use Rattle.le.proofs.RoundTrip.{drop_take}
 
@@ -44,10 +46,6 @@ zero_one s i h = rw (drop-cons s i 0 h) (go (eqb (get_or s i 0) 0))
     go true = refl
     go false = refl
 
-pub zero_end : (s : List ℕ) (i : ℕ) → length s ≤ i → all_zero (drop i s) ≡ true
-unfolding all_zero
-zero_end s i h = ap all_zero (drop_of_length-le s h)
-
 or_none : (x : ℕ) (y : ℕ) → bit_or x y ≡ 0 → (x ≡ 0) × (y ≡ 0)
 or_none = bin_ind (λ (x : ℕ). (y : ℕ) → bit_or x y ≡ 0 → (x ≡ 0) × (y ≡ 0)) (λ y e. (refl, e)) (λ x ih y e. step x y (ih (y / 2)) (sym (or_step x y) ∙ e))
   where
@@ -71,3 +69,24 @@ zero_turn s i n x p e = sym (rw (← p, eq-eqb x 0 e) at (zero_block s i n))
 
 pub zero_not : (s : List ℕ) (i n x : ℕ) → eqb x 0 ≡ all_zero (part s i n) → (x ≡ 0 → ⊥) → false ≡ all_zero (drop i s)
 zero_not s i n x p e = sym (rw (← p, ne_eqb x 0 e) at (zero_block s i n))
+
+-- ---- what a test of each byte says
+
+all_yes : (l : List ℕ) → ((k : ℕ) → k < length l → get_or l k 0 ≡ 0) → true ≡ all_zero l
+unfolding all_zero
+all_yes [] h = refl
+all_yes (x ∷ l) h = rw (eq-eqb x 0 (h 0 (omega arith))) (all_yes l (λ k b. h (suc k) (omega arith)))
+
+all_no : (l : List ℕ) (k : ℕ) → k < length l → (get_or l k 0 ≡ 0 → ⊥) → false ≡ all_zero l
+unfolding all_zero
+all_no [] k b n = absurd (omega arith)
+all_no (x ∷ l) zero b n = rw (ne_eqb x 0 n)
+all_no (x ∷ l) (suc k) b n = go (eqb x 0) (all_no l k (omega arith) n)
+  where
+    go : (p : Bool) → false ≡ all_zero l → false ≡ cond p (all_zero l) false
+    go true e = e
+    go false e = refl
+
+pub zero_all : (b : Bool) (l : List ℕ) → MatchBool b (AllWithin (λ x. x ≡ 0) l 0 (length l)) ((k : ℕ) × (k < length l) × HoldsAt (λ x. x ≡ 0 → ⊥) l k) → b ≡ all_zero l
+zero_all true l h = all_yes l (λ k b. h k 0 (omega arith) b)
+zero_all false l h = all_no l h.0 h.1 (h.2 0)

@@ -1,11 +1,12 @@
 -- Laws of little-endian numbers and of runs of bytes.
 use Prim.Native.Nat.{ℕ, zero, suc, ◌+◌, ◌*◌, ◌/◌, ◌%◌, ◌^◌, ◌<◌, ◌≤◌, ◌-◌}
 use mathlib.Core.Path.{◌≡◌, refl, sym, ap, ap₂, ◌∙◌}
-use mathlib.Core.List.{List, [], ◌∷◌}
+use mathlib.Core.List.{List, [], ◌∷◌, ◌++◌, append_assoc}
 use native.Mathlib.Nat.{mod-lt, div-lt_iff_lt-mul, pow-suc, add-zero, lt_of_lt_of_le, pow-le-pow_right, sub-zero}
 use native.Mathlib.Omega.{arith}
-use lib.ListN.{length, get_or, take, drop, set, replicate, length-take, length-set}
-use lib.Seq.{get_or-drop, drop-cons, sets, drop-set-lt, length-sets}
+use lib.ListN.{length, get_or, take, drop, set, length-take, length-set}
+use lib.Seq.{get_or-drop, drop-cons, sets, sets-eq, drop-set-lt, length-sets, drop-drop}
+use borrow.Rule.Slice.PartMut.{put_mid}
 use lib.Dec.{lit<, lit≤}
 use Rattle.le.specs.Bytes.{le, enc, part, Bytes}
 
@@ -143,18 +144,6 @@ shift_block s at by (suc w) (suc n) h k =
     let ih = shift_block s' (suc at) by w n (omega arith) (rw length-set (omega arith)) in
     rw (one w, f, g, left) (ih ∙ sym (one n))
 
--- four bytes, all read before the first is stored
-pub shift_four : (s : List ℕ) (at from : ℕ) → from + 4 ≤ length s →
-    set (set (set (set s at (get_or s from 0)) (at + 1) (get_or s (from + 1) 0)) (at + 2) (get_or s (from + 2) 0)) (at + 3) (get_or s (from + 3) 0) ≡ sets s at (part s from 4)
-shift_four s at from h =
-    let cons : (i n : ℕ) → i < 4 → part s (from + i) (suc n) ≡ get_or s (from + i) 0 ∷ part s (from + (i + 1)) n
-    = λ i n k. (let e : suc (from + i) ≡ from + (i + 1) = omega arith in part_cons s (from + i) n (omega arith) ∙ ap (λ (j : ℕ). get_or s (from + i) 0 ∷ part s j n) e) in
-    let a1 : at + 1 ≡ suc at = omega arith in
-    let a2 : at + 2 ≡ suc (suc at) = omega arith in
-    let a3 : at + 3 ≡ suc (suc (suc at)) = omega arith in
-    let f0 : part s from 4 ≡ get_or s from 0 ∷ part s (from + 1) 3 = ap (λ (j : ℕ). part s j 4) (sym (add-zero from)) ∙ cons 0 3 (lit< tt) ∙ ap (λ (j : ℕ). get_or s j 0 ∷ part s (from + 1) 3) (add-zero from) in
-    rw (a1, a2, a3, f0, cons 1 2 (lit< tt), cons 2 1 (lit< tt), cons 3 0 (lit< tt))
-
 -- one turn of the loop that moves w bytes at once
 pub shift_turns : (s t : List ℕ) (at by i w n : ℕ) → w ≤ n - i → i ≤ n → at + by + n ≤ length s → t ≡ sets s (at + i) (part s (at + i + by) w) →
     sets t (at + (i + w)) (part t (at + by + (i + w)) (n - (i + w))) ≡ sets s (at + i) (part s (at + by + i) (n - i))
@@ -184,12 +173,7 @@ shift_three s t u v at by k e f g =
 pub shift_done : (s t : List ℕ) (at a n : ℕ) → n ≡ 0 → sets s at (part s a n) ≡ t → s ≡ t
 shift_done s t at a n e p = rw e at p
 
--- one turn of the loop that clears
-pub clear_turn : (s : List ℕ) (at i n : ℕ) → i < n → sets (set s (at + i) 0) (at + (i + 1)) (replicate (n - (i + 1)) 0) ≡ sets s (at + i) (replicate (n - i) 0)
-clear_turn s at i n h =
-    let e : n - i ≡ suc (n - (i + 1)) = omega arith in
-    let f : at + (i + 1) ≡ suc (at + i) = omega arith in
-    rw (e, f)
-
-pub clear_done : (s t : List ℕ) (at n : ℕ) → n ≡ 0 → sets s at (replicate n 0) ≡ t → s ≡ t
-clear_done s t at n e p = rw e at p
+-- what a part of a slice leaves, as numbers put into the whole
+pub put_part : (s t vs : List ℕ) (at n : ℕ) → t ≡ vs → length vs ≡ n → at + n ≤ length s → put_mid at n s t ≡ sets s at vs
+put_part s t vs at n e l h =
+    rw e (sym (sets-eq vs s at (omega arith) ∙ append_assoc (take at s) vs (drop (at + length vs) s) ∙ ap (λ (r : List ℕ). take at s ++ (vs ++ r)) (ap (λ (k : ℕ). drop (at + k) s) l ∙ sym (drop-drop n at s))))

@@ -18,9 +18,7 @@ pub fn get(s: &[u8], at: usize, n: usize) -> u64
     ensures { (result ≡ le (part s.now at n)) × (result < 256 ^ n) }
 {
     let mut r: u64 = 0;
-    let mut i = n;
-    while 0 < i {
-        i -= 1;
+    for i in (0..n).rev() {
         r = r * 256 + wide(s[at + i]);
     }
     r
@@ -32,11 +30,9 @@ pub fn put(s: &mut [u8], at: usize, n: usize, v: u64)
     ensures { s.new ≡ sets s.old at (enc n v) }
 {
     let mut w = v;
-    let mut i = 0;
-    while i < n {
+    for i in 0..n {
         s[at + i] = (w % 256) as u8;
-        w = w / 256;
-        i += 1;
+        w /= 256;
     }
 }
 
@@ -45,11 +41,8 @@ fn shift_singly(s: &mut [u8], at: usize, by: usize, n: usize)
     requires { at + by + n ≤ length s.old }
     ensures { s.new ≡ sets s.old at (part s.old (at + by) n) }
 {
-    let mut moved = 0;
-    while moved < n {
-        let x = s[at + by + moved];
-        s[at + moved] = x;
-        moved += 1;
+    for moved in 0..n {
+        s[at + moved] = s[at + by + moved];
     }
 }
 
@@ -119,11 +112,7 @@ pub fn clear(s: &mut [u8], at: usize, n: usize)
     requires { at + n ≤ length s.old }
     ensures { s.new ≡ sets s.old at (replicate n 0) }
 {
-    let mut i = 0;
-    while i < n {
-        s[at + i] = 0;
-        i += 1;
-    }
+    s[at..at + n].fill(0);
 }
 
 // The bits of 4 bytes together: 0 just if each byte is.
@@ -170,14 +159,7 @@ fn zeros_singly(s: &[u8], at: usize) -> bool
     requires { at ≤ length s.now }
     ensures { result ≡ all_zero (drop at s.now) }
 {
-    let mut i = at;
-    while i < s.len() {
-        if s[i] != 0 {
-            return false;
-        }
-        i += 1;
-    }
-    true
+    s[at..].iter().all(|&x| x == 0)
 }
 
 // Whether all bytes from index at on are 0: 32 at a time, and what is left one at a time.

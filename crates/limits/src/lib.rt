@@ -1,7 +1,7 @@
 // The limits of bounds, queues and counts, each named once, with the type it belongs to. (A plan's are in `operators`.)
 #![tactic(auto)]
 
-ghost use Rattle.std.specs.Prelude.{◌≡◌, ◌+◌, ◌≤◌, min, max, leb};
+ghost use Rattle.std.specs.Prelude.{◌≡◌, ◌+◌, ◌≤◌, min, leb};
 ghost use Rattle.meaning.specs.Events.{horizon};
 ghost use Rattle.meaning.specs.Missing.{count_limit};
 ghost use Rattle.machine.specs.State.{room};
@@ -38,20 +38,6 @@ impl Bound {
     {
         self.stamp <= Bound::HORIZON
     }
-}
-
-// The smaller of two bounds.
-pub fn smaller(x: u64, y: u64) -> u64
-    ensures { result ≡ min x y }
-{
-    if x < y { x } else { y }
-}
-
-// The larger of two bounds.
-pub fn larger(x: u64, y: u64) -> u64
-    ensures { result ≡ max x y }
-{
-    if x < y { y } else { x }
 }
 
 // The events that a stream holds, of which there is room for 16.

@@ -4,20 +4,6 @@
 ghost use Rattle.std.specs.Prelude.{◌≡◌, ◌<◌, ◌≤◌};
 ghost use Rattle.lines.specs.Form.{skip, scan, whole, ended, field, signed, value_line, out_line};
 
-// What looking for a word finds: the position past it, or that it does not stand there.
-#[derive(Clone, Copy)]
-pub enum Word {
-    Past(usize),
-    Absent,
-}
-
-// What reading a number finds: the number and the position past it, or a fault of its form.
-#[derive(Clone, Copy)]
-pub enum Numeral {
-    Number(u64, usize),
-    Fault,
-}
-
 // Digits passed: their number, and the position past them.
 #[derive(Clone, Copy)]
 pub struct Scanned {
@@ -25,23 +11,18 @@ pub struct Scanned {
     pub next: usize,
 }
 
-// Whether the word stands at a position, and where it ends.
-pub fn skip(text: &[u8], at: usize, word: &[u8]) -> Word
+// The position past the word, if it stands at a position.
+pub fn skip(text: &[u8], at: usize, word: &[u8]) -> Option<usize>
     ensures { result ≡ skip text.now at word.now }
 {
     let mut p = at;
-    let mut i = 0;
-    while i < word.len() {
-        if text.len() <= p {
-            return Word::Absent;
-        }
-        if text[p] != word[i] {
-            return Word::Absent;
+    for &c in word {
+        if text.len() <= p || text[p] != c {
+            return None;
         }
         p += 1;
-        i += 1;
     }
-    Word::Past(p)
+    Some(p)
 }
 
 // At most max digits.
@@ -51,108 +32,95 @@ fn digits(text: &[u8], at: usize, max: usize) -> Scanned
 {
     let mut value: u64 = 0;
     let mut p = at;
-    let mut i = 0;
-    while i < max {
+    for _ in 0..max {
         if text.len() <= p {
             return Scanned { value, next: p };
         }
-        let c = le::wide(text[p]);
-        if c < 48 {
+        let c = text[p];
+        if !c.is_ascii_digit() {
             return Scanned { value, next: p };
         }
-        if 57 < c {
-            return Scanned { value, next: p };
-        }
-        value = value * 10 + (c - 48);
+        value = value * 10 + u64::from(c - b'0');
         p += 1;
-        i += 1;
     }
     Scanned { value, next: p }
 }
 
-// A number of at most max digits, without leading zeros.
-pub fn whole(text: &[u8], at: usize, max: usize) -> Numeral
+// A number of at most max digits, without leading zeros, and the position past it; none if the form is wrong.
+#[tactic(auto, unfolding(crate::specs::Form::whole))]
+pub fn whole(text: &[u8], at: usize, max: usize) -> Option<(u64, usize)>
     requires { max ≤ 19 }
     ensures { result ≡ whole text.now at max }
 {
-    if let Word::Past(p) = skip(text, at, b"0") {
-        return Numeral::Number(0, p);
+    if let Some(p) = skip(text, at, b"0") {
+        return Some((0, p));
     }
     let d = digits(text, at, max);
     if d.next == at {
-        return Numeral::Fault;
+        return None;
     }
-    Numeral::Number(d.value, d.next)
+    Some((d.value, d.next))
 }
 
 // A number with the line's ending byte after it.
-fn ended(text: &[u8], number: Numeral) -> Numeral
+#[tactic(auto, unfolding(crate::specs::Form::ended))]
+fn ended(text: &[u8], number: Option<(u64, usize)>) -> Option<(u64, usize)>
     ensures { result ≡ ended text.now number }
 {
-    let Numeral::Number(v, p) = number else {
-        return Numeral::Fault;
-    };
-    let Word::Past(q) = skip(text, p, b"\n") else {
-        return Numeral::Fault;
-    };
-    Numeral::Number(v, q)
+    let (v, p) = number?;
+    let q = skip(text, p, b"\n")?;
+    Some((v, q))
 }
 
 // A line: the key with its `=`, a number of at most max digits, the ending byte.
-pub fn field(text: &[u8], at: usize, key: &[u8], max: usize) -> Numeral
+#[tactic(auto, unfolding(crate::specs::Form::field))]
+pub fn field(text: &[u8], at: usize, key: &[u8], max: usize) -> Option<(u64, usize)>
     requires { max ≤ 19 }
     ensures { result ≡ field text.now at key.now max }
 {
-    let Word::Past(p) = skip(text, at, key) else {
-        return Numeral::Fault;
-    };
+    let p = skip(text, at, key)?;
     ended(text, whole(text, p, max))
 }
 
 // A value in two's complement: only it may have a minus sign, never before 0.
-pub fn signed(text: &[u8], at: usize) -> Numeral
+#[tactic(auto, unfolding(crate::specs::Form::signed))]
+pub fn signed(text: &[u8], at: usize) -> Option<(u64, usize)>
     ensures { result ≡ signed text.now at }
 {
-    let Word::Past(p) = skip(text, at, b"-") else {
-        let Numeral::Number(v, q) = whole(text, at, 19) else {
-            return Numeral::Fault;
-        };
+    let Some(p) = skip(text, at, b"-") else {
+        let (v, q) = whole(text, at, 19)?;
         if v < 0x8000_0000_0000_0000 {
-            return Numeral::Number(v, q);
+            return Some((v, q));
         }
-        return Numeral::Fault;
+        return None;
     };
-    let Numeral::Number(v, q) = whole(text, p, 19) else {
-        return Numeral::Fault;
-    };
+    let (v, q) = whole(text, p, 19)?;
     if v == 0 {
-        return Numeral::Fault;
+        return None;
     }
     if v <= 0x8000_0000_0000_0000 {
-        return Numeral::Number(u64::MAX - (v - 1), q);
+        return Some((u64::MAX - (v - 1), q));
     }
-    Numeral::Fault
+    None
 }
 
 // The k line.
-pub fn value_line(text: &[u8], at: usize) -> Numeral
+#[tactic(auto, unfolding(crate::specs::Form::value_line))]
+pub fn value_line(text: &[u8], at: usize) -> Option<(u64, usize)>
     ensures { result ≡ value_line text.now at }
 {
-    let Word::Past(p) = skip(text, at, b"k=") else {
-        return Numeral::Fault;
-    };
+    let p = skip(text, at, b"k=")?;
     ended(text, signed(text, p))
 }
 
 // The out line: 0 or 1.
-pub fn out_line(text: &[u8], at: usize) -> Numeral
+#[tactic(auto, unfolding(crate::specs::Form::out_line))]
+pub fn out_line(text: &[u8], at: usize) -> Option<(u64, usize)>
     ensures { result ≡ out_line text.now at }
 {
-    let Numeral::Number(v, p) = field(text, at, b"out=", 1) else {
-        return Numeral::Fault;
-    };
+    let (v, p) = field(text, at, b"out=", 1)?;
     if v <= 1 {
-        return Numeral::Number(v, p);
+        return Some((v, p));
     }
-    Numeral::Fault
+    None
 }

@@ -8,7 +8,7 @@ use lib.Dec.{T}
 use lib.ListN.{length}
 use Rattle.meaning.specs.Plan.{Eqn, input, nil, unit, one, two, last, delay, signal, window, is_input, Plan}
 use Rattle.meaning.specs.Cycle.{Acyclic}
-use Rattle.meaning.specs.Missing.{Reason, outside, divisor, can_lack}
+use Rattle.meaning.specs.Missing.{Reason, Outside, ZeroDivisor, can_lack}
 use Rattle.machine.specs.State.{Declared, no_kept, no_passed, count_of, fresh, loaded, cell_at, plan_of, declared_plan}
 use Rattle.encoding.specs.Sound.{IsNext, IsKept, IsPassed, IsCount, SoundCell, Own, Sound}
 use Rattle.plan.specs.Taken.{StreamKeeps, Each, KeepsRules}
@@ -45,8 +45,8 @@ count_fresh true = (omega arith, λ e. refl)
 count_fresh false = refl
 
 counts_fresh : (e : Eqn) (q : Reason) → IsCount (can_lack e) 0 (count_of q no_passed)
-counts_fresh e outside = count_fresh (can_lack e)
-counts_fresh e divisor = count_fresh (can_lack e)
+counts_fresh e Outside = count_fresh (can_lack e)
+counts_fresh e ZeroDivisor = count_fresh (can_lack e)
 
 no_output : (x o : Bool) → (x && o) ≡ false → T x → o ≡ false
 no_output true o e t = e

@@ -9,7 +9,8 @@ use Rattle.le.specs.Bytes.{Bytes}
 use Rattle.layout.specs.Record.{Raw, Raws, with_num, row_at, change, enc_raw, dec_raw, decode, op_f, a_f, b_f, out_f, k_f}
 use Rattle.layout.proofs.Laws.{RawOk, raw_ok, raws_ok, num_ok, leaf_then, row_ok_lem, change_ok, lent, decode_encode}
 use Rattle.text.specs.declared.Fields.{Fields}
-use Rattle.text.specs.declared.Lines.{Lines}
+use Rattle.std.specs.Prelude.{Result, Ok, Err}
+use Rattle.refusal.specs.declared.Refusal.{Refusal}
 use Rattle.text.specs.Grammar.{stream}
 use Rattle.load.specs.Filled.{stored, next, written}
 
@@ -66,8 +67,8 @@ pub write_more : (text : List ℕ) (p m k i : ℕ) (st : Raws) → m ≡ suc k
 unfolding written
 write_more text p m k i st e = ap (λ (j : ℕ). written text p j i st) e
 
-pub write_halt : (text : List ℕ) (p m i r : ℕ) (st : Raws) → 0 < m → stream text p ≡ Lines.Refused r → written text p m i st ≡ st
-write_halt text p m i r st h e = write_more text p m (m - 1) i st (omega arith) ∙ ap (λ (l : Lines). next l i st (λ f u. written text f.next (m - 1) (i + 1) u)) e
+pub write_halt : (text : List ℕ) (p m i : ℕ) (r : Refusal) (st : Raws) → 0 < m → stream text p ≡ Err r → written text p m i st ≡ st
+write_halt text p m i r st h e = write_more text p m (m - 1) i st (omega arith) ∙ ap (λ (l : Result Fields Refusal). next l i st (λ f u. written text f.next (m - 1) (i + 1) u)) e
 
 pub write_end : (text : List ℕ) (p m i : ℕ) (st : Raws) → m ≡ 0 → written text p m i st ≡ st
 unfolding written
@@ -75,7 +76,7 @@ write_end text p zero i st h = refl
 write_end text p (suc m) i st h = absurd (omega arith)
 
 pub write_turn : (n : ℕ) (text s q : List ℕ) (p i k : ℕ) (f : Fields) → f.op < 256 → f.k < 2 ^ 64 → k ≡ 256 → n * 256 ≤ length s → Bytes s → i < n
-    → stream text p ≡ Lines.Stream f → q ≡ enc_raw (stored f (dec_raw (mid_of (i * 256) k s)))
+    → stream text p ≡ Ok f → q ≡ enc_raw (stored f (dec_raw (mid_of (i * 256) k s)))
     → written text f.next (n - (i + 1)) (i + 1) (decode n (put_mid (i * 256) k s q)) ≡ written text p (n - i) i (decode n s)
 write_turn n text s q p i k f o v e nl b h l t =
     let st = decode n s in
@@ -84,5 +85,5 @@ write_turn n text s q p i k f o v e nl b h l t =
     let m = n - (i + 1) in
     ap (λ (u : Raws). written text f.next (n - (i + 1)) (i + 1) u)
     (ap (decode n) (lent n s q i k (stored f) e nl b h t) ∙ decode_encode n ch (change_ok n st i (stored f) ok (stored_ok f o v (row_at st i) (row_ok_lem n st i ok h))))
-    ∙ ap (λ (x : Lines). next x i st (λ f u. written text f.next m (i + 1) u)) (sym l)
+    ∙ ap (λ (x : Result Fields Refusal). next x i st (λ f u. written text f.next m (i + 1) u)) (sym l)
     ∙ sym (write_more text p (n - i) m i st (omega arith))

@@ -29,8 +29,8 @@ use Rattle.operators.proofs.Tests.{left, right}
 use Rattle.encoding.specs.View.{KeptNums, no_nums, kept_nums, flag, pad_to, raw_of, of_cell, windows_of, words_of, behind, raws_of, bytes_of}
 use Rattle.roundtrip.proofs.Windows.{none_window, none_windows}
 use Rattle.text.specs.declared.Fields.{Fields}
-use Rattle.text.specs.declared.Lines.{Lines}
-use Rattle.text.specs.declared.Head.{Head}
+use Rattle.std.specs.Prelude.{Result, Ok, Err}
+use Rattle.refusal.specs.declared.Refusal.{Refusal}
 use Rattle.text.specs.Grammar.{stream}
 use Rattle.render.proofs.Heads.{head_fits}
 use Rattle.plan.specs.Rules.{keeps, all_keep, formed, streams, eqn_from, declared_from, declared, number}
@@ -119,9 +119,9 @@ module _ (text z : List ℕ) where
   pass_rows (suc m) p i end fs l q e = by (λ p i end fs l q e. pass_rows m p i end fs l q e) (stream text p) refl
     where
       by : ((p i end : ℕ) (fs : List Fields) (l : List Raw) → i ≡ length l → streams text p m ≡ formed fs end → written text p m i (rows (l ++ replicate m blank)) ≡ rows (l ++ map (λ f. stored f blank) fs))
-          → (x : Lines) → stream text p ≡ x → next x i (rows (l ++ blank ∷ replicate m blank)) (λ f u. written text f.next m (i + 1) u) ≡ rows (l ++ map (λ f. stored f blank) fs)
-      by ih (Lines.Refused r) g = absurd (none_refused text p (suc m) fs end (omega arith) e r g)
-      by ih (Lines.Stream f) g =
+          → (x : Result Fields Refusal) → stream text p ≡ x → next x i (rows (l ++ blank ∷ replicate m blank)) (λ f u. written text f.next m (i + 1) u) ≡ rows (l ++ map (λ f. stored f blank) fs)
+      by ih (Err r) g = absurd (none_refused text p (suc m) fs end (omega arith) e r g)
+      by ih (Ok f) g =
           let t = next_read text p (suc m) fs end (omega arith) e f g in
           let one = l ++ (stored f blank ∷ []) in
           let k : suc m - 1 ≡ m = omega arith in
@@ -201,7 +201,7 @@ taken_filled text s l e =
     let ds = map declared_from fs in
     let M : State = loaded ds in
     let m : length M ≡ n = many ds ∙ length-map fs declared_from ∙ t.1 in
-    ap (λ (x : Head). filled_head text x s) p.opens
+    ap (λ (x : Result (ℕ × ℕ) Refusal). filled_head text x s) p.opens
     ∙ ap (λ (st : Raws). encode n (written text p.start n 0 st)) (cleared size n (omega (arith, h, capacity_fits size)))
     ∙ ap (encode n) (pass_rows text z n p.start 0 (length text) fs [] refl p.lists ∙ ap (λ (l : List Raw). rows text z l) (all_fresh n fs p.kept t.0))
     ∙ ap (λ (j : ℕ). encode j (record { rows = map of_cell M; spare = replicate (size - j * 256) 0 })) (sym m)

@@ -5,7 +5,7 @@ ghost use Rattle.std.specs.Prelude.{◌≡◌, ◌*◌, ◌≤◌, length};
 ghost use Rattle.layout.specs.Record.{enc_raw, dec_raw, encode, decode};
 ghost use Rattle.load.specs.Filled.{stored, written, filled};
 
-use text::{Fields, Head, Lines};
+use text::Fields;
 
 // Stores a stream's fields in a record.
 fn store(r: &mut [u8], f: Fields)
@@ -25,18 +25,14 @@ fn write(state: &mut [u8], text: &[u8], n: usize, at: usize)
     ensures { state.new ≡ encode n (written text.now at n 0 (decode n state.old)) }
 {
     let mut p = at;
-    let mut i = 0;
-    while i < n {
-        match text::read_stream(text, p) {
-            Lines::Stream(f) => {
-                let start = i * layout::RECORD;
-                let end = start + layout::RECORD;
-                store(&mut state[start..end], f);
-                p = f.next;
-                i += 1;
-            }
-            Lines::Refused(_) => return,
-        }
+    for i in 0..n {
+        let Ok(f) = text::read_stream(text, p) else {
+            return;
+        };
+        let start = i * layout::RECORD;
+        let end = start + layout::RECORD;
+        store(&mut state[start..end], f);
+        p = f.next;
     }
 }
 
@@ -45,12 +41,10 @@ pub fn fill(state: &mut [u8], text: &[u8], most: usize)
     requires { most * 256 ≤ length state.old }
     ensures { state.new ≡ filled most text.now state.old }
 {
-    match text::read_head(text, most) {
-        Head::Streams(n, at) => {
-            let size = state.len();
-            le::clear(state, 0, size);
-            write(state, text, n, at);
-        }
-        Head::Refused(_) => {}
-    }
+    let Ok((n, at)) = text::read_head(text, most) else {
+        return;
+    };
+    let size = state.len();
+    le::clear(state, 0, size);
+    write(state, text, n, at);
 }

@@ -1,6 +1,6 @@
 -- The latest k of a list that grows at its end, and the events of a stream from a stamp on.
 use mathlib.Core.Path.{◌≡◌, refl, sym, ◌∙◌, ap, subst}
-use mathlib.Core.Option.{none}
+use Rattle.std.specs.Prelude.{None}
 use mathlib.Core.List.{List, [], ◌∷◌, ◌++◌, append-nil, append_assoc}
 use Prim.Native.Nat.{ℕ, zero, suc, ◌-◌, ◌≤◌, ◌<◌}
 use native.Mathlib.Omega.{arith}
@@ -40,7 +40,7 @@ values_append (e ∷ xs) ys = rw (values_append xs ys)
 pub from_yes : (y : ℕ) (f : Stream) (p : ℕ) → y ≤ p → from y f p ≡ f p
 from_yes y f p l = rw (false_is (ltb p y) (not_T (ltb p y) (λ h. let k = ltb→lt p y h in absurd (omega arith))))
 
-pub from_no : (y : ℕ) (f : Stream) (p : ℕ) → p < y → from y f p ≡ none
+pub from_no : (y : ℕ) (f : Stream) (p : ℕ) → p < y → from y f p ≡ None
 from_no y f p l = rw (true_is (ltb p y) (lt→ltb p y l))
 
 pub from_none : (y : ℕ) (f : Stream) (x : ℕ) → x ≤ y → events (from y f) x ≡ []

@@ -2,7 +2,7 @@
 use Prim.Native.Nat.{ℕ, zero, suc}
 use mathlib.Core.Path.{◌≡◌, refl, ◌∙◌}
 use mathlib.Core.Bool.{Bool, true, false, not}
-use mathlib.Core.Option.{Option, none, some}
+use Rattle.std.specs.Prelude.{Option, None, Some}
 use mathlib.Core.List.{List, [], ◌∷◌}
 use lib.Dec.{leb, ltb}
 use lib.ListN.{length, set, length-set, length-map}
@@ -57,8 +57,8 @@ run_length (suc n) M = go (look (ltb (lowest M) (length M))) (run_length n (move
     go (no! e x) h = rw (run_ends n M e)
 
 hand_length : (o : Option Event) (i : ℕ) (M : State) → Same M (hand_out o i M)
-hand_length none i M = refl
-hand_length (some e) i M = release_length i (set M i (with_next (suc e.stamp) (cell_at M i))) ∙ length-set M i (with_next (suc e.stamp) (cell_at M i))
+hand_length None i M = refl
+hand_length (Some e) i M = release_length i (set M i (with_next (suc e.stamp) (cell_at M i))) ∙ length-set M i (with_next (suc e.stamp) (cell_at M i))
 
 pub call_length : (c : Call) (M : State) → length (call c M).state ≡ length M
 unfolding call offer_reading offer_progress move_one collect

@@ -2,7 +2,7 @@
 use Prim.Native.Nat.{ℕ, zero, suc, ◌<◌}
 use mathlib.Core.Path.{◌≡◌, refl, ap, ◌∙◌}
 use mathlib.Core.Bool.{not}
-use mathlib.Core.Option.{Option, none, some}
+use Rattle.std.specs.Prelude.{Option, None, Some}
 use mathlib.Core.List.{List, [], ◌∷◌}
 use native.Mathlib.Omega.{arith}
 use lib.Dec.{T, ltb, leb, ltb→lt}
@@ -105,8 +105,8 @@ unfolding collect
 collect_plan s M = unless_cases (Keeps M) (not (cell_at M s).out) 13 M _ (λ x. refl) (λ x. handed (output_there M s (not_twice (cell_at M s).out x)) (oldest (cell_at M s).next (cell_at M s).held))
   where
     handed : s < length M → (e : Option Event) → Keeps M (hand_out e s M)
-    handed l none = refl
-    handed l (some e) =
+    handed l None = refl
+    handed l (Some e) =
         let N = set M s (with_next (suc e.stamp) (cell_at M s)) in
         release_plan s N ∙ same_streams M N (set_same M s (with_next (suc e.stamp) (cell_at M s)) l refl refl)
 

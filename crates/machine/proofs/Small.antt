@@ -1,7 +1,7 @@
 -- No call makes a stream hold more than 16 events.
 use mathlib.Core.Path.{◌≡◌, refl, ap}
 use mathlib.Core.Bool.{Bool, true, false, not, cond}
-use mathlib.Core.Option.{Option, none, some}
+use Rattle.std.specs.Prelude.{Option, None, Some}
 use mathlib.Core.List.{List, [], ◌∷◌}
 use Prim.Native.Nat.{ℕ, zero, suc, ◌+◌, ◌≤◌, ◌<◌}
 use native.Mathlib.Omega.{arith}
@@ -100,6 +100,6 @@ call_small (running n) M h = run_small n M h
 call_small (collecting s) M h = unless_cases (λ o. Small o.state) (not (cell_at M s).out) 13 M _ (λ b. h) (λ b. given (not_twice (cell_at M s).out b) (oldest (cell_at M s).next (cell_at M s).held))
   where
     given : T (cell_at M s).out → (o : Option Event) → Small (hand_out o s M).state
-    given o none = h
-    given o (some e) = releases_small (s ∷ []) (set M s (with_next (suc e.stamp) (cell_at M s)))
+    given o None = h
+    given o (Some e) = releases_small (s ∷ []) (set M s (with_next (suc e.stamp) (cell_at M s)))
         (set_cases (λ i c. length c.held ≤ room) M s (with_next (suc e.stamp) (cell_at M s)) (output_there M s o) (λ i n. h i) (h s))

@@ -3,7 +3,7 @@
 use mathlib.Core.Path.{◌≡◌, refl, sym, ◌∙◌, ap}
 use mathlib.Core.Logic.{inl}
 use mathlib.Core.Bool.{true, false}
-use mathlib.Core.Option.{Option, none, some}
+use Rattle.std.specs.Prelude.{Option, None, Some}
 use mathlib.Core.List.{List, [], ◌∷◌, ◌++◌, append_assoc}
 use Prim.Native.Nat.{ℕ, suc, ◌≤◌, ◌<◌, ◌-◌, max}
 use native.Mathlib.Omega.{arith}
@@ -84,11 +84,11 @@ module _ (f : Fold) (k : ℤ) (x : ℕ) (o a b : Cell) where
   far_is = least_is (λ t. false) o.bound (a.bound - o.bound) (max o.bound a.bound) (omega arith) (omega arith) (λ t i j. tt) (inl (omega arith))
 
   -- no event of the argument, no event
-  at_none : {v : Option ℤ} (ws : List ℤ) → v ≡ none → window_at_lem f v ws ≡ none
+  at_none : {v : Option ℤ} (ws : List ℤ) → v ≡ None → window_at_lem f v ws ≡ None
   unfolding window_at_lem
   at_none ws q = rw q
 
-  at_some : {v : Option ℤ} {ws : List ℤ} (u : ℤ) (vs : List ℤ) → v ≡ some u → ws ≡ vs → window_at_lem f v ws ≡ value_of (folded f vs)
+  at_some : {v : Option ℤ} {ws : List ℤ} (u : ℤ) (vs : List ℤ) → v ≡ Some u → ws ≡ vs → window_at_lem f v ws ≡ value_of (folded f vs)
   unfolding window_at_lem
   at_some u vs q r = rw (q, r)
 
@@ -98,7 +98,7 @@ module _ (f : Fold) (k : ℤ) (x : ℕ) (o a b : Cell) where
 
   -- nothing from the bound on and below lo
   abbrev Quiet : ℕ → Type 0
-  Quiet lo = (p : ℕ) → o.bound ≤ p → p < lo → has_at p ≡ none
+  Quiet lo = (p : ℕ) → o.bound ≤ p → p < lo → has_at p ≡ None
 
   module _ (lo hi : ℕ) (w : List ℤ) (e : Event) (es : List Event) (r : Rising lo hi (e ∷ es)) (sees : Sees lo w (e ∷ es)) where
     abbrev t : ℕ
@@ -111,7 +111,7 @@ module _ (f : Fold) (k : ℤ) (x : ℕ) (o a b : Cell) where
     before : Quiet lo → Quiet t
     before q p l m = go (dec_lt p lo)
       where
-        go : Dec (p < lo) → has_at p ≡ none
+        go : Dec (p < lo) → has_at p ≡ None
         go (yes d) = q p l d
         go (no d) = sees p (omega arith) ∙ at_none (latest_of (width k) (w ++ values (events (found (e ∷ es)) (suc p)))) (found_low t hi (e ∷ es) (omega arith, r.1, r.2) p m)
 
@@ -130,7 +130,7 @@ module _ (f : Fold) (k : ℤ) (x : ℕ) (o a b : Cell) where
   finds : (lo hi : ℕ) (w : List ℤ) (es : List Event) → o.bound ≤ lo → Rising lo hi es → Quiet lo → Sees lo w es → decide (window f k x) o a b ≡ first_fit f (width k) far w es
   finds lo hi w [] l r q sees = decide_silent (window f k x) o a b (λ p i j. go p i (dec_lt p lo)) ∙ sym (fit_none f (width k) far w)
     where
-      go : (p : ℕ) → o.bound ≤ p → Dec (p < lo) → has_at p ≡ none
+      go : (p : ℕ) → o.bound ≤ p → Dec (p < lo) → has_at p ≡ None
       go p i (yes d) = q p i d
       go p i (no d) = sees p (omega arith) ∙ at_none (latest_of (width k) (w ++ values (events (found []) (suc p)))) refl
   finds lo hi w (e ∷ es) l r q sees =
@@ -146,16 +146,16 @@ module _ (f : Fold) (k : ℤ) (x : ℕ) (o a b : Cell) where
       Rest : Type 0
       Rest = Quiet (suc t) → decide (window f k x) o a b ≡ first_fit f (width k) far now es
 
-      past : has_at t ≡ none → Quiet (suc t)
+      past : has_at t ≡ None → Quiet (suc t)
       past n p i m = either (dec_lt p t)
         where
-          either : Dec (p < t) → has_at p ≡ none
+          either : Dec (p < t) → has_at p ≡ None
           either (yes d) = before lo hi w e es r sees q p i d
           either (no d) = let j : p ≡ t = omega arith in rw j n
 
       shown : t < far → (v : Option ℤ) → has_at t ≡ v → Rest → decide (window f k x) o a b ≡ fits_at t v (first_fit f (width k) far now es)
-      shown m none n ih = ih (past n)
-      shown m (some v) n ih = decide_event (window f k x) o a b t v (let j = r.0 in omega arith) m (before lo hi w e es r sees q) n
+      shown m None n ih = ih (past n)
+      shown m (Some v) n ih = decide_event (window f k x) o a b t v (let j = r.0 in omega arith) m (before lo hi w e es r sees q) n
 
       go : Is (ltb t far) → Rest → decide (window f k x) o a b ≡ first_fit f (width k) far w (e ∷ es)
       go (yes! j c) ih = rw (fit_yes f (width k) far w e es j) (shown (ltb→lt t far c) (value_of (folded f (latest_of (width k) now))) (at_first lo hi w e es r sees) ih)

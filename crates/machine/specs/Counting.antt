@@ -3,7 +3,7 @@ use Rattle.std.specs.Prelude.{ℕ, suc, ◌+◌, Bool, not, cond, ◌&&◌, List
 use Rattle.meaning.specs.Plan.{Fold, wsum, wmin, wmax, Eqn, input, nil, unit, one, two, last, delay, signal, window}
 use Rattle.meaning.specs.Events.{Event, has}
 use Rattle.meaning.specs.Table.{value_of, folded, latest_of, width}
-use Rattle.meaning.specs.Missing.{Reason, outside, divisor, said_for}
+use Rattle.meaning.specs.Missing.{Reason, Outside, ZeroDivisor, said_for}
 use Rattle.machine.specs.State.{Cell}
 use Rattle.machine.specs.Reach.{view, Next, event, silent}
 use Rattle.machine.specs.Step.{hears, drop_below}
@@ -24,10 +24,10 @@ sum_tally k x w (e ∷ es) =
 
 -- a window's: only a sum lacks a value, and never for a divisor
 abbrev pub window_tally : Reason → Fold → (k x : ℕ) → List ℤ → List Event → ℕ
-window_tally outside wsum k x w es = sum_tally k x w es
-window_tally outside wmin k x w es = 0
-window_tally outside wmax k x w es = 0
-window_tally divisor f k x w es = 0
+window_tally Outside wsum k x w es = sum_tally k x w es
+window_tally Outside wmin k x w es = 0
+window_tally Outside wmax k x w es = 0
+window_tally ZeroDivisor f k x w es = 0
 
 -- the held events of c from the bound of o on and below x
 abbrev pub passing : (o c : Cell) → ℕ → List Event

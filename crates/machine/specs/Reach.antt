@@ -1,7 +1,6 @@
 -- Believe: when an equation can move: its reach, and the first event below it. Functions of three cells: o, the equation's own,
 -- and a and b, those of its arguments (an argument that the operator does not use is not looked at).
-use Rattle.std.specs.Prelude.{ℕ, zero, suc, pred, ◌-◌, min, max, Bool, true, false, cond, ◌&&◌, List, ◌++◌, ltb, eqb, ℤ}
-use Rattle.std.proofs.Math.Option.{Option, none, some}
+use Rattle.std.specs.Prelude.{ℕ, zero, suc, pred, ◌-◌, min, max, Bool, true, false, cond, ◌&&◌, List, ◌++◌, ltb, eqb, ℤ, Option, None, Some}
 use Rattle.meaning.specs.Plan.{Eqn, input, nil, unit, one, two, last, delay, signal, window}
 use Rattle.meaning.specs.Events.{Stream, found, events, has, or_else, horizon}
 use Rattle.meaning.specs.Table.{one_at, two_at, unit_at, latest, last_at, signal_at, latest_of, values, width, window_at_lem, is, delay_at}
@@ -61,7 +60,7 @@ reach e o a b = least (stops e o a b) o.bound (limit e o a b - o.bound)
 
 -- a's event one below z, where z is one past a delay's latest set point: held, or kept
 abbrev pub value_at : (o a : Cell) → ℕ → Option ℤ
-value_at o a z = or_else (view a (pred z)) (cond (eqb z o.kept.since) o.kept.value none)
+value_at o a z = or_else (view a (pred z)) (cond (eqb z o.kept.since) o.kept.value None)
 
 -- a delay whose latest set point lies one below z is due at t
 abbrev pub due : (o a : Cell) → (z t : ℕ) → Bool
@@ -73,7 +72,7 @@ held_latest x t kept = or_else (latest (view x) t) kept
 
 -- a stream from stamp y on
 abbrev pub from : ℕ → Stream → Stream
-from y f p = cond (ltb p y) none (f p)
+from y f p = cond (ltb p y) None (f p)
 
 -- the latest k of the values w and of those that f has from y on and below x
 abbrev pub slid : (k y x : ℕ) → List ℤ → Stream → List ℤ
@@ -81,8 +80,8 @@ slid k y x w f = latest_of k (w ++ values (events (from y f) x))
 
 -- what the equation has at t, from its bound on and below its reach, if it has no event between
 abbrev pub gives : Eqn → (o a b : Cell) → ℕ → Option ℤ
-gives input o a b t = none
-gives nil o a b t = none
+gives input o a b t = None
+gives nil o a b t = None
 gives unit o a b t = unit_at t
 gives (one f _) o a b t = one_at f t (view a t)
 gives (two g _ _) o a b t = two_at g (view a t) (view b t)
@@ -102,9 +101,9 @@ pub data Next : Type 0 where
   silent : (r : ℕ) → Next
 
 abbrev pub next_of : (t r : ℕ) → Option ℤ → Next
-next_of t r none = silent r
-next_of t r (some v) = event t v
+next_of t r None = silent r
+next_of t r (Some v) = event t v
 
 unfoldable pub decide : Eqn → (o a b : Cell) → Next
 unfolding first reach
-decide e o a b = next_of (first e o a b) (reach e o a b) (cond (ltb (first e o a b) (reach e o a b)) (gives e o a b (first e o a b)) none)
+decide e o a b = next_of (first e o a b) (reach e o a b) (cond (ltb (first e o a b) (reach e o a b)) (gives e o a b (first e o a b)) None)

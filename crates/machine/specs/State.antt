@@ -1,9 +1,8 @@
 -- Believe: the state: for each stream its equation, its bound, the events it holds, and what is kept. No bytes.
-use Rattle.std.specs.Prelude.{ℕ, Bool, false, List, [], map, get_or, ℤ}
-use Rattle.std.proofs.Math.Option.{Option, none}
+use Rattle.std.specs.Prelude.{ℕ, Bool, false, List, [], map, get_or, ℤ, Option, None}
 use Rattle.meaning.specs.Plan.{Eqn, nil, Plan}
 use Rattle.meaning.specs.Events.{Event}
-use Rattle.meaning.specs.Missing.{Reason, outside, divisor}
+use Rattle.meaning.specs.Missing.{Reason, Outside, ZeroDivisor}
 
 -- "16 held events": a stream that holds 16 events takes no more
 abbrev pub room : ℕ
@@ -48,22 +47,22 @@ abbrev pub State : Type 0
 State = List Cell
 
 abbrev pub no_kept : Kept
-no_kept = record { prev = none; prev_b = none; since = 0; value = none; prior = none }
+no_kept = record { prev = None; prev_b = None; since = 0; value = None; prior = None }
 
 abbrev pub no_passed : Passed
 no_passed = record { window = []; outside = 0; divisors = 0 }
 
 -- the count of a reason
 abbrev pub count_of : Reason → Passed → ℕ
-count_of outside w = w.outside
-count_of divisor w = w.divisors
+count_of Outside w = w.outside
+count_of ZeroDivisor w = w.divisors
 
 -- another window, and other counts
 abbrev pub with_window : List ℤ → Passed → Passed
 with_window xs w = record { window = xs; outside = w.outside; divisors = w.divisors }
 
 abbrev pub with_counts : (Reason → ℕ) → Passed → Passed
-with_counts n w = record { window = w.window; outside = n outside; divisors = n divisor }
+with_counts n w = record { window = w.window; outside = n Outside; divisors = n ZeroDivisor }
 
 -- what is kept with another field
 abbrev pub with_prev : Option ℤ → Kept → Kept

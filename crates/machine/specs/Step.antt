@@ -1,6 +1,5 @@
 -- Believe: one step: a stream's bound goes up, with at most one new event. Only that stream, its readers and its arguments change.
-use Rattle.std.specs.Prelude.{ℕ, suc, pred, ◌+◌, min, max, Bool, false, not, cond, ◌&&◌, ◌||◌, List, [], ◌∷◌, ◌++◌, map, leb, ltb, eqb, length, set, ℤ}
-use Rattle.std.proofs.Math.Option.{none, some}
+use Rattle.std.specs.Prelude.{ℕ, suc, pred, ◌+◌, min, max, Bool, false, not, cond, ◌&&◌, ◌||◌, List, [], ◌∷◌, ◌++◌, map, leb, ltb, eqb, length, set, ℤ, None, Some}
 use Rattle.meaning.specs.Plan.{Eqn, input, nil, unit, one, two, last, delay, signal, window, is_input}
 use Rattle.meaning.specs.Arguments.{reads, arg_a, arg_b}
 use Rattle.meaning.specs.Events.{Event, ev, horizon}
@@ -14,13 +13,13 @@ use Rattle.machine.specs.Reach.{view, past_latest, value_at, held_latest, slid, 
 -- what an equation has to say at t, from its bound on: on the held events and what is kept. One that has a value for whatever it
 -- works on is not asked.
 abbrev pub hears : Eqn → (o a b : Cell) → ℕ → Said
-hears input o a b t = none
-hears nil o a b t = none
-hears unit o a b t = none
+hears input o a b t = None
+hears nil o a b t = None
+hears unit o a b t = None
 hears (one f _) o a b t = one_says f t (view a t)
 hears (two g _ _) o a b t = two_says g (view a t) (view b t)
-hears (last _ _) o a b t = none
-hears (delay _ _) o a b t = none
+hears (last _ _) o a b t = None
+hears (delay _ _) o a b t = None
 hears (signal c _ _) o a b t = signal_says c (view a t) (view b t) (held_latest a (suc t) o.kept.prev) (held_latest b (suc t) o.kept.prev_b)
 hears (window f k _) o a b t = window_says f (view a t) (slid (width k) o.bound (suc t) o.passed.window (view a))
 
@@ -65,7 +64,7 @@ absorb (two g _ _) o a b = o.kept
 absorb (last _ _) o a b = with_prev (held_latest a o.bound o.kept.prev) o.kept
 absorb (delay _ _) o a b =
     with_since (later o b)
-    (with_value (cond (eqb (later o b) 0) none (value_at o a (later o b)))
+    (with_value (cond (eqb (later o b) 0) None (value_at o a (later o b)))
     (with_prior (view a (pred o.bound)) o.kept))
 absorb (signal c _ _) o a b = with_prev (held_latest a o.bound o.kept.prev) (with_prev_b (held_latest b o.bound o.kept.prev_b) o.kept)
 absorb (window f k _) o a b = o.kept
@@ -96,14 +95,14 @@ reads_it s e = any_of s (reads e)
 
 -- a delay with bound y: a's event at its latest set point; a's event just below its bound; b's event, a set point
 abbrev pub value_told : Bool → (t : ℕ) → ℤ → Kept → Kept
-value_told is_a t v k = with_value (cond (is_a && eqb k.since (t + 1)) (some v) k.value) k
+value_told is_a t v k = with_value (cond (is_a && eqb k.since (t + 1)) (Some v) k.value) k
 
 abbrev pub prior_told : Bool → (y t : ℕ) → ℤ → Kept → Kept
-prior_told is_a y t v k = with_prior (cond (is_a && eqb y (t + 1)) (some v) k.prior) k
+prior_told is_a y t v k = with_prior (cond (is_a && eqb y (t + 1)) (Some v) k.prior) k
 
 -- the latest one, unless a later one is known: a's event there is known if it is the one just below the bound
 abbrev pub since_told : Bool → (y t : ℕ) → Kept → Kept
-since_told is_b y t k = cond (is_b && leb k.since t) (with_since (t + 1) (with_value (cond (eqb y (t + 1)) k.prior none) k)) k
+since_told is_b y t k = cond (is_b && leb k.since t) (with_since (t + 1) (with_value (cond (eqb y (t + 1)) k.prior None) k)) k
 
 -- what an equation with bound y keeps when the event (t, v) of stream s comes in below its bound. A signal form and a window are never
 -- told: their bounds are never above an argument's, so in a run no event of an argument comes in below them (`Ahead` in
@@ -114,7 +113,7 @@ kept_told nil s y t v k = k
 kept_told unit s y t v k = k
 kept_told (one f a) s y t v k = k
 kept_told (two g a b) s y t v k = k
-kept_told (last a b) s y t v k = with_prev (cond (eqb a s) (some v) k.prev) k
+kept_told (last a b) s y t v k = with_prev (cond (eqb a s) (Some v) k.prev) k
 kept_told (delay a b) s y t v k = since_told (eqb b s) y t (prior_told (eqb a s) y t v (value_told (eqb a s) t v k))
 kept_told (signal c a b) s y t v k = k
 kept_told (window f n a) s y t v k = k

@@ -1,7 +1,7 @@
 -- What is brought up to date keeps within the widths of the record's fields.
 use Prim.Native.Nat.{ℕ, zero, suc, pred, ◌^◌, ◌<◌, ◌≤◌, min}
 use mathlib.Core.Bool.{Bool, true, false, cond}
-use mathlib.Core.Option.{Option, none, some}
+use Rattle.std.specs.Prelude.{Option, None, Some}
 use mathlib.Core.List.{List, [], ◌∷◌, map}
 use native.Mathlib.Omega.{arith}
 use lib.Dec.{eqb, lit<}
@@ -35,13 +35,13 @@ bits_value : (u : ℕ) → u < 2 ^ 64 → IsValue (to_z w64 u)
 bits_value u h = (sfits_to_z {w = w64} {n = u} (record { fits = h })).sfits
 
 optional_value : (h u : ℕ) → u < 2 ^ 64 → IsOptional (optional h u)
-optional_value h u l = cond_value (eqb h 0) none (some (to_z w64 u)) tt (bits_value u l)
+optional_value h u l = cond_value (eqb h 0) None (Some (to_z w64 u)) tt (bits_value u l)
 
 slots_value : (c : ℕ) (l : List Slot) → All SlotOk l → (t : ℕ) → IsOptional (found (map event_of (take c l)) t)
 slots_value zero l h t = tt
 slots_value (suc c) [] h t = tt
 slots_value (suc c) (e ∷ l) h t =
-    cond_value (eqb e.stamp t) (some (to_z w64 e.value)) (found (map event_of (take c l)) t) (bits_value e.value h.0.1) (slots_value c l h.1 t)
+    cond_value (eqb e.stamp t) (Some (to_z w64 e.value)) (found (map event_of (take c l)) t) (bits_value e.value h.0.1) (slots_value c l h.1 t)
 
 pub look_holds : (r : Raw) → RawOk r → Holds (look_of r)
 unfolding look_of to_cell held_of
@@ -92,8 +92,8 @@ absorb_fits (delay _ _) o a b h k ha hb =
       prev = k.prev;
       prev_b = k.prev_b;
       since = omega arith;
-      value = cond_value (eqb (later o b) 0) none (value_at o a (later o b)) tt
-          (or_value (view a (pred (later o b))) (cond (eqb (later o b) o.kept.since) o.kept.value none) (ha (pred (later o b))) (cond_value (eqb (later o b) o.kept.since) o.kept.value none k.value tt));
+      value = cond_value (eqb (later o b) 0) None (value_at o a (later o b)) tt
+          (or_value (view a (pred (later o b))) (cond (eqb (later o b) o.kept.since) o.kept.value None) (ha (pred (later o b))) (cond_value (eqb (later o b) o.kept.since) o.kept.value None k.value tt));
       prior = ha (pred o.bound);
     }
 absorb_fits (signal c _ _) o a b h k ha hb =
@@ -108,12 +108,12 @@ absorb_fits (signal c _ _) o a b h k ha hb =
 -- ---- stored
 
 flag_below : (o : Option ℤ) → flag_of o < 256
-flag_below none = lit< tt
-flag_below (some v) = lit< tt
+flag_below None = lit< tt
+flag_below (Some v) = lit< tt
 
 bits_small : (o : Option ℤ) → IsOptional o → bits_of o < 2 ^ 64
-bits_small none h = lit< tt
-bits_small (some v) h = bits_below v h
+bits_small None h = lit< tt
+bits_small (Some v) h = bits_below v h
 
 pub kept_ok_lem : (e : Eqn) (k : Kept) (r : Raw) → KeptFits k → RawOk r → RawOk (kept_row e k r)
 unfolding kept_row delay_kept signal_kept

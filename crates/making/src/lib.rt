@@ -44,15 +44,10 @@ fn absorb_row(state: &mut [u8], n: usize, i: usize, op: Op, k: Kept, y: u64)
     ensures { state.new ≡ encode n (absorbed_raw n i (equation op) (kept_in k) y (decode n state.old)) }
 {
     match op {
-        Op::In => {}
-        Op::Nil => {}
-        Op::Unit => {}
-        Op::One(_, _) => {}
-        Op::Two(_, _, _) => {}
+        Op::In | Op::Nil | Op::Unit | Op::One(_, _) | Op::Two(_, _, _) | Op::Window(_, _, _) => {}
         Op::Last(a, b) => keep_row(state, n, i, Op::Last(a, b), k, y),
         Op::Delay(a, b) => keep_row(state, n, i, Op::Delay(a, b), k, y),
         Op::Signal(g, a, b) => keep_row(state, n, i, Op::Signal(g, a, b), k, y),
-        Op::Window(_, _, _) => {}
     }
 }
 
@@ -80,15 +75,11 @@ fn release_args(state: &mut [u8], n: usize, op: Op)
     ensures { state.new ≡ encode n (released_args n (reads (equation op)) (decode n state.old)) }
 {
     match op {
-        Op::In => {}
-        Op::Nil => {}
-        Op::Unit => {}
-        Op::One(_, a) => release_one(state, n, a),
-        Op::Two(_, a, b) => release_two(state, n, a, b),
-        Op::Last(a, b) => release_two(state, n, a, b),
-        Op::Delay(a, b) => release_two(state, n, a, b),
-        Op::Signal(_, a, b) => release_two(state, n, a, b),
-        Op::Window(_, _, a) => release_one(state, n, a),
+        Op::In | Op::Nil | Op::Unit => {}
+        Op::One(_, a) | Op::Window(_, _, a) => release_one(state, n, a),
+        Op::Two(_, a, b) | Op::Last(a, b) | Op::Delay(a, b) | Op::Signal(_, a, b) => {
+            release_two(state, n, a, b)
+        }
     }
 }
 

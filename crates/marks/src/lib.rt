@@ -1,7 +1,7 @@
 // The lowest stream on a cycle: marks the streams that undelayed arguments lead to, over the graph of a plan in bytes.
 #![tactic(auto)]
 
-ghost use Rattle.std.specs.Prelude.{◌≡◌, ◌||◌, ◌<◌, ◌≤◌, length};
+ghost use Rattle.std.specs.Prelude.{◌≡◌, ◌||◌, ◌<◌, ◌≤◌, length, IfSome, unwrap_or};
 ghost use Rattle.operators.specs.Limits.{most_streams};
 ghost use Rattle.marks.specs.Marks.{marked, args_marked, turned, passed, Grown, Spread, Back, LowestBack};
 
@@ -24,12 +24,6 @@ fn mark(marks: &mut [u8], x: u8) -> bool
     true
 }
 
-fn either(x: bool, y: bool) -> bool
-    ensures { result ≡ (x || y) }
-{
-    if x { true } else { y }
-}
-
 // Marks the undelayed arguments of stream i, and answers whether one was new.
 fn mark_arguments(graph: &[u8; GRAPH], i: usize, marks: &mut [u8]) -> bool
     requires { i < most_streams }
@@ -44,7 +38,7 @@ fn mark_arguments(graph: &[u8; GRAPH], i: usize, marks: &mut [u8]) -> bool
     let b = graph[at + 2];
     let first = mark(marks, a);
     let second = mark(marks, b);
-    either(first, second)
+    first | second
 }
 
 // The same, if stream i is marked.
@@ -66,11 +60,9 @@ fn pass(graph: &[u8; GRAPH], n: usize, marks: &mut [u8]) -> bool
     ensures grown { Grown marks.old marks.new result }
 {
     let mut new = false;
-    let mut i = 0;
-    while i < n {
+    for i in 0..n {
         let more = turn(graph, i, marks);
-        new = either(new, more);
-        i += 1;
+        new |= more;
     }
     new
 }
@@ -80,11 +72,7 @@ fn spread(graph: &[u8; GRAPH], n: usize, marks: &mut [u8])
     requires { (n ≤ most_streams) × (n ≤ length marks.old) }
     ensures { Spread graph.now n marks.old marks.new }
 {
-    loop {
-        if !pass(graph, n, marks) {
-            return;
-        }
-    }
+    while pass(graph, n, marks) {}
 }
 
 // Whether undelayed arguments lead from stream s to itself.
@@ -98,17 +86,15 @@ fn leads_back(graph: &[u8; GRAPH], n: usize, s: usize) -> bool
     0 < marks[s]
 }
 
-// The lowest stream below n that leads to itself, or n.
-pub fn lowest(graph: &[u8; GRAPH], n: usize) -> usize
+// The lowest stream below n that leads to itself.
+pub fn lowest(graph: &[u8; GRAPH], n: usize) -> Option<usize>
     requires { n ≤ most_streams }
-    ensures { LowestBack graph.now n result }
+    ensures { LowestBack graph.now n (unwrap_or result n) × IfSome result (λ s. s < n) }
 {
-    let mut s = 0;
-    while s < n {
+    for s in 0..n {
         if leads_back(graph, n, s) {
-            return s;
+            return Some(s);
         }
-        s += 1;
     }
-    s
+    None
 }

@@ -1,7 +1,7 @@
 -- What is said at a stamp: its value is the row, it depends on the arguments up to the stamp, and counts go on from where they stand.
 use mathlib.Core.Path.{◌≡◌, refl, sym, ◌∙◌, ap, subst}
 use mathlib.Core.Bool.{Bool, true, false, cond, ◌&&◌, ◌||◌}
-use mathlib.Core.Option.{Option, none, some}
+use Rattle.std.specs.Prelude.{Option, None, Some, Ok, Err}
 use mathlib.Core.List.{List}
 use Prim.Native.Nat.{ℕ, zero, suc, ◌+◌, ◌≤◌, ◌<◌, min}
 use native.Mathlib.Nat.{lt-suc_self, add-zero}
@@ -13,7 +13,6 @@ use lib.Signed.{le_z, lt_z}
 use Rattle.meaning.specs.Plan.{Unary, time, neg, set, plus, Calc, add, sub, mul, div, rem, lt, le, eq, Binary, calc, keep, merge, Fold, wsum, wmin, wmax, Eqn, input, nil, unit, one, two, last, delay, signal, window}
 use Rattle.meaning.specs.Events.{Streams, events, has}
 use Rattle.meaning.specs.Table.{value_of, calculated, folded, one_at, two_at, unit_at, last_at, delay_at, fires, signal_at, window_at_lem, latest, latest_of, values, width, at}
-use Rattle.num.specs.declared.Answer.TheVariants.{Value, Outside, ZeroDivisor}
 use Rattle.num.specs.Arithmetic.{same, truth, less, at_most, equal}
 use Rattle.meaning.specs.Missing.{lacks, unary_lacks, calc_lacks, binary_lacks, fold_lacks, can_lack, Said, valued, one_says, calc_says, two_says, signal_says, window_says, says, shown, Reason, said_for, tally, count_limit, count_below}
 use Rattle.meaning.proofs.Options.{none_some}
@@ -24,28 +23,28 @@ use Rattle.meaning.proofs.Tests.{Is, yes!, no!, look, true_is, false_is}
 
 pub valued_shown : (o : Option ℤ) → shown (valued o) ≡ o
 unfolding value_of
-valued_shown none = refl
-valued_shown (some v) = refl
+valued_shown None = refl
+valued_shown (Some v) = refl
 
 true_false : true ≡ false → ⊥
 true_false e = let z : ◌≡◌ {A = ℕ} 0 1 = cc in omega arith
 
 pub one_row : (f : Unary) (t : ℕ) (x : Option ℤ) → shown (one_says f t x) ≡ one_at f t x
 unfolding one_at one_says value_of
-one_row time t none = refl
-one_row neg t none = refl
-one_row (set k) t none = refl
-one_row (plus k) t none = refl
-one_row time t (some x) = refl
-one_row neg t (some x) = refl
-one_row (set k) t (some x) = refl
-one_row (plus k) t (some x) = refl
+one_row time t None = refl
+one_row neg t None = refl
+one_row (set k) t None = refl
+one_row (plus k) t None = refl
+one_row time t (Some x) = refl
+one_row neg t (Some x) = refl
+one_row (set k) t (Some x) = refl
+one_row (plus k) t (Some x) = refl
 
 pub calc_row_lem : (c : Calc) (x y : Option ℤ) → shown (calc_says c x y) ≡ two_at (calc c) x y
 unfolding two_at calc_says
-calc_row_lem c none y = refl
-calc_row_lem c (some x) none = refl
-calc_row_lem c (some x) (some y) = refl
+calc_row_lem c None y = refl
+calc_row_lem c (Some x) None = refl
+calc_row_lem c (Some x) (Some y) = refl
 
 pub two_row : (g : Binary) (x y : Option ℤ) → shown (two_says g x y) ≡ two_at g x y
 unfolding two_says
@@ -57,18 +56,18 @@ pub signal_row_lem : (c : Calc) (a b x y : Option ℤ) → shown (signal_says c 
 unfolding signal_at signal_says
 signal_row_lem c a b x y = go (has a || has b)
   where
-    go : (p : Bool) → shown (cond p (calc_says c x y) none) ≡ cond p (two_at (calc c) x y) none
+    go : (p : Bool) → shown (cond p (calc_says c x y) None) ≡ cond p (two_at (calc c) x y) None
     go true = calc_row_lem c x y
     go false = refl
 
 pub window_row_lem : (f : Fold) (o : Option ℤ) (xs : List ℤ) → shown (window_says f o xs) ≡ window_at_lem f o xs
 unfolding window_at_lem window_says
-window_row_lem wsum none xs = refl
-window_row_lem wmin none xs = refl
-window_row_lem wmax none xs = refl
-window_row_lem wsum (some x) xs = refl
-window_row_lem wmin (some x) xs = valued_shown _
-window_row_lem wmax (some x) xs = valued_shown _
+window_row_lem wsum None xs = refl
+window_row_lem wmin None xs = refl
+window_row_lem wmax None xs = refl
+window_row_lem wsum (Some x) xs = refl
+window_row_lem wmin (Some x) xs = valued_shown _
+window_row_lem wmax (Some x) xs = valued_shown _
 
 pub row_said : (e : Eqn) (rd S : Streams) (s t : ℕ) → at e rd S s t ≡ shown (says e rd S s t)
 unfolding at says
@@ -85,15 +84,14 @@ row_said (window f k a) rd S s t = rw (window_row_lem f (S a t) (latest_of (widt
 -- ---- where there is a value, none is missing
 
 pub valued_lacks : (q : Reason) (o : Option ℤ) → said_for q (valued o) ≡ false
-valued_lacks q none = refl
-valued_lacks q (some v) = refl
+valued_lacks q None = refl
+valued_lacks q (Some v) = refl
 
-pub shown_lacks : (q : Reason) (r : Said) (v : ℤ) → shown r ≡ some v → said_for q r ≡ false
+pub shown_lacks : (q : Reason) (r : Said) (v : ℤ) → shown r ≡ Some v → said_for q r ≡ false
 unfolding value_of
-shown_lacks q none v e = refl
-shown_lacks q (some (Value w)) v e = refl
-shown_lacks q (some Outside) v e = none_some e
-shown_lacks q (some ZeroDivisor) v e = none_some e
+shown_lacks q None v e = refl
+shown_lacks q (Some (Ok w)) v e = refl
+shown_lacks q (Some (Err r)) v e = none_some e
 
 -- a comparison is always 1 or 0
 truth_lacks : (q : Reason) (b : Bool) → lacks q (truth b) ≡ false
@@ -103,25 +101,25 @@ truth_lacks q false = refl
 
 pub one_lacks : (f : Unary) → unary_lacks f ≡ false → (q : Reason) (t : ℕ) (x : Option ℤ) → said_for q (one_says f t x) ≡ false
 unfolding one_says
-one_lacks time h q t none = refl
-one_lacks (set k) h q t none = refl
-one_lacks time h q t (some x) = refl
-one_lacks (set k) h q t (some x) = refl
+one_lacks time h q t None = refl
+one_lacks (set k) h q t None = refl
+one_lacks time h q t (Some x) = refl
+one_lacks (set k) h q t (Some x) = refl
 one_lacks neg h q t x = absurd (true_false h)
 one_lacks (plus k) h q t x = absurd (true_false h)
 
 pub calc_lacks_lem : (c : Calc) → calc_lacks c ≡ false → (q : Reason) (x y : Option ℤ) → said_for q (calc_says c x y) ≡ false
 unfolding calc_says calculated less at_most equal
-calc_lacks_lem c h q none y = refl
-calc_lacks_lem c h q (some x) none = refl
-calc_lacks_lem add h q (some x) (some y) = absurd (true_false h)
-calc_lacks_lem sub h q (some x) (some y) = absurd (true_false h)
-calc_lacks_lem mul h q (some x) (some y) = absurd (true_false h)
-calc_lacks_lem div h q (some x) (some y) = absurd (true_false h)
-calc_lacks_lem rem h q (some x) (some y) = absurd (true_false h)
-calc_lacks_lem lt h q (some x) (some y) = truth_lacks q (lt_z x y)
-calc_lacks_lem le h q (some x) (some y) = truth_lacks q (le_z x y)
-calc_lacks_lem eq h q (some x) (some y) = truth_lacks q (same x y)
+calc_lacks_lem c h q None y = refl
+calc_lacks_lem c h q (Some x) None = refl
+calc_lacks_lem add h q (Some x) (Some y) = absurd (true_false h)
+calc_lacks_lem sub h q (Some x) (Some y) = absurd (true_false h)
+calc_lacks_lem mul h q (Some x) (Some y) = absurd (true_false h)
+calc_lacks_lem div h q (Some x) (Some y) = absurd (true_false h)
+calc_lacks_lem rem h q (Some x) (Some y) = absurd (true_false h)
+calc_lacks_lem lt h q (Some x) (Some y) = truth_lacks q (lt_z x y)
+calc_lacks_lem le h q (Some x) (Some y) = truth_lacks q (le_z x y)
+calc_lacks_lem eq h q (Some x) (Some y) = truth_lacks q (same x y)
 
 pub two_lacks : (g : Binary) → binary_lacks g ≡ false → (q : Reason) (x y : Option ℤ) → said_for q (two_says g x y) ≡ false
 unfolding two_says
@@ -133,17 +131,17 @@ pub signal_lacks : (c : Calc) → calc_lacks c ≡ false → (q : Reason) (a b x
 unfolding signal_says
 signal_lacks c h q a b x y = go (has a || has b)
   where
-    go : (p : Bool) → said_for q (cond p (calc_says c x y) none) ≡ false
+    go : (p : Bool) → said_for q (cond p (calc_says c x y) None) ≡ false
     go true = calc_lacks_lem c h q x y
     go false = refl
 
 pub window_lacks : (f : Fold) → fold_lacks f ≡ false → (q : Reason) (o : Option ℤ) (xs : List ℤ) → said_for q (window_says f o xs) ≡ false
 unfolding window_says
 window_lacks wsum h q o xs = absurd (true_false h)
-window_lacks wmin h q none xs = refl
-window_lacks wmax h q none xs = refl
-window_lacks wmin h q (some x) xs = valued_lacks q (value_of (folded wmin xs))
-window_lacks wmax h q (some x) xs = valued_lacks q (value_of (folded wmax xs))
+window_lacks wmin h q None xs = refl
+window_lacks wmax h q None xs = refl
+window_lacks wmin h q (Some x) xs = valued_lacks q (value_of (folded wmin xs))
+window_lacks wmax h q (Some x) xs = valued_lacks q (value_of (folded wmax xs))
 
 -- lt, le, eq, their signal forms, wmin, wmax and all that does not calculate: no stamp is counted
 pub never_lacks : (e : Eqn) → can_lack e ≡ false → (q : Reason) (rd S : Streams) (s t : ℕ) → said_for q (says e rd S s t) ≡ false

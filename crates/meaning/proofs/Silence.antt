@@ -1,7 +1,7 @@
 -- From some stamp on nothing happens: no input has an event there, and no delay is left to fire.
 use mathlib.Core.Path.{◌≡◌, refl, sym, ◌∙◌}
 use mathlib.Core.Bool.{Bool, true, false, not, cond, ◌&&◌, ◌||◌}
-use mathlib.Core.Option.{Option, none, some}
+use Rattle.std.specs.Prelude.{Option, None, Some}
 use mathlib.Core.List.{append-nil}
 use Prim.Native.Nat.{ℕ, zero, suc, ◌+◌, ◌-◌, ◌<◌, ◌≤◌}
 use native.Mathlib.Omega.{arith}
@@ -22,9 +22,9 @@ use Rattle.meaning.proofs.Firing.{any_hit, any_put, Fires, fires_from}
 
 -- a value at p leads to the stamp u or beyond
 abbrev pub leads_to : (u p : ℕ) → Option ℤ → Bool
-leads_to u p none = false
-leads_to u p (some (pos v)) = not (ltb (p + v) u)
-leads_to u p (some (negsuc v)) = false
+leads_to u p None = false
+leads_to u p (Some (pos v)) = not (ltb (p + v) u)
+leads_to u p (Some (negsuc v)) = false
 
 -- a set point below u whose value leads to u or beyond, and no event of b above it and below u
 unfoldable pub pending : (a b d : Stream) → ℕ → Bool
@@ -48,27 +48,27 @@ settled (window f k a) S s u = true
 -- nothing comes in from u on, and nothing is left to fire
 pub record Quiet (plan : Plan) (rd S : Streams) (u : ℕ) : Type 0 where
   pub later : 0 < u
-  pub inputs : (s t : ℕ) → u ≤ t → rd s t ≡ none
+  pub inputs : (s t : ℕ) → u ≤ t → rd s t ≡ None
   pub delays : (s : ℕ) → T (settled (eqn_at plan s) S s u)
 
 -- ---- the streams cut off at u
 
 abbrev cut : ℕ → Stream → Stream
-cut u a t = cond (ltb t u) (a t) none
+cut u a t = cond (ltb t u) (a t) None
 
 cut_before : (u : ℕ) (a : Stream) (t : ℕ) → t < u → cut u a t ≡ a t
 cut_before u a t l = rw (lt-ltb t u l)
 
-cut_after : (u : ℕ) (a : Stream) (t : ℕ) → u ≤ t → cut u a t ≡ none
+cut_after : (u : ℕ) (a : Stream) (t : ℕ) → u ≤ t → cut u a t ≡ None
 cut_after u a t l = rw (le-ltb t u l)
 
 -- a value at p that is due at t leads to u or beyond
 due_leads : (u p t : ℕ) → u ≤ t → p < t → (o : Option ℤ) → T (is (t - p) o) → T (leads_to u p o)
-due_leads u p t l k none h = absurd h
-due_leads u p t l k (some (pos m)) h =
+due_leads u p t l k None h = absurd h
+due_leads u p t l k (Some (pos m)) h =
     let e = eqb→eq m (t - p) h in
     rw (le-ltb (p + m) u (omega (arith, e))) tt
-due_leads u p t l k (some (negsuc m)) h = absurd h
+due_leads u p t l k (Some (negsuc m)) h = absurd h
 
 -- From a set point at u or later nothing fires, since there is none. From one below u it would be pending at u.
 module _ (u : ℕ) (a b d : Stream) (quiet : T (not (pending a b d u))) (t : ℕ) (l : u ≤ t) where
@@ -101,13 +101,13 @@ module _ (plan : Plan) (rd S : Streams) (u h : ℕ) (ok : Acyclic plan) (sol : S
   abbrev ended : Streams
   ended s = cut u (S s)
 
-  none_at : (s t : ℕ) → u ≤ t → (e : Eqn) → T (settled e S s u) → at e rd ended s t ≡ none
+  none_at : (s t : ℕ) → u ≤ t → (e : Eqn) → T (settled e S s u) → at e rd ended s t ≡ None
   unfolding at settled
   none_at s t l input q = quiet.inputs s t l
   none_at s t l nil q = refl
   none_at s t l unit q = unfold unit_at in past t (omega (arith, quiet.later))
     where
-      past : (t : ℕ) → 0 < t → unit_at t ≡ none
+      past : (t : ℕ) → 0 < t → unit_at t ≡ None
       past zero k = absurd (omega arith)
       past (suc t) k = refl
   none_at s t l (one f a) q = rw (cut_after u (S a) t l, one_at)
@@ -128,11 +128,11 @@ module _ (plan : Plan) (rd S : Streams) (u h : ℕ) (ok : Acyclic plan) (sol : S
           ∙ at_cong (eqn_at plan s) rd rd S ended s t (λ i. refl) (each_all (λ a. sym (cut_before u (S a) t k)) (undelayed (eqn_at plan s))) (λ a p m. sym (cut_before u (S a) p (omega arith)))
       go s t l (no k) = cut_after u (S s) t (omega arith) ∙ sym (none_at s t (omega arith) (eqn_at plan s) (quiet.delays s))
 
-  pub silent : (s t : ℕ) → u ≤ t → t < h → S s t ≡ none
+  pub silent : (s t : ℕ) → u ≤ t → t < h → S s t ≡ None
   silent s t l k = solution_unique plan rd S ended ok h sol ended_solves s t k ∙ cut_after u (S s) t l
 
 -- a stream that is silent from u on has the same events below every later stamp
-pub events_silent : (f : Stream) (u h : ℕ) → u ≤ h → ((t : ℕ) → u ≤ t → t < h → f t ≡ none) → events f h ≡ events f u
+pub events_silent : (f : Stream) (u h : ℕ) → u ≤ h → ((t : ℕ) → u ≤ t → t < h → f t ≡ None) → events f h ≡ events f u
 events_silent f u zero l q = let e : u ≡ 0 = omega arith in rw e
 events_silent f u (suc h) l q = go (dec_lt h u) (λ k. events_silent f u h k (λ t m n. q t m (omega arith)))
   where

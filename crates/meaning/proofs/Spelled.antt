@@ -4,7 +4,7 @@
 -- nothing (`signal_row_lem`). So the rows of the two plans agree, stream by stream. For the cycle rule ways are counted: one of d
 -- steps in the plan has at most three times as many in the spelled-out one, where a step to a or to b goes by a merge.
 use mathlib.Core.Path.{◌≡◌, refl, sym, ◌∙◌, ap, ap₂}
-use mathlib.Core.Option.{Option, none, some}
+use Rattle.std.specs.Prelude.{Option, None, Some}
 use mathlib.Core.List.{List, [], ◌∷◌}
 use Prim.Native.Nat.{ℕ, zero, suc, ◌+◌, ◌-◌, ◌≤◌, ◌<◌, min}
 use native.Mathlib.Nat.{lt-suc_self}
@@ -35,10 +35,10 @@ unfolding latest signal_at last_at two_at
 signal_row_lem c f g t = go (f t) (g t) (latest f t) (latest g t)
   where
     go : (u w x y : Option ℤ) → signal_at c u w (or_else u x) (or_else w y) ≡ two_at (calc c) (or_else u (last_at w x)) (or_else w (last_at u y))
-    go none none x y = refl
-    go none (some w) x y = refl
-    go (some u) none x y = refl
-    go (some u) (some w) x y = refl
+    go None None x y = refl
+    go None (Some w) x y = refl
+    go (Some u) None x y = refl
+    go (Some u) (Some w) x y = refl
 
 -- where an event is missing the reason is the same
 pub signal_said : (c : Calc) (f g : Stream) (t : ℕ) → signal_says c (f t) (g t) (latest f (suc t)) (latest g (suc t)) ≡ two_says (calc c) (merged f g t) (merged g f t)
@@ -46,10 +46,10 @@ unfolding latest signal_says two_says last_at two_at
 signal_said c f g t = go (f t) (g t) (latest f t) (latest g t)
   where
     go : (u w x y : Option ℤ) → signal_says c u w (or_else u x) (or_else w y) ≡ two_says (calc c) (or_else u (last_at w x)) (or_else w (last_at u y))
-    go none none x y = refl
-    go none (some w) x y = refl
-    go (some u) none x y = refl
-    go (some u) (some w) x y = refl
+    go None None x y = refl
+    go None (Some w) x y = refl
+    go (Some u) None x y = refl
+    go (Some u) (Some w) x y = refl
 
 -- ---- an equation reads its arguments, and itself, up to t
 pub at_reads : (e : Eqn) (rd S S' : Streams) (s t : ℕ) → Each (λ i. SameBelow (suc t) (S i) (S' i)) (reads e) → SameBelow t (S s) (S' s) → at e rd S s t ≡ at e rd S' s t
@@ -85,7 +85,7 @@ signal_counts q c n a b rd S s y =
 pub only_old : (n : ℕ) (S : Streams) (i : ℕ) → i < n → first_only n S i ≡ S i
 only_old n S i l = rw (true_is (ltb i n) (lt→ltb i n l))
 
-pub only_over : (n : ℕ) (S : Streams) (i : ℕ) → n ≤ i → first_only n S i ≡ (λ t. none)
+pub only_over : (n : ℕ) (S : Streams) (i : ℕ) → n ≤ i → first_only n S i ≡ (λ t. None)
 only_over n S i l = rw (false_is (ltb i n) (not_T (ltb i n) (λ h. let k = ltb→lt i n h in absurd (omega arith))))
 
 -- ---- the plan
@@ -164,7 +164,7 @@ module _ (plan : Plan) (s : ℕ) (c : Calc) (a b : ℕ) (there : s < length plan
     }
 
     -- and back
-    pub unspell : (h : ℕ) → ((i t : ℕ) → n ≤ i → t < h → S i t ≡ none) → Solves long rd A h → Solves plan rd S h
+    pub unspell : (h : ℕ) → ((i t : ℕ) → n ≤ i → t < h → S i t ≡ None) → Solves long rd A h → Solves plan rd S h
     unspell h quiet sol = record {
       each = λ i t l. by_place (λ i. S i t ≡ at (eqn_at plan i) rd S i t)
           (λ i m. sym (ap (λ f. f t) (app_old n a b S i m)) ∙ sol.each i t l ∙ by_stream (λ i. at (eqn_at long i) rd A i t ≡ at (eqn_at plan i) rd S i t)

@@ -2,7 +2,7 @@
 use Rattle.std.specs.Prelude.{ℕ, Bool, true, false, List, [], ◌∷◌, get_or, ℤ, pos, negsuc}
 use Rattle.meaning.specs.Plan.{Unary, time, neg, set, plus, Calc, add, sub, mul, div, rem, lt, le, eq, Binary, calc, keep, merge, input, nil, unit, one, two, last, delay, signal, window, Fold, wsum, wmin, wmax, Plan}
 use Rattle.meaning.specs.Events.{Event, ev, Streams, found}
-use Rattle.meaning.specs.Missing.{Reason, outside, divisor}
+use Rattle.meaning.specs.Missing.{Reason, Outside, ZeroDivisor}
 
 pub record Case : Type 0 where
   pub plan : Plan
@@ -159,8 +159,8 @@ abbrev pub gap : Case → (outside divisors : ℕ) → Gap
 gap c o d = record { case = c; outside = o; divisors = d }
 
 abbrev pub lacking : Reason → Gap → ℕ
-lacking outside g = g.outside
-lacking divisor g = g.divisors
+lacking Outside g = g.outside
+lacking ZeroDivisor g = g.divisors
 
 unfoldable pub gaps : List Gap
 gaps =

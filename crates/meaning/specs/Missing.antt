@@ -1,9 +1,8 @@
 -- Believe: why an event is missing: what an equation has to say at a stamp, and at how many stamps it says so.
-use Rattle.std.specs.Prelude.{ℕ, zero, suc, min, Bool, true, false, cond, ◌||◌, List, ℤ, pos}
-use Rattle.std.proofs.Math.Option.{Option, none, some}
-use Rattle.num.specs.declared.Answer.{Answer}
-use Rattle.num.specs.declared.Answer.TheVariants.{Value, Outside, ZeroDivisor}
-use Rattle.num.specs.Arithmetic.{negated, added}
+use Rattle.std.specs.Prelude.{Option, None, Some, Ok, Err, ℕ, zero, suc, min, Bool, true, false, cond, ◌||◌, List, ℤ, pos}
+pub use Rattle.num.specs.declared.Reason.{Reason}
+pub use Rattle.num.specs.declared.Reason.TheVariants.{Outside, ZeroDivisor}
+use Rattle.num.specs.Arithmetic.{Answer, negated, added}
 use Rattle.meaning.specs.Plan.{Unary, time, neg, set, plus, Calc, add, sub, mul, div, rem, lt, le, eq, Binary, calc, keep, merge, Fold, wsum, wmin, wmax, Eqn, input, nil, unit, one, two, last, delay, signal, window}
 use Rattle.meaning.specs.Events.{Streams, has, events}
 use Rattle.meaning.specs.Table.{value_of, calculated, two_at, unit_at, latest, last_at, latest_of, values, width, folded, fires, delay_at}
@@ -16,24 +15,24 @@ Said = Option Answer
 
 -- an operator that has a value for whatever it works on
 abbrev pub valued : Option ℤ → Said
-valued none = none
-valued (some v) = some (Value v)
+valued None = None
+valued (Some v) = Some (Ok v)
 
 -- plus and neg say what the arithmetic says
 unfoldable pub one_says : Unary → ℕ → Option ℤ → Said
 unfolding negated added
-one_says f t none = none
-one_says time t (some x) = some (Value (pos t))
-one_says neg t (some x) = some (negated x)
-one_says (set k) t (some x) = some (Value k)
-one_says (plus k) t (some x) = some (added x k)
+one_says f t None = None
+one_says time t (Some x) = Some (Ok (pos t))
+one_says neg t (Some x) = Some (negated x)
+one_says (set k) t (Some x) = Some (Ok k)
+one_says (plus k) t (Some x) = Some (added x k)
 
 -- add to eq, of two events or of two latest values: only if both are there
 unfoldable pub calc_says : Calc → Option ℤ → Option ℤ → Said
 unfolding calculated
-calc_says c none b = none
-calc_says c (some x) none = none
-calc_says c (some x) (some y) = some (calculated c x y)
+calc_says c None b = None
+calc_says c (Some x) None = None
+calc_says c (Some x) (Some y) = Some (calculated c x y)
 
 unfoldable pub two_says : Binary → Option ℤ → Option ℤ → Said
 unfolding calc_says two_at
@@ -44,22 +43,22 @@ two_says merge a b = valued (two_at merge a b)
 -- where a and b have at t what stands first, and x and y are their latest values at t or before
 unfoldable pub signal_says : Calc → (a b x y : Option ℤ) → Said
 unfolding calc_says
-signal_says c a b x y = cond (has a || has b) (calc_says c x y) none
+signal_says c a b x y = cond (has a || has b) (calc_says c x y) None
 
 -- where a has this event, and these are the values of its latest ones
 unfoldable pub window_says : Fold → Option ℤ → List ℤ → Said
 unfolding folded value_of
-window_says f none xs = none
-window_says wsum (some x) xs = some (folded wsum xs)
-window_says wmin (some x) xs = valued (value_of (folded wmin xs))
-window_says wmax (some x) xs = valued (value_of (folded wmax xs))
+window_says f None xs = None
+window_says wsum (Some x) xs = Some (folded wsum xs)
+window_says wmin (Some x) xs = valued (value_of (folded wmin xs))
+window_says wmax (Some x) xs = valued (value_of (folded wmax xs))
 
 -- what stream s with this equation has to say at stamp t, of the readings rd and all streams S. Its row is the value of that:
 -- `row_said` in proofs/Missing.antt.
 unfoldable pub says : Eqn → (rd S : Streams) → (s t : ℕ) → Said
 unfolding one_says two_says signal_says window_says unit_at latest last_at latest_of fires delay_at
 says input rd S s t = valued (rd s t)
-says nil rd S s t = none
+says nil rd S s t = None
 says unit rd S s t = valued (unit_at t)
 says (one f a) rd S s t = one_says f t (S a t)
 says (two g a b) rd S s t = two_says g (S a t) (S b t)
@@ -70,26 +69,22 @@ says (window f k a) rd S s t = window_says f (S a t) (latest_of (width k) (value
 
 -- the event of what was said
 abbrev pub shown : Said → Option ℤ
-shown none = none
-shown (some r) = value_of r
+shown None = None
+shown (Some r) = value_of r
 
 -- ---- "each stream counts both"
 
--- the two reasons
-pub data Reason : Type 0 where
-  outside divisor : Reason
-
 -- the answer has no value, for this reason
 abbrev pub lacks : Reason → Answer → Bool
-lacks q (Value v) = false
-lacks outside Outside = true
-lacks outside ZeroDivisor = false
-lacks divisor Outside = false
-lacks divisor ZeroDivisor = true
+lacks q (Ok v) = false
+lacks Outside (Err Outside) = true
+lacks Outside (Err ZeroDivisor) = false
+lacks ZeroDivisor (Err Outside) = false
+lacks ZeroDivisor (Err ZeroDivisor) = true
 
 abbrev pub said_for : Reason → Said → Bool
-said_for q none = false
-said_for q (some r) = lacks q r
+said_for q None = false
+said_for q (Some r) = lacks q r
 
 -- who can lack a value: plus, neg, add, sub, mul, div, rem, their signal forms, and wsum. A comparison is always 1 or 0, and the
 -- others have a value for whatever they work on: `never_lacks` in proofs/Missing.antt.

@@ -1,6 +1,5 @@
 -- Believe: a signal form spelled out: two lasts, two merges and the operation, and that the two plans mean the same.
-use Rattle.std.specs.Prelude.{ℕ, zero, suc, ◌+◌, ◌-◌, ◌≤◌, ◌<◌, ◌≡◌, ◌↔◌, cond, [], ◌∷◌, ◌++◌, ltb, length, set}
-use Rattle.std.proofs.Math.Option.{none}
+use Rattle.std.specs.Prelude.{ℕ, zero, suc, ◌+◌, ◌-◌, ◌≤◌, ◌<◌, ◌≡◌, ◌↔◌, cond, [], ◌∷◌, ◌++◌, ltb, length, set, None}
 use Rattle.meaning.specs.Plan.{Calc, calc, merge, Eqn, two, last, Plan}
 use Rattle.meaning.specs.Events.{Stream, Streams}
 use Rattle.meaning.specs.Table.{two_at, latest, last_at, Solves}
@@ -31,7 +30,7 @@ extra f g zero = lasts f g
 extra f g (suc zero) = merged f g
 extra f g (suc (suc zero)) = lasts g f
 extra f g (suc (suc (suc zero))) = merged g f
-extra f g (suc (suc (suc (suc k)))) = λ t. none
+extra f g (suc (suc (suc (suc k)))) = λ t. None
 
 -- the streams of a plan of n, with the four behind them
 abbrev pub appended : (n a b : ℕ) → Streams → Streams
@@ -39,12 +38,12 @@ appended n a b S i = cond (ltb i n) (S i) (extra (S a) (S b) (i - n))
 
 -- the first n streams alone
 abbrev pub first_only : ℕ → Streams → Streams
-first_only n S i = cond (ltb i n) (S i) (λ t. none)
+first_only n S i = cond (ltb i n) (S i) (λ t. None)
 
 -- the plan and the spelled-out plan mean the same
 pub record MeansSpelled (plan : Plan) (s : ℕ) (c : Calc) (a b : ℕ) : Type 0 where
   -- S, which has no streams but the plan's, solves the plan exactly if with the four behind it it solves the spelled-out plan
-  pub solutions : (rd S : Streams) (h : ℕ) → ((i t : ℕ) → length plan ≤ i → t < h → S i t ≡ none)
+  pub solutions : (rd S : Streams) (h : ℕ) → ((i t : ℕ) → length plan ≤ i → t < h → S i t ≡ None)
       → Solves plan rd S h ↔ Solves (spelled plan s c a b) rd (appended (length plan) a b S) h
   -- and the spelled-out plan has no other solutions: the first streams of each solve the plan, and the four follow from them
   pub only : (rd U : Streams) (h : ℕ) → Solves (spelled plan s c a b) rd U h

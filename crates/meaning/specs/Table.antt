@@ -1,27 +1,24 @@
 -- Believe: the operator table, row by row: what each stream has at stamp t.
-use Rattle.std.specs.Prelude.{ℕ, zero, suc, ◌-◌, ◌<◌, ◌≡◌, Bool, true, false, not, cond, ◌&&◌, ◌||◌, List, [], ◌∷◌, map, ltb, eqb, ℤ, pos, negsuc, ◌+ℤ◌, length, drop}
-use Rattle.std.proofs.Math.Option.{Option, none, some}
+use Rattle.std.specs.Prelude.{Option, None, Some, Ok, Err, ℕ, zero, suc, ◌-◌, ◌<◌, ◌≡◌, Bool, true, false, not, cond, ◌&&◌, ◌||◌, List, [], ◌∷◌, map, ltb, eqb, ℤ, pos, negsuc, ◌+ℤ◌, length, drop}
 use Rattle.std.specs.Int.Signed.{le_z}
-use Rattle.num.specs.declared.Answer.{Answer}
-use Rattle.num.specs.declared.Answer.TheVariants.{Value, Outside, ZeroDivisor}
-use Rattle.num.specs.Arithmetic.{is_zero, fit, negated, added, subtracted, multiplied, divided, remainder, less, at_most, equal}
+use Rattle.num.specs.declared.Reason.TheVariants.{Outside}
+use Rattle.num.specs.Arithmetic.{Answer, is_zero, fit, negated, added, subtracted, multiplied, divided, remainder, less, at_most, equal}
 use Rattle.meaning.specs.Plan.{Unary, time, neg, set, plus, Calc, add, sub, mul, div, rem, lt, le, eq, Binary, calc, keep, merge, Eqn, input, nil, unit, one, two, last, delay, signal, window, Fold, wsum, wmin, wmax, Plan, eqn_at}
 use Rattle.meaning.specs.Events.{Event, Stream, Streams, events, has, or_else}
 
 -- "A result outside the value range, or a zero divisor, gives no event."
 unfoldable pub value_of : Answer → Option ℤ
-value_of (Value v) = some v
-value_of Outside = none
-value_of ZeroDivisor = none
+value_of (Ok v) = Some v
+value_of (Err q) = None
 
 -- time: a's event, with value t. set, plus: a's event, with value k, or its value plus k. neg: a's event, negated.
 unfoldable pub one_at : Unary → ℕ → Option ℤ → Option ℤ
 unfolding value_of negated added
-one_at f t none = none
-one_at time t (some x) = some (pos t)
-one_at neg t (some x) = value_of (negated x)
-one_at (set k) t (some x) = some k
-one_at (plus k) t (some x) = value_of (added x k)
+one_at f t None = None
+one_at time t (Some x) = Some (pos t)
+one_at neg t (Some x) = value_of (negated x)
+one_at (set k) t (Some x) = Some k
+one_at (plus k) t (Some x) = value_of (added x k)
 
 -- add sub mul div rem lt le eq, of two values
 unfoldable pub calculated : Calc → ℤ → ℤ → Answer
@@ -38,35 +35,35 @@ calculated eq x y = equal x y
 -- add to eq: only if both have an event at t. keep: a's event, if b has one at t that is not 0. merge: a's event, or else b's.
 unfoldable pub two_at : Binary → Option ℤ → Option ℤ → Option ℤ
 unfolding value_of calculated is_zero
-two_at (calc g) none b = none
-two_at (calc g) (some x) none = none
-two_at (calc g) (some x) (some y) = value_of (calculated g x y)
-two_at keep none b = none
-two_at keep (some x) none = none
-two_at keep (some x) (some y) = cond (is_zero y) none (some x)
+two_at (calc g) None b = None
+two_at (calc g) (Some x) None = None
+two_at (calc g) (Some x) (Some y) = value_of (calculated g x y)
+two_at keep None b = None
+two_at keep (Some x) None = None
+two_at keep (Some x) (Some y) = cond (is_zero y) None (Some x)
 two_at merge a b = or_else a b
 
 -- unit: one event, value 0, at stamp 0
 unfoldable pub unit_at : ℕ → Option ℤ
-unit_at zero = some (pos 0)
-unit_at (suc t) = none
+unit_at zero = Some (pos 0)
+unit_at (suc t) = None
 
 -- the value of a's latest event strictly before t, if any
 unfoldable pub latest : Stream → ℕ → Option ℤ
-latest a zero = none
+latest a zero = None
 latest a (suc t) = or_else (a t) (latest a t)
 
 -- last: if b has an event at t, what a had latest strictly before
 unfoldable pub last_at : Option ℤ → Option ℤ → Option ℤ
-last_at none v = none
-last_at (some x) v = v
+last_at None v = None
+last_at (Some x) v = v
 
 -- sadd to seq, where a and b have at t what stands first and x and y are their latest values at t or before: "It has an event
 -- at each stamp where either argument has one and both have had one at that stamp or before, and works on the latest values;
 -- a result outside the range or a zero divisor still gives no event."
 unfoldable pub signal_at : Calc → (a b x y : Option ℤ) → Option ℤ
 unfolding two_at
-signal_at c a b x y = cond (has a || has b) (two_at (calc c) x y) none
+signal_at c a b x y = cond (has a || has b) (two_at (calc c) x y) None
 
 -- ---- windows: "at each event of a, the sum, least or greatest of the latest k events, this one included, or of all so far
 -- while fewer. A sum out of range gives no event."
@@ -100,16 +97,16 @@ greatest_of x (y ∷ ys) = greatest_of (cond (le_z x y) y x) ys
 unfoldable pub folded : Fold → List ℤ → Answer
 unfolding fit
 folded wsum xs = fit (total xs)
-folded wmin [] = Outside
-folded wmin (x ∷ xs) = Value (least_of x xs)
-folded wmax [] = Outside
-folded wmax (x ∷ xs) = Value (greatest_of x xs)
+folded wmin [] = Err Outside
+folded wmin (x ∷ xs) = Ok (least_of x xs)
+folded wmax [] = Err Outside
+folded wmax (x ∷ xs) = Ok (greatest_of x xs)
 
 -- wsum, wmin, wmax: where a has an event, what is told of these values
 unfoldable pub window_at_lem : Fold → Option ℤ → List ℤ → Option ℤ
 unfolding value_of folded
-window_at_lem f none xs = none
-window_at_lem f (some x) xs = value_of (folded f xs)
+window_at_lem f None xs = None
+window_at_lem f (Some x) xs = value_of (folded f xs)
 
 -- some stamp below t passes the test
 unfoldable pub any_below : ℕ → (ℕ → Bool) → Bool
@@ -118,9 +115,9 @@ any_below (suc t) f = f t || any_below t f
 
 -- the value is the number n
 abbrev pub is : ℕ → Option ℤ → Bool
-is n none = false
-is n (some (pos m)) = eqb m n
-is n (some (negsuc m)) = false
+is n None = false
+is n (Some (pos m)) = eqb m n
+is n (Some (negsuc m)) = false
 
 -- "A set point of a delay is a stamp at which b or the delay itself has an event. The delay fires (value 0) at t exactly
 -- if for some set point p < t the stream a has value t − p at p, and b has no event strictly between p and t. A value at
@@ -131,14 +128,14 @@ fires a b d t =
     any_below t (λ p. (has (b p) || has (d p)) && is (t - p) (a p) && not (any_below t (λ q. ltb p q && has (b q))))
 
 unfoldable pub delay_at : Bool → Option ℤ
-delay_at true = some (pos 0)
-delay_at false = none
+delay_at true = Some (pos 0)
+delay_at false = None
 
 -- the table: what stream s with this equation has at stamp t, of the readings rd and all streams S
 unfoldable pub at : Eqn → (rd S : Streams) → (s t : ℕ) → Option ℤ
 unfolding one_at two_at unit_at last_at latest delay_at fires signal_at window_at_lem latest_of
 at input rd S s t = rd s t
-at nil rd S s t = none
+at nil rd S s t = None
 at unit rd S s t = unit_at t
 at (one f a) rd S s t = one_at f t (S a t)
 at (two g a b) rd S s t = two_at g (S a t) (S b t)

@@ -71,14 +71,12 @@ fn put_all(out: &mut [u8], state: &[u8]) -> usize
     ensures inside { IsPrefixLen result out.new }
 {
     let mut end: usize = 0;
-    let mut stream: u32 = 0;
-    while stream < Plan::MOST as u32 {
+    for stream in 0..Plan::MOST as u32 {
         let answer = ask(state, stream);
         if answer.number != 0 {
             return end;
         }
         end = put_counts(out, end, stream, answer.outside, answer.zero);
-        stream += 1;
     }
     end
 }

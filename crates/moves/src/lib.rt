@@ -19,7 +19,6 @@ use apply::Fold;
 use decide::Next;
 use limits::Bound;
 use streams::{Op, Stream};
-use windows::Fit;
 
 // The bound of an argument.
 fn bound_of(state: &[u8], n: usize, a: u8) -> u64
@@ -35,10 +34,7 @@ fn not_ahead(state: &[u8], n: usize, a: u8, b: u8, bound: u64) -> bool
     requires { (n * 256 ≤ length state.now) × (0 < n) }
     ensures { result ≡ true → min (other_in n a (decode n state.now)).bound (other_in n b (decode n state.now)).bound ≤ min bound horizon }
 {
-    if bound_of(state, n, a) <= bound {
-        return true;
-    }
-    bound_of(state, n, b) <= bound
+    bound_of(state, n, a) <= bound || bound_of(state, n, b) <= bound
 }
 
 // Whether the bounds alone, as they are stored, say that a stream with this operator cannot move: it is an input, an
@@ -50,14 +46,10 @@ fn stuck(state: &[u8], n: usize, op: Op, bound: u64) -> bool
 {
     match op {
         Op::In => true,
-        Op::Nil => bound == Bound::HORIZON,
-        Op::Unit => bound == Bound::HORIZON,
-        Op::One(_, a) => bound_of(state, n, a) <= bound,
-        Op::Two(_, a, b) => not_ahead(state, n, a, b, bound),
-        Op::Last(_, b) => bound_of(state, n, b) <= bound,
+        Op::Nil | Op::Unit => bound == Bound::HORIZON,
+        Op::One(_, a) | Op::Last(_, a) | Op::Window(_, _, a) => bound_of(state, n, a) <= bound,
+        Op::Two(_, a, b) | Op::Signal(_, a, b) => not_ahead(state, n, a, b, bound),
         Op::Delay(_, b) => bound_of(state, n, b) < bound,
-        Op::Signal(_, a, b) => not_ahead(state, n, a, b, bound),
-        Op::Window(_, _, a) => bound_of(state, n, a) <= bound,
     }
 }
 
@@ -68,10 +60,10 @@ fn window_ahead(state: &[u8], n: usize, i: usize, f: Fold, k: usize, a: usize, y
     ensures next { to_next result ≡ fit_row (folding f) k i y (max y (look_of (row_at (decode n state.now) a)).bound) (held_of (row_at (decode n state.now) a)) (decode n state.now) }
     ensures known { known_to result ≤ horizon }
 {
-    let hi = limits::larger(y, streams::bound_of(layout::row_at(state, a)));
+    let hi = y.max(streams::bound_of(layout::row_at(state, a)));
     match sliding::fit(state, n, i, f, k, a, y, hi) {
-        Fit::At(t, v) => Next::Event(t, v),
-        Fit::Nothing => Next::Silent(hi),
+        Some((t, v)) => Next::Event(t, v),
+        None => Next::Silent(hi),
     }
 }
 
@@ -121,7 +113,7 @@ pub fn move_one(state: &mut [u8], n: usize, i: usize) -> bool
     if stuck(state, n, op, stored) {
         return false;
     }
-    let bound = limits::smaller(stored, Bound::HORIZON);
+    let bound = stored.min(Bound::HORIZON);
     let s = streams::complete(row, op, bound);
     let held = layout::byte_at(row, layout::COUNT);
     let next = ahead(state, n, i, s);

@@ -4,14 +4,16 @@ use mathlib.Core.Path.{◌≡◌, refl, sym, ap, ◌∙◌, subst}
 use mathlib.Core.Bool.{Bool, true, false, not, beq}
 use native.Mathlib.Omega.{arith}
 use native.Mathlib.Nat.{add-zero, sub-zero, mul-zero, zero-mul, le_trans, mul-le-mul_left, mul-le-mul_right, mul-add, mul_assoc, mul_comm, div-add-mod'}
-use lib.IntN.{ℤ, pos, negsuc, neg_ℤ, ◌+ℤ◌, ◌*ℤ◌, neg_ℤ-+ℤ, neg_ℤ-neg_ℤ, +ℤ_comm}
+use lib.IntN.{ℤ, pos, negsuc, neg_ℤ, ◌+ℤ◌, ◌*ℤ◌}
 use lib.Dec.{T, lit<}
 use mir.Syntax.{w64}
-use mir.Val.{Fits, to_z, of_z}
+use mir.Val.{Fits, SFits, to_z, of_z}
 use mir.Facts.{to_z-of_z, to_z_pos, to_z-neg}
 use borrow.Author.Tests.{lt-ltb, le-ltb, le-leb, lt-leb, ne_eqb}
 use native.Mathlib.Decide.{dec_le}
-use Rattle.num.specs.declared.Answer.TheVariants.{Value, Outside, ZeroDivisor}
+use Rattle.std.specs.Prelude.{Option, None, Some, Ok, Err, SomeIff}
+use Rattle.std.specs.Option.{ok_or}
+use Rattle.num.specs.declared.Reason.TheVariants.{Outside, ZeroDivisor}
 use Rattle.num.specs.Arithmetic.{fit, is_zero, divided, remainder}
 use Rattle.num.specs.Parts.{signed}
 
@@ -20,62 +22,43 @@ never e = absurd (subst T (sym e) tt)
 
 -- ---- which numbers are values
 
-pub fit_pos : (n : ℕ) → n < 2 ^ 63 → fit (pos n) ≡ Value (pos n)
+pub fit_pos : (n : ℕ) → n < 2 ^ 63 → fit (pos n) ≡ Ok (pos n)
 unfolding fit
 fit_pos n h = rw (lt-ltb n (2 ^ 63) h)
 
-fit_pos_none : (n : ℕ) → 2 ^ 63 ≤ n → fit (pos n) ≡ Outside
+fit_pos_none : (n : ℕ) → 2 ^ 63 ≤ n → fit (pos n) ≡ Err Outside
 unfolding fit
 fit_pos_none n h = rw (le-ltb n (2 ^ 63) h)
 
-pub fit_neg : (n : ℕ) → n < 2 ^ 63 → fit (negsuc n) ≡ Value (negsuc n)
+pub fit_neg : (n : ℕ) → n < 2 ^ 63 → fit (negsuc n) ≡ Ok (negsuc n)
 unfolding fit
 fit_neg n h = rw (le-leb n (2 ^ 63 - 1) (omega arith))
 
-fit_neg_none : (n : ℕ) → 2 ^ 63 ≤ n → fit (negsuc n) ≡ Outside
+fit_neg_none : (n : ℕ) → 2 ^ 63 ≤ n → fit (negsuc n) ≡ Err Outside
 unfolding fit
 fit_neg_none n h = rw (lt-leb n (2 ^ 63 - 1) (omega arith))
 
 -- a magnitude above 2^63 is no value's, and 2^63 is none's without a sign
-pub too_big : (s : Bool) (m : ℕ) → 2 ^ 63 < m → fit (signed s m) ≡ Outside
+pub too_big : (s : Bool) (m : ℕ) → 2 ^ 63 < m → fit (signed s m) ≡ Err Outside
 too_big false m h = fit_pos_none m (omega arith)
 too_big true zero h = absurd (omega arith)
 too_big true (suc k) h = fit_neg_none k (omega arith)
 
-pub too_big_plain : (m : ℕ) → 2 ^ 63 ≤ m → fit (signed false m) ≡ Outside
+pub too_big_plain : (m : ℕ) → 2 ^ 63 ≤ m → fit (signed false m) ≡ Err Outside
 too_big_plain = fit_pos_none
 
--- ---- sums
+-- what the library's checked arithmetic answers
+pub checked : (r : Option ℤ) (z : ℤ) → SomeIff r (SFits w64 z) z → ok_or r Outside ≡ fit z
+checked None (pos n) h = sym (fit_pos_none n (let k : (n < 2 ^ 63 → ⊥) = λ q. h (record { sfits = q }) in omega arith))
+checked None (negsuc n) h = sym (fit_neg_none n (let k : (n < 2 ^ 63 → ⊥) = λ q. h (record { sfits = q }) in omega arith))
+checked (Some x) (pos n) h = ap Ok h.1 ∙ sym (fit_pos n h.0.sfits)
+checked (Some x) (negsuc n) h = ap Ok h.1 ∙ sym (fit_neg n h.0.sfits)
 
-pub sum_same : (s t : Bool) (m n : ℕ) → beq s t ≡ true → signed s m +ℤ signed t n ≡ signed s (m + n)
-sum_same false false m n e = refl
-sum_same false true m n e = never e
-sum_same true false m n e = never e
-sum_same true true m n e = sym (neg_ℤ-+ℤ (pos m) (pos n))
+-- ---- sums
 
 pub less : (m n : ℕ) → n ≤ m → pos m +ℤ neg_ℤ (pos n) ≡ pos (m - n)
 less m zero h = ap pos (add-zero m ∙ sym (sub-zero m))
 less m (suc n) h = rw (le-ltb m (suc n) h)
-
-pub sum_other : (s t : Bool) (m n : ℕ) → beq s t ≡ false → n ≤ m → signed s m +ℤ signed t n ≡ signed s (m - n)
-sum_other false false m n e h = never (sym e)
-sum_other false true m n e h = less m n h
-sum_other true false m n e h =
-    ap (λ (z : ℤ). neg_ℤ (pos m) +ℤ z) (sym (neg_ℤ-neg_ℤ (pos n))) ∙ sym (neg_ℤ-+ℤ (pos m) (neg_ℤ (pos n))) ∙ ap neg_ℤ (less m n h)
-sum_other true true m n e h = never (sym e)
-
-beq_comm : (s t : Bool) → beq s t ≡ beq t s
-beq_comm false false = refl
-beq_comm false true = refl
-beq_comm true false = refl
-beq_comm true true = refl
-
-pub sum_swap : (s t : Bool) (m n : ℕ) → beq s t ≡ false → m ≤ n → signed s m +ℤ signed t n ≡ signed t (n - m)
-sum_swap s t m n e h = +ℤ_comm (signed s m) (signed t n) ∙ sum_other t s n m (beq_comm t s ∙ e) h
-
-pub negated_parts : (s : Bool) (m : ℕ) → signed (not s) m ≡ neg_ℤ (signed s m)
-negated_parts false m = refl
-negated_parts true m = sym (neg_ℤ-neg_ℤ (pos m))
 
 -- ---- products
 
@@ -103,11 +86,11 @@ unfolding is_zero
 zero_not false n = ne_eqb (suc n) 0 (λ e. omega arith)
 zero_not true n = refl
 
-pub div_none : (a : ℤ) (t : Bool) (n : ℕ) → n ≡ 0 → divided a (signed t n) ≡ ZeroDivisor
+pub div_none : (a : ℤ) (t : Bool) (n : ℕ) → n ≡ 0 → divided a (signed t n) ≡ Err ZeroDivisor
 unfolding divided
 div_none a t n e = rw (zero_is t n e)
 
-pub rem_none : (a : ℤ) (t : Bool) (n : ℕ) → n ≡ 0 → remainder a (signed t n) ≡ ZeroDivisor
+pub rem_none : (a : ℤ) (t : Bool) (n : ℕ) → n ≡ 0 → remainder a (signed t n) ≡ Err ZeroDivisor
 unfolding remainder
 rem_none a t n e = rw (zero_is t n e)
 
@@ -169,24 +152,24 @@ by_halves m n h =
 
 -- ---- what the function join returns
 
-pub join_zero : (s : Bool) (m : ℕ) → m ≡ 0 → Value (pos 0) ≡ fit (signed s m)
+pub join_zero : (s : Bool) (m : ℕ) → m ≡ 0 → Ok (pos 0) ≡ fit (signed s m)
 join_zero false m e = rw e (sym (fit_pos 0 (lit< tt)))
 join_zero true m e = rw e (sym (fit_pos 0 (lit< tt)))
 
-pub join_neg : (s : Bool) (m : ℕ) (r : ℤ) → s ≡ true → (m ≡ 0 → ⊥) → m ≤ 2 ^ 63 → r ≡ to_z w64 (18446744073709551615 - (m - 1)) → Value (to_z w64 (of_z w64 r)) ≡ fit (signed s m)
+pub join_neg : (s : Bool) (m : ℕ) (r : ℤ) → s ≡ true → (m ≡ 0 → ⊥) → m ≤ 2 ^ 63 → r ≡ to_z w64 (18446744073709551615 - (m - 1)) → Ok (to_z w64 (of_z w64 r)) ≡ fit (signed s m)
 join_neg false m r b z h e = never b
 join_neg true zero r b z h e = absurd (z refl)
 join_neg true (suc k) r b z h e =
     let q : 18446744073709551615 - (suc k - 1) ≡ 2 ^ 64 - suc k = omega arith in
     let hk : k < 2 ^ 63 = omega arith in
     let rk : r ≡ negsuc k = e ∙ ap (to_z w64) q ∙ to_z-neg w64 k hk in
-    rw rk (ap Value (to_z-of_z {w = w64} {z = negsuc k} (record { sfits = hk })) ∙ sym (fit_neg k hk))
+    rw rk (ap Ok (to_z-of_z {w = w64} {z = negsuc k} (record { sfits = hk })) ∙ sym (fit_neg k hk))
 
-pub join_pos : (s : Bool) (m : ℕ) (r : ℤ) → s ≡ false → m < 2 ^ 63 → r ≡ to_z w64 m → Value (to_z w64 (of_z w64 r)) ≡ fit (signed s m)
+pub join_pos : (s : Bool) (m : ℕ) (r : ℤ) → s ≡ false → m < 2 ^ 63 → r ≡ to_z w64 m → Ok (to_z w64 (of_z w64 r)) ≡ fit (signed s m)
 join_pos true m r b h e = never (sym b)
 join_pos false m r b h e =
-    rw (e ∙ to_z_pos w64 h) (ap Value (to_z-of_z {w = w64} {z = pos m} (record { sfits = h })) ∙ sym (fit_pos m h))
+    rw (e ∙ to_z_pos w64 h) (ap Ok (to_z-of_z {w = w64} {z = pos m} (record { sfits = h })) ∙ sym (fit_pos m h))
 
-pub join_none : (s : Bool) (m : ℕ) → s ≡ false → 2 ^ 63 ≤ m → fit (signed s m) ≡ Outside
+pub join_none : (s : Bool) (m : ℕ) → s ≡ false → 2 ^ 63 ≤ m → fit (signed s m) ≡ Err Outside
 join_none true m b h = never (sym b)
 join_none false m b h = fit_pos_none m h

@@ -1,24 +1,16 @@
 -- Signed numbers and their two's complement bits.
-use Prim.Native.Nat.{ℕ, suc, ◌+◌, ◌-◌, ◌^◌, ◌<◌, ◌≤◌}
-use mathlib.Core.Path.{◌≡◌, refl, sym, ap, ◌∙◌}
+use Prim.Native.Nat.{ℕ, suc, ◌-◌, ◌^◌, ◌<◌, ◌≤◌}
+use mathlib.Core.Path.{◌≡◌, refl}
 use mathlib.Core.Bool.{true, false}
 use native.Mathlib.Omega.{arith}
-use lib.IntN.{ℤ, pos, negsuc, neg_ℤ, nat_abs}
-use lib.Signed.{lt_z, non_neg}
-use lib.Dec.{T, eqb}
+use lib.IntN.{ℤ, pos, negsuc}
+use lib.Signed.{lt_z}
+use lib.Dec.{eqb}
 use borrow.Author.Tests.{ltb-true, le-ltb, eq-eqb, ne_eqb}
 use native.Mathlib.Decide.{ℕ_discrete}
 use mir.Syntax.{w64}
-use mir.Val.{Fits, SFits, to_z, of_z}
+use mir.Val.{SFits, to_z, of_z}
 use Rattle.num.specs.Arithmetic.{same}
-use mir.Facts.{to_z-of_z, to_z_pos}
-
--- a number below half the power is read as itself
-pub half_cast : (n : ℕ) → n < 2 ^ 63 → T (non_neg (to_z w64 n)) × Fits w64 (nat_abs (to_z w64 n))
-half_cast n h = rw (to_z_pos w64 h) (tt, record { fits = omega arith })
-
-pub half_abs : (n : ℕ) → n < 2 ^ 63 → nat_abs (to_z w64 n) ≡ n
-half_abs n h = rw (to_z_pos w64 h)
 
 -- what the test x < 0 tells of the bits
 neg_of : (x : ℤ) → SFits w64 x → lt_z x (pos 0) ≡ true → (2 ^ 63 ≤ of_z w64 x) × (of_z w64 x < 2 ^ 64)
@@ -32,23 +24,9 @@ pos_of : (x : ℤ) → SFits w64 x → lt_z x (pos 0) ≡ false → of_z w64 x <
 pos_of (pos n) f e = f.sfits
 pos_of (negsuc n) f e = let z : ◌≡◌ {A = ℕ} 0 1 = cc in omega arith
 
-pub is_neg : (x : ℤ) → SFits w64 x → lt_z (to_z w64 (of_z w64 x)) (pos 0) ≡ true → (2 ^ 63 ≤ of_z w64 x) × (of_z w64 x < 2 ^ 64)
-is_neg x f e = neg_of x f (rw (to_z-of_z f) at e)
-
-pub is_pos : (x : ℤ) → SFits w64 x → lt_z (to_z w64 (of_z w64 x)) (pos 0) ≡ false → of_z w64 x < 2 ^ 63
-is_pos x f e = pos_of x f (rw (to_z-of_z f) at e)
-
 -- bits from half the power on are read as a negative number
 pub to_z_high : (u : ℕ) → 2 ^ 63 ≤ u → to_z w64 u ≡ negsuc (2 ^ 64 - suc u)
 to_z_high u h = rw (le-ltb u (2 ^ 63) h)
-
-pub split_pos : (x : ℤ) (u : ℕ) → SFits w64 x → u ≡ of_z w64 x → u < 2 ^ 63 → pos u ≡ x
-split_pos x u f e h = sym (to_z_pos w64 h) ∙ ap (to_z w64) e ∙ to_z-of_z f
-
-pub split_neg : (x : ℤ) (u : ℕ) → SFits w64 x → u ≡ of_z w64 x → 2 ^ 63 ≤ u → u < 2 ^ 64 → neg_ℤ (pos (18446744073709551615 - u + 1)) ≡ x
-split_neg x u f e h k =
-    let q : 18446744073709551615 - u + 1 ≡ suc (2 ^ 64 - suc u) = omega arith in
-    ap (λ (n : ℕ). neg_ℤ (pos n)) q ∙ sym (to_z_high u h) ∙ ap (to_z w64) e ∙ to_z-of_z f
 
 -- two values are equal exactly if their bits are
 pub same_bits : (x y : ℤ) → SFits w64 x → SFits w64 y → eqb (of_z w64 x) (of_z w64 y) ≡ same x y

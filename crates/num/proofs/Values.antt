@@ -10,9 +10,9 @@ use lib.Signed.{mag, lt_z, le_z}
 use lib.Dec.{ltb, leb, lit<, leb→le, ltb→lt}
 use native.Mathlib.Decide.{ℕ_discrete}
 use borrow.Author.Tests.{ltb-true, leb-true}
-use Rattle.num.specs.declared.Answer.{Answer}
-use Rattle.num.specs.declared.Answer.TheVariants.{Value, Outside, ZeroDivisor}
-use Rattle.num.specs.Arithmetic.{least_value, fit, is_zero, truth, same, negated, added, subtracted, multiplied, quotient, down, rest, divided, remainder, less, at_most, equal}
+use Rattle.std.specs.Prelude.{Ok, Err}
+use Rattle.num.specs.declared.Reason.TheVariants.{Outside, ZeroDivisor}
+use Rattle.num.specs.Arithmetic.{Answer, least_value, fit, is_zero, truth, same, negated, added, subtracted, multiplied, quotient, down, rest, divided, remainder, less, at_most, equal}
 use Rattle.num.specs.Division.{Below}
 use Rattle.num.proofs.Arith.{fit_pos, fit_neg, zero_not}
 use Rattle.num.proofs.Division.{divides}
@@ -21,20 +21,19 @@ use Rattle.num.proofs.Division.{divides}
 
 -- the number of an answer that has one lies in the range of the values
 abbrev pub InRange : Answer → Type 0
-InRange (Value v) = mag v < 2 ^ 63
-InRange Outside = Unit {0}
-InRange ZeroDivisor = Unit {0}
+InRange (Ok v) = mag v < 2 ^ 63
+InRange (Err r) = Unit {0}
 
 fit_in : (z : ℤ) → InRange (fit z)
 unfolding fit
 fit_in (pos n) = go (ltb n (2 ^ 63)) refl
   where
-    go : (b : Bool) → ltb n (2 ^ 63) ≡ b → InRange (cond b (Value (pos n)) Outside)
+    go : (b : Bool) → ltb n (2 ^ 63) ≡ b → InRange (cond b (Ok (pos n)) (Err Outside))
     go true e = ltb-true n (2 ^ 63) e
     go false e = tt
 fit_in (negsuc n) = go (leb n (2 ^ 63 - 1)) refl
   where
-    go : (b : Bool) → leb n (2 ^ 63 - 1) ≡ b → InRange (cond b (Value (negsuc n)) Outside)
+    go : (b : Bool) → leb n (2 ^ 63 - 1) ≡ b → InRange (cond b (Ok (negsuc n)) (Err Outside))
     go true e = let h = leb-true n (2 ^ 63 - 1) e in omega arith
     go false e = tt
 
@@ -43,7 +42,7 @@ unfolding truth
 truth_in true = lit< tt
 truth_in false = lit< tt
 
-unless_zero : (b : Bool) (z : ℤ) → InRange (cond b ZeroDivisor (fit z))
+unless_zero : (b : Bool) (z : ℤ) → InRange (cond b (Err ZeroDivisor) (fit z))
 unless_zero true z = tt
 unless_zero false z = fit_in z
 
@@ -85,7 +84,7 @@ equal_in x y = truth_in (same x y)
 
 -- ---- when a division answers a value
 
-fits : (z : ℤ) → mag z < 2 ^ 63 → fit z ≡ Value z
+fits : (z : ℤ) → mag z < 2 ^ 63 → fit z ≡ Ok z
 fits (pos n) h = fit_pos n h
 fits (negsuc n) h = fit_neg n h
 
@@ -105,7 +104,7 @@ below_value (negsuc n) (negsuc k) h (inl (a, b)) = absurd a.le
 below_value (negsuc n) (negsuc k) h (inr (a, b)) = let l = ltb→lt k n a.lt in omega arith
 
 -- the remainder by a value that is not 0 is a value
-pub remainder_value : (x y : ℤ) → mag y < 2 ^ 63 → (y ≡ pos 0 → ⊥) → remainder x y ≡ Value (rest x y)
+pub remainder_value : (x y : ℤ) → mag y < 2 ^ 63 → (y ≡ pos 0 → ⊥) → remainder x y ≡ Ok (rest x y)
 unfolding remainder
 remainder_value x y h z = rw (not_zero y z) (fits (rest x y) (below_value y (rest x y) h (divides x y z).below))
 
@@ -118,7 +117,7 @@ down_value (negsuc m) d h = let l = div-le_self m d in omega arith
 abbrev pub Largest : (x y : ℤ) → Type 0
 Largest x y = (x ≡ least_value) × (y ≡ negsuc 0)
 
-pub largest_outside : divided least_value (negsuc 0) ≡ Outside
+pub largest_outside : divided least_value (negsuc 0) ≡ Err Outside
 unfolding divided
 largest_outside = refl
 
@@ -134,6 +133,6 @@ quotient_value (negsuc m) (negsuc zero) h l = unfold down in rw (div-one (suc m)
     go (no f) = omega arith
 quotient_value (negsuc m) (negsuc (suc n)) h l = unfold down in let k : suc m / suc (suc n) < suc m = div-lt_self (omega arith) (omega arith) in omega arith
 
-pub divided_value : (x y : ℤ) → mag x < 2 ^ 63 → (y ≡ pos 0 → ⊥) → (Largest x y → ⊥) → divided x y ≡ Value (quotient x y)
+pub divided_value : (x y : ℤ) → mag x < 2 ^ 63 → (y ≡ pos 0 → ⊥) → (Largest x y → ⊥) → divided x y ≡ Ok (quotient x y)
 unfolding divided
 divided_value x y h z l = rw (not_zero y z) (fits (quotient x y) (quotient_value x y h l))

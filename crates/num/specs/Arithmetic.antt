@@ -1,8 +1,12 @@
 -- Believe: arithmetic on values: each operation over all whole numbers, and one test that says whether the result is a value.
-use Rattle.std.specs.Prelude.{ℕ, suc, ◌^◌, ◌-◌, ◌/◌, Bool, true, false, cond, eqb, ℤ, pos, negsuc, neg_ℤ, ◌+ℤ◌, ◌-ℤ◌, ◌*ℤ◌}
+use Rattle.std.specs.Prelude.{Result, Ok, Err, ℕ, suc, ◌^◌, ◌-◌, ◌/◌, Bool, true, false, cond, eqb, ℤ, pos, negsuc, neg_ℤ, ◌+ℤ◌, ◌-ℤ◌, ◌*ℤ◌}
 use Rattle.std.specs.Int.Signed.{le_z, lt_z}
-use Rattle.num.specs.declared.Answer.{Answer}
-use Rattle.num.specs.declared.Answer.TheVariants.{Value, Outside, ZeroDivisor}
+use Rattle.num.specs.declared.Reason.{Reason}
+use Rattle.num.specs.declared.Reason.TheVariants.{Outside, ZeroDivisor}
+
+-- What an operation answers: a value, or why there is none.
+abbrev pub Answer : Type 0
+Answer = Result ℤ Reason
 
 -- A value is a signed 64-bit whole number.
 abbrev pub least_value : ℤ
@@ -13,7 +17,7 @@ past_values = pos (2 ^ 63)
 
 -- z if it is a value; a result outside the value range gives none
 unfoldable pub fit : ℤ → Answer
-fit z = cond (le_z least_value z) (cond (lt_z z past_values) (Value z) Outside) Outside
+fit z = cond (le_z least_value z) (cond (lt_z z past_values) (Ok z) (Err Outside)) (Err Outside)
 
 unfoldable pub is_zero : ℤ → Bool
 is_zero (pos n) = eqb n 0
@@ -21,8 +25,8 @@ is_zero (negsuc n) = false
 
 -- 1 for yes, 0 for no
 unfoldable pub truth : Bool → Answer
-truth true = Value (pos 1)
-truth false = Value (pos 0)
+truth true = Ok (pos 1)
+truth false = Ok (pos 0)
 
 unfoldable pub same : ℤ → ℤ → Bool
 same (pos m) (pos n) = eqb m n
@@ -65,11 +69,11 @@ rest x y = x -ℤ quotient x y *ℤ y
 -- A zero divisor is said first.
 unfoldable pub divided : ℤ → ℤ → Answer
 unfolding fit is_zero quotient
-divided x y = cond (is_zero y) ZeroDivisor (fit (quotient x y))
+divided x y = cond (is_zero y) (Err ZeroDivisor) (fit (quotient x y))
 
 unfoldable pub remainder : ℤ → ℤ → Answer
 unfolding fit is_zero rest
-remainder x y = cond (is_zero y) ZeroDivisor (fit (rest x y))
+remainder x y = cond (is_zero y) (Err ZeroDivisor) (fit (rest x y))
 
 -- lt, le and eq give 1 or 0
 unfoldable pub less : ℤ → ℤ → Answer

@@ -7,14 +7,12 @@ ghost use Rattle.std.proofs.Common.{to_z, of_z};
 ghost use Rattle.num.specs.Arithmetic.{fit, truth, negated, added, subtracted, multiplied, divided, remainder, less, at_most, equal};
 ghost use Rattle.num.specs.Parts.{signed, of, lowered};
 
-// What an operation answers.
-#[derive(Clone, Copy)]
-pub enum Answer {
-    // The value.
-    Value(i64),
-    // None: the result lies outside the value range.
+// Why an operation has no value.
+#[derive(Clone, Copy, PartialEq, Eq)]
+pub enum Reason {
+    // The result lies outside the value range.
     Outside,
-    // None: the divisor is zero.
+    // The divisor is zero.
     ZeroDivisor,
 }
 
@@ -22,22 +20,14 @@ pub enum Answer {
 pub fn bits(x: i64) -> u64
     ensures { result ≡ of_z w64 x }
 {
-    if x < 0 {
-        u64::MAX - ((!x) as u64)
-    } else {
-        x as u64
-    }
+    x.cast_unsigned()
 }
 
 // The number whose two's complement bits are u.
 pub fn of_bits(u: u64) -> i64
     ensures { result ≡ to_z w64 u }
 {
-    if u < 0x8000_0000_0000_0000 {
-        u as i64
-    } else {
-        !((u64::MAX - u) as i64)
-    }
+    u.cast_signed()
 }
 
 // A number as its sign and its magnitude.
@@ -68,41 +58,21 @@ fn split(x: i64) -> Parts
 }
 
 // The number of a sign and a magnitude, if it is a value.
-fn join(neg: bool, mag: u64) -> Answer
+fn join(neg: bool, mag: u64) -> Result<i64, Reason>
     ensures { result ≡ fit (signed neg mag) }
 {
     if neg {
         if mag == 0 {
-            Answer::Value(0)
+            Ok(0)
         } else if mag <= HALF {
-            Answer::Value(of_bits(u64::MAX - (mag - 1)))
+            Ok(of_bits(u64::MAX - (mag - 1)))
         } else {
-            Answer::Outside
+            Err(Reason::Outside)
         }
     } else if mag < HALF {
-        Answer::Value(of_bits(mag))
+        Ok(of_bits(mag))
     } else {
-        Answer::Outside
-    }
-}
-
-// The sum of two numbers in sign and magnitude.
-fn sum(p: Parts, q: Parts) -> Answer
-    requires { (p.mag ≤ 2 ^ 63) × (q.mag ≤ 2 ^ 63) }
-    ensures { result ≡ fit (of p +ℤ of q) }
-{
-    let m = p.mag;
-    let n = q.mag;
-    if p.neg == q.neg {
-        if HALF - n < m {
-            Answer::Outside
-        } else {
-            join(p.neg, m + n)
-        }
-    } else if n <= m {
-        join(p.neg, m - n)
-    } else {
-        join(q.neg, n - m)
+        Err(Reason::Outside)
     }
 }
 
@@ -138,33 +108,25 @@ fn shifted_sum(high: u64, low: u64) -> u64
     high * BASE + low
 }
 
-pub fn neg(a: i64) -> Answer
+pub fn neg(a: i64) -> Result<i64, Reason>
     ensures { result ≡ negated a }
 {
-    let p = split(a);
-    join(!p.neg, p.mag)
+    a.checked_neg().ok_or(Reason::Outside)
 }
 
-pub fn add(a: i64, b: i64) -> Answer
+pub fn add(a: i64, b: i64) -> Result<i64, Reason>
     ensures { result ≡ added a b }
 {
-    sum(split(a), split(b))
+    a.checked_add(b).ok_or(Reason::Outside)
 }
 
-pub fn sub(a: i64, b: i64) -> Answer
+pub fn sub(a: i64, b: i64) -> Result<i64, Reason>
     ensures { result ≡ subtracted a b }
 {
-    let q = split(b);
-    sum(
-        split(a),
-        Parts {
-            neg: !q.neg,
-            mag: q.mag,
-        },
-    )
+    a.checked_sub(b).ok_or(Reason::Outside)
 }
 
-pub fn mul(a: i64, b: i64) -> Answer
+pub fn mul(a: i64, b: i64) -> Result<i64, Reason>
     ensures { result ≡ multiplied a b }
 {
     let p = split(a);
@@ -186,7 +148,7 @@ fn below_zero(s: bool, t: bool, m: u64) -> u64
 }
 
 // The quotient, down to the next whole number: below zero the magnitude goes up. One division, of m − 1 there, does both.
-pub fn div(a: i64, b: i64) -> Answer
+pub fn div(a: i64, b: i64) -> Result<i64, Reason>
     ensures { result ≡ divided a b }
 {
     let p = split(a);
@@ -194,14 +156,14 @@ pub fn div(a: i64, b: i64) -> Answer
     let m = p.mag;
     let n = q.mag;
     if n == 0 {
-        return Answer::ZeroDivisor;
+        return Err(Reason::ZeroDivisor);
     }
     let up = below_zero(p.neg, q.neg, m);
     join(p.neg != q.neg, (m - up) / n + up)
 }
 
 // The remainder, with the divisor's sign: what the quotient leaves.
-pub fn rem(a: i64, b: i64) -> Answer
+pub fn rem(a: i64, b: i64) -> Result<i64, Reason>
     ensures { result ≡ remainder a b }
 {
     let p = split(a);
@@ -209,7 +171,7 @@ pub fn rem(a: i64, b: i64) -> Answer
     let m = p.mag;
     let n = q.mag;
     if n == 0 {
-        return Answer::ZeroDivisor;
+        return Err(Reason::ZeroDivisor);
     }
     let less = below_zero(p.neg, q.neg, m);
     let left = (m - less) % n;
@@ -220,29 +182,25 @@ pub fn rem(a: i64, b: i64) -> Answer
 }
 
 // 1 for yes, 0 for no.
-fn one_or_zero(yes: bool) -> Answer
+fn one_or_zero(yes: bool) -> Result<i64, Reason>
     ensures { result ≡ truth yes }
 {
-    if yes {
-        Answer::Value(1)
-    } else {
-        Answer::Value(0)
-    }
+    Ok(if yes { 1 } else { 0 })
 }
 
-pub fn lt(a: i64, b: i64) -> Answer
+pub fn lt(a: i64, b: i64) -> Result<i64, Reason>
     ensures { result ≡ less a b }
 {
     one_or_zero(a < b)
 }
 
-pub fn le(a: i64, b: i64) -> Answer
+pub fn le(a: i64, b: i64) -> Result<i64, Reason>
     ensures { result ≡ at_most a b }
 {
     one_or_zero(a <= b)
 }
 
-pub fn eq(a: i64, b: i64) -> Answer
+pub fn eq(a: i64, b: i64) -> Result<i64, Reason>
     ensures { result ≡ equal a b }
 {
     one_or_zero(a == b)

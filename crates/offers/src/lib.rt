@@ -2,72 +2,74 @@
 #![tactic(auto)]
 
 ghost use Rattle.std.specs.Prelude.{◌≡◌, ◌*◌, ◌+◌, ◌≤◌, ◌<◌, length};
+ghost use Rattle.refusal.specs.Numbers.{code_of};
 ghost use Rattle.machine.specs.State.{room};
 ghost use Rattle.layout.specs.Record as layout;
 ghost use Rattle.layout.specs.Record.{dec_raw, encode, decode, with_num, bound_f, next_f, row_at, slot_at, change};
 ghost use Rattle.offers.specs.Numbers.{reading_row, reading_raw, progress_row, progress_raw, waiting_slot, collect_row, collect_raw, collected_raw};
 
 use limits::{Bound, Queue};
+use refusal::Refusal;
 
-fn reading_row(r: &[u8], t: u32) -> u32
+fn check_reading_row(r: &[u8], t: u32) -> Result<(), Refusal>
     requires { length r.now ≡ 256 }
-    ensures { result ≡ reading_row (dec_raw r.now) t }
+    ensures { code_of result ≡ reading_row (dec_raw r.now) t }
 {
     let op = layout::byte_at(r, layout::OP);
     if !operators::is_in(operators::group_of(op)) {
-        return 7;
+        return Err(Refusal::NoInput);
     }
     let bound = layout::word_at(r, layout::BOUND);
     if (t as u64) < bound {
-        return 8;
+        return Err(Refusal::TooEarly);
     }
     let count = layout::byte_at(r, layout::COUNT);
     if Queue::new(count).is_full() {
-        return 9;
+        return Err(Refusal::Full);
     }
-    0
+    Ok(())
 }
 
-// The number that an offer of a reading gets, after 15.
-pub fn reading_number(state: &[u8], n: usize, stream: u32, t: u32) -> u32
+// Whether an offer of a reading is taken, after the test of number 15.
+pub fn check_reading(state: &[u8], n: usize, stream: u32, t: u32) -> Result<(), Refusal>
     requires { n * 256 ≤ length state.now }
-    ensures { result ≡ reading_raw n (decode n state.now) stream t }
+    ensures { code_of result ≡ reading_raw n (decode n state.now) stream t }
 {
     let i = stream as usize;
     if n <= i {
-        return 7;
+        return Err(Refusal::NoInput);
     }
-    reading_row(layout::row_at(state, i), t)
+    check_reading_row(layout::row_at(state, i), t)
 }
 
-fn progress_row(r: &[u8], y: u64) -> u32
+fn check_progress_row(r: &[u8], y: u64) -> Result<(), Refusal>
     requires { length r.now ≡ 256 }
-    ensures { result ≡ progress_row (dec_raw r.now) y }
+    ensures { code_of result ≡ progress_row (dec_raw r.now) y }
 {
     let op = layout::byte_at(r, layout::OP);
     if !operators::is_in(operators::group_of(op)) {
-        return 7;
+        return Err(Refusal::NoInput);
     }
     if !Bound::new(y).fits() {
-        return 10;
+        return Err(Refusal::PastHorizon);
     }
     let bound = layout::word_at(r, layout::BOUND);
     if y < bound {
-        return 8;
+        return Err(Refusal::TooEarly);
     }
-    0
+    Ok(())
 }
 
-// The number that an offer of progress gets, after 15.
-pub fn progress_number(state: &[u8], n: usize, stream: u32, y: u64) -> u32
+// Whether an offer of progress is taken, after the test of number 15.
+pub fn check_progress(state: &[u8], n: usize, stream: u32, y: u64) -> Result<(), Refusal>
     requires { n * 256 ≤ length state.now }
-    ensures { result ≡ progress_raw n (decode n state.now) stream y }
+    ensures { code_of result ≡ progress_raw n (decode n state.now) stream y }
 {
     let i = stream as usize;
     if n <= i {
-        return 7;
+        return Err(Refusal::NoInput);
     }
-    progress_row(layout::row_at(state, i), y)
+    check_progress_row(layout::row_at(state, i), y)
 }
 
 // Progress writes the bound and nothing more.
@@ -88,30 +90,31 @@ fn waiting_slot(r: &[u8]) -> usize
     queue::first_from(r, queue::count(r), layout::word_at(r, layout::NEXT))
 }
 
-fn collect_row(r: &[u8]) -> u32
+fn check_collect_row(r: &[u8]) -> Result<(), Refusal>
     requires { length r.now ≡ 256 }
-    ensures { result ≡ collect_row (dec_raw r.now) }
+    ensures { code_of result ≡ collect_row (dec_raw r.now) }
 {
     let out = layout::byte_at(r, layout::OUT);
     if out == 0 {
-        return 13;
+        return Err(Refusal::NoOutput);
     }
     if waiting_slot(r) < queue::count(r) {
-        return 0;
+        Ok(())
+    } else {
+        Err(Refusal::Nothing)
     }
-    14
 }
 
-// The number that a collect gets, after 15.
-pub fn collect_number(state: &[u8], n: usize, stream: u32) -> u32
+// Whether a collect hands out an event, after the test of number 15.
+pub fn check_collect(state: &[u8], n: usize, stream: u32) -> Result<(), Refusal>
     requires { n * 256 ≤ length state.now }
-    ensures { result ≡ collect_raw n (decode n state.now) stream }
+    ensures { code_of result ≡ collect_raw n (decode n state.now) stream }
 {
     let i = stream as usize;
     if n <= i {
-        return 13;
+        return Err(Refusal::NoOutput);
     }
-    collect_row(layout::row_at(state, i))
+    check_collect_row(layout::row_at(state, i))
 }
 
 // Where the oldest waiting event of stream i lies.

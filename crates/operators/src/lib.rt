@@ -57,20 +57,14 @@ pub fn group_of(number: u64) -> Group
 pub fn is_window(number: u64) -> bool
     ensures { result ≡ is_window (group_of number) }
 {
-    match number {
-        28..=30 => true,
-        _ => false,
-    }
+    matches!(number, 28..=30)
 }
 
 // last, delay, and the signal forms
 pub fn is_keeper(number: u64) -> bool
     ensures { result ≡ is_keeper (group_of number) }
 {
-    match number {
-        18..=27 => true,
-        _ => false,
-    }
+    matches!(number, 18..=27)
 }
 
 // set, plus, and the windows
@@ -87,160 +81,77 @@ pub fn takes_value(number: u64) -> bool
 pub fn can_lack(number: u64) -> bool
     ensures { result ≡ lacks_at number }
 {
-    match number {
-        6..=12 => true,
-        20..=24 => true,
-        28 => true,
-        _ => false,
-    }
+    matches!(number, 6..=12 | 20..=24 | 28)
 }
 
 // Whether the width k of a window keeps its rule; of any other operator there is none.
+#[tactic(auto, unfolding(crate::specs::Windows::width_ok))]
 pub fn width_ok(number: u64, k: u64) -> bool
     ensures { result ≡ width_ok number k }
 {
-    if !is_window(number) {
-        return true;
-    }
-    if k == 0 {
-        return false;
-    }
-    k <= Plan::WIDTH
+    !is_window(number) || (k != 0 && k <= Plan::WIDTH)
 }
 
 pub fn is_present(g: Group) -> bool
     ensures { result ≡ is_present g }
 {
-    match g {
-        Group::Absent => false,
-        Group::Input => true,
-        Group::Plain => true,
-        Group::One => true,
-        Group::Two => true,
-        Group::Last => true,
-        Group::Delay => true,
-        Group::Signal => true,
-        Group::Window => true,
-    }
+    !matches!(g, Group::Absent)
 }
 
 pub fn is_in(g: Group) -> bool
     ensures { result ≡ is_in g }
 {
-    match g {
-        Group::Absent => false,
-        Group::Input => true,
-        Group::Plain => false,
-        Group::One => false,
-        Group::Two => false,
-        Group::Last => false,
-        Group::Delay => false,
-        Group::Signal => false,
-        Group::Window => false,
-    }
+    matches!(g, Group::Input)
 }
 
 pub fn takes_first(g: Group) -> bool
     ensures { result ≡ takes_first g }
 {
-    match g {
-        Group::Absent => false,
-        Group::Input => false,
-        Group::Plain => false,
-        Group::One => true,
-        Group::Two => true,
-        Group::Last => true,
-        Group::Delay => true,
-        Group::Signal => true,
-        Group::Window => true,
-    }
+    matches!(
+        g,
+        Group::One | Group::Two | Group::Last | Group::Delay | Group::Signal | Group::Window
+    )
 }
 
 pub fn takes_second(g: Group) -> bool
     ensures { result ≡ takes_second g }
 {
-    match g {
-        Group::Absent => false,
-        Group::Input => false,
-        Group::Plain => false,
-        Group::One => false,
-        Group::Two => true,
-        Group::Last => true,
-        Group::Delay => true,
-        Group::Signal => true,
-        Group::Window => false,
-    }
+    matches!(g, Group::Two | Group::Last | Group::Delay | Group::Signal)
 }
 
 pub fn delays_first(g: Group) -> bool
     ensures { result ≡ delays_first g }
 {
-    match g {
-        Group::Absent => false,
-        Group::Input => false,
-        Group::Plain => false,
-        Group::One => false,
-        Group::Two => false,
-        Group::Last => true,
-        Group::Delay => true,
-        Group::Signal => false,
-        Group::Window => false,
-    }
+    matches!(g, Group::Last | Group::Delay)
 }
 
 // Whether the value k keeps its rule: 0 where it is not used.
+#[tactic(auto, unfolding(crate::specs::Rules::value_ok))]
 pub fn value_ok(used: bool, k: u64) -> bool
     ensures { result ≡ value_ok used k }
 {
-    if used { true } else { k == 0 }
+    used || k == 0
 }
 
 // The fields of an operator without arguments. Here and below, out is whether the field out keeps its rule.
 fn none_ok(a: u64, b: u64, k: u64, out: bool) -> bool
     ensures { result ≡ (eqb a 0 && (eqb b 0 && (eqb k 0 && out))) }
 {
-    if a != 0 {
-        return false;
-    }
-    if b != 0 {
-        return false;
-    }
-    if k != 0 {
-        return false;
-    }
-    out
+    a == 0 && b == 0 && k == 0 && out
 }
 
 // The fields of an operator with one argument.
 fn one_ok(n: u64, op: u64, a: u64, b: u64, k: u64, out: bool) -> bool
     ensures { result ≡ (ltb a n && (eqb b 0 && (value_ok (uses_k op) k && out))) }
 {
-    if n <= a {
-        return false;
-    }
-    if b != 0 {
-        return false;
-    }
-    if !value_ok(takes_value(op), k) {
-        return false;
-    }
-    out
+    a < n && b == 0 && value_ok(takes_value(op), k) && out
 }
 
 // The fields of an operator with two arguments.
 fn two_ok(n: u64, a: u64, b: u64, k: u64, out: bool) -> bool
     ensures { result ≡ (ltb a n && (ltb b n && (eqb k 0 && out))) }
 {
-    if n <= a {
-        return false;
-    }
-    if n <= b {
-        return false;
-    }
-    if k != 0 {
-        return false;
-    }
-    out
+    a < n && b < n && k == 0 && out
 }
 
 // Whether the fields of a stream of a plan of n streams keep the rules.

@@ -2,7 +2,7 @@
 use Prim.Native.Nat.{ℕ, zero, suc, ◌+◌, ◌≤◌, ◌<◌}
 use mathlib.Core.Path.{◌≡◌, refl, sym, ap, ap₂, ◌∙◌}
 use mathlib.Core.Bool.{Bool, true, false, cond}
-use mathlib.Core.Option.{Option, none, some}
+use Rattle.std.specs.Prelude.{Option, None, Some}
 use mathlib.Core.List.{List, [], ◌∷◌, ◌++◌, map, append-nil, append_assoc}
 use native.Mathlib.Omega.{arith}
 use native.Mathlib.Decide.{ℕ_discrete}
@@ -53,13 +53,13 @@ module _ (ds : List Declared) (rd : Streams) (i : ℕ) where
   -- a reading of another input
   given_other : (s t : ℕ) (b : Bool) (o : Option ℤ) → (s ≡ i → ⊥) → brought i (cond b (given s t o) []) ≡ []
   given_other s t false o n = refl
-  given_other s t true none n = refl
-  given_other s t true (some v) n = rw (ne_eqb s i n)
+  given_other s t true None n = refl
+  given_other s t true (Some v) n = rw (ne_eqb s i n)
 
   given_same : (s t : ℕ) (b : Bool) (o : Option ℤ) → T b → s ≡ i → brought i (cond b (given s t o) []) ≡ here t o
   given_same s t false o h e = absurd h
-  given_same s t true none h e = refl
-  given_same s t true (some v) h e = rw (eq-eqb s i e)
+  given_same s t true None h e = refl
+  given_same s t true (Some v) h e = rw (eq-eqb s i e)
 
   readings_past : (t s n : ℕ) → i < s → brought i (readings_at ds rd t s n) ≡ []
   readings_past t s zero l = refl
@@ -94,15 +94,15 @@ module _ (ds : List Declared) (rd : Streams) (i : ℕ) where
 order_brings : (ds : List Declared) (rd : Streams) (n y i : ℕ) → IsInput ds i → brought i (order_of ds rd n y) ≡ events (rd i) n
 order_brings ds rd n y i h =
     let to = known_after (λ i. 0) (trace_to ds rd n) in
-    brought_append i (trace_to ds rd n) (progress_at ds (λ s t. none) to y 0 (length ds)) ∙ ap₂ ◌++◌ (trace_brings ds rd i n h) (progress_none ds (λ s t. none) i to y 0 (length ds)) ∙ append-nil (events (rd i) n)
+    brought_append i (trace_to ds rd n) (progress_at ds (λ s t. None) to y 0 (length ds)) ∙ ap₂ ◌++◌ (trace_brings ds rd i n h) (progress_none ds (λ s t. None) i to y 0 (length ds)) ∙ append-nil (events (rd i) n)
 
 order_bounds : (ds : List Declared) (rd : Streams) (n y i : ℕ) → IsInput ds i → y ≤ bound_from 0 i (map call_of (order_of ds rd n y))
 order_bounds ds rd n y i h =
     let to = known_after (λ i. 0) (trace_to ds rd n) in
     let l = h.0 in
     let e = bound_known (λ i. 0) i (order_of ds rd n y) in
-    let k = ap (λ (f : ℕ → ℕ). f i) (known_append (λ i. 0) (trace_to ds rd n) (progress_at ds (λ s t. none) to y 0 (length ds))) in
-    omega (arith, e, k, progress_told ds (λ s t. none) to y 0 (length ds) i (omega arith) (omega arith) h.1 refl)
+    let k = ap (λ (f : ℕ → ℕ). f i) (known_append (λ i. 0) (trace_to ds rd n) (progress_at ds (λ s t. None) to y 0 (length ds))) in
+    omega (arith, e, k, progress_told ds (λ s t. None) to y 0 (length ds) i (omega arith) (omega arith) h.1 refl)
 
 -- Of every plan that load takes, every buffer and whatever readings: the trace that `./order` makes of those below stamp n, with
 -- progress to y at its end, is replayed without a loss.

@@ -3,7 +3,7 @@
 use Prim.Native.Nat.{ℕ, zero, suc, ◌+◌, ◌≤◌, ◌<◌}
 use mathlib.Core.Path.{◌≡◌, refl, sym, subst}
 use mathlib.Core.Bool.{Bool, true, false, not, cond, ◌&&◌}
-use mathlib.Core.Option.{Option, none, some}
+use Rattle.std.specs.Prelude.{Option, None, Some}
 use mathlib.Core.List.{List, [], ◌∷◌, ◌++◌}
 use native.Mathlib.Omega.{arith}
 use native.Mathlib.Decide.{ℕ_discrete}
@@ -122,8 +122,8 @@ module _ (ds : List Declared) (rd : Streams) where
           → (((j : ℕ) → IsInput ds j → m ≤ raised to s (suc t) j) → ((j : ℕ) → suc s ≤ j → IsInput ds j → T (has (rd j t)) → (raised to s (suc t) j ≤ suc m) × (raised to s (suc t) j ≤ t)) → Ordered ds (raised to s (suc t)) (readings_at ds rd t (suc s) n))
           → Ordered ds to (readings_at ds rd t (suc s) n) → Ordered ds to (cond b (given s t o) [] ++ readings_at ds rd t (suc s) n)
       go false i o h x y = y
-      go true i none h x y = y
-      go true i (some v) h x y =
+      go true i None h x y = y
+      go true i (Some v) h x y =
           let u = h tt tt in let a = u.0 in let b = u.1 in
           (i tt, b, (λ j k. omega (arith, low j k)), x (λ j k. raised_each (λ z. m ≤ z) to s (suc t) j (λ q. omega (arith, low s (i tt))) (low j k)) (λ j k p q. let z = high j (omega arith) p q in let e = raised_other to s (suc t) j (λ r. omega arith) in rw e z))
 
@@ -135,8 +135,8 @@ module _ (ds : List Declared) (rd : Streams) where
     where
       go : (b : Bool) (o : Option ℤ) → P (known_after (raised to s (suc t)) (readings_at ds rd t (suc s) n) j) → P (known_after to (readings_at ds rd t (suc s) n) j) → P (known_after to (cond b (given s t o) [] ++ readings_at ds rd t (suc s) n) j)
       go false o x y = y
-      go true none x y = y
-      go true (some v) x y = x
+      go true None x y = y
+      go true (Some v) x y = x
 
   readings_told : (to : ℕ → ℕ) (t s n j : ℕ) → s ≤ j → j < s + n → T (is_in ds j) → T (has (rd j t)) → t ≤ known_after to (readings_at ds rd t s n) j
   readings_told to t s zero j l m i e = absurd (omega arith)
@@ -146,11 +146,11 @@ module _ (ds : List Declared) (rd : Streams) where
     where
       go : (b : Bool) → (s ≡ j → T b) → (o : Option ℤ) → (s ≡ j → T (has o)) → Dec (s ≡ j) → (suc s ≤ j → t ≤ known_after (raised to s (suc t)) (readings_at ds rd t (suc s) n) j) → (suc s ≤ j → t ≤ known_after to (readings_at ds rd t (suc s) n) j)
           → t ≤ known_after to (cond b (given s t o) [] ++ readings_at ds rd t (suc s) n) j
-      go true f (some v) g (yes q) x y = readings_each (λ k. t ≤ k) (raised to s (suc t)) t (suc s) n j (omega arith) (let z = raised_there to s (suc t) j q in omega arith)
-      go true f none g (yes q) x y = absurd (g q)
+      go true f (Some v) g (yes q) x y = readings_each (λ k. t ≤ k) (raised to s (suc t)) t (suc s) n j (omega arith) (let z = raised_there to s (suc t) j q in omega arith)
+      go true f None g (yes q) x y = absurd (g q)
       go false f o g (yes q) x y = absurd (f q)
-      go true f (some v) g (no d) x y = x (omega arith)
-      go true f none g (no d) x y = y (omega arith)
+      go true f (Some v) g (no d) x y = x (omega arith)
+      go true f None g (no d) x y = y (omega arith)
       go false f o g (no d) x y = y (omega arith)
 
   -- ## A stamp
@@ -219,4 +219,4 @@ module _ (ds : List Declared) (rd : Streams) where
 pub order_ordered : (ds : List Declared) (rd : Streams) (n y : ℕ) → n ≤ horizon → y ≤ horizon → InOrder ds (order_of ds rd n y)
 order_ordered ds rd n y h k =
     let to = known_after (λ i. 0) (trace_to ds rd n) in
-    ordered_append ds (λ i. 0) (trace_to ds rd n) (progress_at ds (λ s t. none) to y 0 (length ds)) (trace_even ds rd n h).0 (progress_ordered ds (λ s t. none) to y 0 (length ds) k (omega arith))
+    ordered_append ds (λ i. 0) (trace_to ds rd n) (progress_at ds (λ s t. None) to y 0 (length ds)) (trace_even ds rd n h).0 (progress_ordered ds (λ s t. None) to y 0 (length ds) k (omega arith))

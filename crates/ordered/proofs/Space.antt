@@ -3,7 +3,7 @@
 use Prim.Native.Nat.{ℕ, suc, ◌+◌, ◌-◌, ◌≤◌, ◌<◌}
 use mathlib.Core.Path.{◌≡◌, refl, sym, ◌∙◌}
 use mathlib.Core.Logic.{◌⊎◌, inl, inr}
-use mathlib.Core.Option.{none}
+use Rattle.std.specs.Prelude.{None}
 use mathlib.Core.List.{List, [], ◌∷◌}
 use native.Mathlib.Omega.{arith}
 use lib.Dec.{T, leb→le}
@@ -53,7 +53,7 @@ module _ (ds : List Declared) (keeps : Keeps ds) (cs : List Call) (typed : AllTy
           who : ((r : ℕ) × (r < length M) × T (reads_it s (cell_at M r).eqn) × ((cell_at M r).bound ≤ e.stamp)) ⊎ (T (cell_at M s).out × ((cell_at M s).next ≤ e.stamp)) → m ≤ e.stamp
           who (inl x) = let c = x.3 in omega (arith, all x.0 x.1)
           who (inr x) =
-              let n : found (e ∷ es) e.stamp ≡ none = rw q at (none_waits ds keeps cs typed S sol rest s x.0 e.stamp x.1) in
+              let n : found (e ∷ es) e.stamp ≡ None = rw q at (none_waits ds keeps cs typed S sol rest s x.0 e.stamp x.1) in
               let z : ◌≡◌ {A = ℕ} 0 1 = cc (eqb_self e.stamp) in absurd (omega arith)
 
   -- no reading of it is refused 9

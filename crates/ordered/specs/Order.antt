@@ -1,6 +1,5 @@
 -- Believe: the trace that `./order` makes of readings, by rising stamp and then by input, and that its replay loses nothing.
-use Rattle.std.specs.Prelude.{ℕ, zero, suc, ◌≤◌, ◌≡◌, Bool, not, cond, ◌&&◌, List, [], ◌∷◌, ◌++◌, ltb, ℤ, length}
-use Rattle.std.proofs.Math.Option.{Option, none, some}
+use Rattle.std.specs.Prelude.{ℕ, zero, suc, ◌≤◌, ◌≡◌, Bool, not, cond, ◌&&◌, List, [], ◌∷◌, ◌++◌, ltb, ℤ, length, Option, None, Some}
 use Rattle.meaning.specs.Plan.{eqn_at, is_input}
 use Rattle.meaning.specs.Events.{Streams, events, has}
 use Rattle.machine.specs.State.{Declared, declared_plan}
@@ -22,8 +21,8 @@ is_in ds s = is_input (eqn_at (declared_plan ds) s)
 
 -- a reading, if there is one
 abbrev pub given : (s t : ℕ) → Option ℤ → List Record
-given s t none = []
-given s t (some v) = Reading s t v ∷ []
+given s t None = []
+given s t (Some v) = Reading s t v ∷ []
 
 -- readings with progress before them, if there are any
 abbrev pub led : (progress readings : List Record) → List Record
@@ -56,7 +55,7 @@ module _ (ds : List Declared) (rd : Streams) where
 
 -- the trace of the readings below stamp n, with progress of all inputs to y at the end
 abbrev pub order_of : List Declared → Streams → (n y : ℕ) → List Record
-order_of ds rd n y = trace_to ds rd n ++ progress_at ds (λ s t. none) (known_after (λ i. 0) (trace_to ds rd n)) y 0 (length ds)
+order_of ds rd n y = trace_to ds rd n ++ progress_at ds (λ s t. None) (known_after (λ i. 0) (trace_to ds rd n)) y 0 (length ds)
 
 -- what is printed of it comes from a replay that loses nothing
 pub record Lossless (ds : List Declared) (rd : Streams) (n y : ℕ) (printed : List ℕ) : Type 1 where

@@ -19,7 +19,7 @@ use mir.Syntax.{w64}
 use mir.Val.{to_z}
 use Rattle.meaning.specs.Plan.{Fold, wsum, wmin, wmax, Eqn, input, nil, unit, one, two, last, delay, signal, window}
 use Rattle.meaning.specs.Arguments.{arg_a, arg_b}
-use Rattle.meaning.specs.Missing.{Reason, outside, divisor, said_for, can_lack, count_limit}
+use Rattle.meaning.specs.Missing.{Reason, Outside, ZeroDivisor, said_for, can_lack, count_limit}
 use Rattle.machine.specs.State.{Cell, Kept}
 use Rattle.machine.specs.Counting.{tally_of, sum_tally, tallied}
 use Rattle.operators.specs.Operators.{lacks_at}
@@ -62,10 +62,10 @@ module _ (n i : ℕ) (e : Eqn) (k : Kept) (y x : ℕ) (st : Raws) where
   counted_own l = go (can_lack e)
     where
       m : ℕ
-      m = missed_raw outside n i e k y x st
+      m = missed_raw Outside n i e k y x st
 
       z : ℕ
-      z = missed_raw divisor n i e k y x st
+      z = missed_raw ZeroDivisor n i e k y x st
 
       go : (b : Bool) → own_in i (cond b (change i (counted_row m z) st) st) ≡ own_in i st
       go true = ap look_of (get_or-set_same st.rows i (counted_row m z (row_at st i)) no_raw l) ∙ counted_look m z (row_at st i)
@@ -76,10 +76,10 @@ module _ (n i : ℕ) (e : Eqn) (k : Kept) (y x : ℕ) (st : Raws) where
   counted_ok h ok = go (can_lack e)
     where
       m : ℕ
-      m = missed_raw outside n i e k y x st
+      m = missed_raw Outside n i e k y x st
 
       z : ℕ
-      z = missed_raw divisor n i e k y x st
+      z = missed_raw ZeroDivisor n i e k y x st
 
       go : (b : Bool) → RawsOk n (cond b (change i (counted_row m z) st) st)
       go true = change_ok n st i (counted_row m z) ok (counted_wide m z (row_at st i) (row_ok_lem n st i ok h))
@@ -101,18 +101,18 @@ module _ (n i : ℕ) (e : Eqn) (k : Kept) (y x : ℕ) (s : List ℕ) (fits : n *
   counted_other q = rw q (sym (encode_decode n s fits b))
 
   -- none is missing now
-  pub counted_none_is : i < n → missed_raw outside n i e k y x (decode n s) ≡ 0 → missed_raw divisor n i e k y x (decode n s) ≡ 0 → s ≡ encode n (counted_raw n i e k y x (decode n s))
+  pub counted_none_is : i < n → missed_raw Outside n i e k y x (decode n s) ≡ 0 → missed_raw ZeroDivisor n i e k y x (decode n s) ≡ 0 → s ≡ encode n (counted_raw n i e k y x (decode n s))
   unfolding counted_raw
   counted_none_is h p q = sym (ap (encode n) (go (can_lack e)) ∙ encode_decode n s fits b)
     where
-      row : counted_row (missed_raw outside n i e k y x (decode n s)) (missed_raw divisor n i e k y x (decode n s)) (row_at (decode n s) i) ≡ row_at (decode n s) i
+      row : counted_row (missed_raw Outside n i e k y x (decode n s)) (missed_raw ZeroDivisor n i e k y x (decode n s)) (row_at (decode n s) i) ≡ row_at (decode n s) i
       row = ap₂ (λ (u w : ℕ). counted_row u w (row_at (decode n s) i)) p q ∙ counted_none (row_at (decode n s) i) (row_ok_lem n (decode n s) i (raws_ok n s b) h)
 
-      go : (c : Bool) → cond c (change i (counted_row (missed_raw outside n i e k y x (decode n s)) (missed_raw divisor n i e k y x (decode n s))) (decode n s)) (decode n s) ≡ decode n s
+      go : (c : Bool) → cond c (change i (counted_row (missed_raw Outside n i e k y x (decode n s)) (missed_raw ZeroDivisor n i e k y x (decode n s))) (decode n s)) (decode n s) ≡ decode n s
       go true = ap (λ (l : List Raw). record { rows = l; spare = (decode n s).spare }) (ap (set (decode n s).rows i) row ∙ set-get_or (decode n s).rows i no_raw)
       go false = refl
 
-  pub counted_some : can_lack e ≡ true → (s₁ : List ℕ) (u w : ℕ) → u ≡ missed_raw outside n i e k y x (decode n s) → w ≡ missed_raw divisor n i e k y x (decode n s)
+  pub counted_some : can_lack e ≡ true → (s₁ : List ℕ) (u w : ℕ) → u ≡ missed_raw Outside n i e k y x (decode n s) → w ≡ missed_raw ZeroDivisor n i e k y x (decode n s)
       → s₁ ≡ encode n (change i (counted_row u w) (decode n s)) → s₁ ≡ encode n (counted_raw n i e k y x (decode n s))
   unfolding counted_raw
   counted_some q s₁ u w p r h = h ∙ rw (q, p, r)
@@ -147,16 +147,16 @@ missed_other q n i op k y x st h =
 
 -- a window's, by its fold
 pub summed_least : (q : Reason) {f : code.Fold} (m : ℕ) → f ≡ Least → count_in q (of 0 0) ≡ summed_for q (folding f) m
-summed_least outside m e = rw e
-summed_least divisor m e = refl
+summed_least Outside m e = rw e
+summed_least ZeroDivisor m e = refl
 
 pub summed_greatest : (q : Reason) {f : code.Fold} (m : ℕ) → f ≡ Greatest → count_in q (of 0 0) ≡ summed_for q (folding f) m
-summed_greatest outside m e = rw e
-summed_greatest divisor m e = refl
+summed_greatest Outside m e = rw e
+summed_greatest ZeroDivisor m e = refl
 
 pub summed_sum : (q : Reason) {f : code.Fold} (c m : ℕ) → f ≡ Sum → c ≡ m → count_in q (of c 0) ≡ summed_for q (folding f) m
-summed_sum outside c m e d = rw e d
-summed_sum divisor c m e d = refl
+summed_sum Outside c m e d = rw e d
+summed_sum ZeroDivisor c m e d = refl
 
 -- ---- where no event is passed nothing is missing
 
@@ -173,10 +173,10 @@ no_sum k x w (e ∷ es) h = go (ltb e.stamp x) h
     go false h = refl
 
 summed_none : (q : Reason) (f : Fold) (m : ℕ) → m ≡ 0 → summed_for q f m ≡ 0
-summed_none outside wsum m e = e
-summed_none outside wmin m e = refl
-summed_none outside wmax m e = refl
-summed_none divisor f m e = refl
+summed_none Outside wsum m e = e
+summed_none Outside wmin m e = refl
+summed_none Outside wmax m e = refl
+summed_none ZeroDivisor f m e = refl
 
 none_tallied : (f : ℕ → Bool) (es : List Event) → es ≡ [] → tally_of f es ≡ 0
 unfolding tally_of

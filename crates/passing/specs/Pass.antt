@@ -6,7 +6,7 @@ use Rattle.meaning.specs.Plan.{Fold, wsum, wmin, wmax, Eqn, input, nil, unit, on
 use Rattle.machine.specs.State.{Cell, Kept}
 use Rattle.machine.specs.Step.{drop_below}
 use Rattle.machine.specs.Counting.{tallied}
-use Rattle.meaning.specs.Missing.{Reason, outside, divisor, can_lack}
+use Rattle.meaning.specs.Missing.{Reason, Outside, ZeroDivisor, can_lack}
 use Rattle.meaning.specs.Arguments.{arg_a, arg_b}
 use Rattle.operators.specs.Operators.{value_of}
 use Rattle.operators.specs.Windows.{is_window_eqn}
@@ -40,10 +40,10 @@ fold_of (window f k a) = f
 
 -- only a sum lacks a value, and never for a divisor
 abbrev pub summed_for : Reason → Fold → ℕ → ℕ
-summed_for outside wsum m = m
-summed_for outside wmin m = 0
-summed_for outside wmax m = 0
-summed_for divisor f m = 0
+summed_for Outside wsum m = m
+summed_for Outside wmin m = 0
+summed_for Outside wmax m = 0
+summed_for ZeroDivisor f m = 0
 
 -- a window slides as its bound goes from y to x; nothing else does
 unfoldable pub slid_raw : ℕ → ℕ → Eqn → (y x : ℕ) → Raws → Raws
@@ -78,7 +78,7 @@ Quiet n (window f k a) y x st = passing y x (other_in n a st) ≡ []
 -- its record with them counted, if its events can be missing
 unfoldable pub counted_raw : ℕ → ℕ → Eqn → Kept → (y x : ℕ) → Raws → Raws
 unfolding missing_row counted_row
-counted_raw n i e k y x st = cond (can_lack e) (change i (counted_row (missed_raw outside n i e k y x st) (missed_raw divisor n i e k y x st)) st) st
+counted_raw n i e k y x st = cond (can_lack e) (change i (counted_row (missed_raw Outside n i e k y x st) (missed_raw ZeroDivisor n i e k y x st)) st) st
 
 -- what stream i keeps of the stamps that its bound passes, from y to x: those below z are counted, and a window slides
 unfoldable pub passed_raw : ℕ → ℕ → Eqn → Kept → (y x z : ℕ) → Raws → Raws

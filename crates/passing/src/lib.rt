@@ -52,11 +52,7 @@ fn summed(state: &[u8], n: usize, i: usize, f: Fold, k: usize, a: usize, y: u64,
             outside: sliding::missing(state, n, i, k, a, y, x) as u64,
             divisors: 0,
         },
-        Fold::Least => Tally {
-            outside: 0,
-            divisors: 0,
-        },
-        Fold::Greatest => Tally {
+        Fold::Least | Fold::Greatest => Tally {
             outside: 0,
             divisors: 0,
         },
@@ -92,20 +88,9 @@ fn quiet(state: &[u8], n: usize, op: Op, y: u64, x: u64) -> bool
     ensures { result ≡ true → Quiet n (equation op) y x (decode n state.now) }
 {
     match op {
-        Op::In => true,
-        Op::Nil => true,
-        Op::Unit => true,
-        Op::One(_, a) => none_of(state, n, a, y, x),
-        Op::Two(_, a, _) => none_of(state, n, a, y, x),
-        Op::Last(_, _) => true,
-        Op::Delay(_, _) => true,
-        Op::Signal(_, a, b) => {
-            if none_of(state, n, a, y, x) {
-                return none_of(state, n, b, y, x);
-            }
-            false
-        }
-        Op::Window(_, _, a) => none_of(state, n, a, y, x),
+        Op::In | Op::Nil | Op::Unit | Op::Last(_, _) | Op::Delay(_, _) => true,
+        Op::One(_, a) | Op::Two(_, a, _) | Op::Window(_, _, a) => none_of(state, n, a, y, x),
+        Op::Signal(_, a, b) => none_of(state, n, a, y, x) && none_of(state, n, b, y, x),
     }
 }
 

@@ -14,12 +14,7 @@ fn waits(r: &[u8], s: u64, t: u64) -> bool
     requires { length r.now ≡ 256 }
     ensures { result ≡ waits_row s t (dec_raw r.now) }
 {
-    let reader = readers::reads(r, s);
-    if !reader {
-        return false;
-    }
-    let bound = layout::word_at(r, layout::BOUND);
-    bound <= t
+    readers::reads(r, s) && layout::word_at(r, layout::BOUND) <= t
 }
 
 // Whether some reader of stream s waits for an event at t.
@@ -28,12 +23,10 @@ fn some_waits(state: &[u8], n: usize, s: u64, t: u64) -> bool
     ensures one { result ≡ true → SomeReaderWaits (state_of n state.now) s t }
     ensures all { SomeReaderWaits (state_of n state.now) s t → result ≡ true }
 {
-    let mut i = 0;
-    while i < n {
+    for i in 0..n {
         if waits(layout::row_at(state, i), s, t) {
             return true;
         }
-        i += 1;
     }
     false
 }
@@ -43,12 +36,7 @@ fn uncollected(r: &[u8], t: u64) -> bool
     requires { length r.now ≡ 256 }
     ensures { result ≡ uncollected_row t (dec_raw r.now) }
 {
-    let out = layout::byte_at(r, layout::OUT);
-    if out == 0 {
-        return false;
-    }
-    let next = layout::word_at(r, layout::NEXT);
-    next <= t
+    layout::byte_at(r, layout::OUT) != 0 && layout::word_at(r, layout::NEXT) <= t
 }
 
 // How many of the held events of stream i, from the oldest on, nobody waits for.
@@ -58,8 +46,7 @@ fn free(state: &[u8], n: usize, i: usize) -> usize
 {
     let r = layout::row_at(state, i);
     let m = queue::count(r);
-    let mut j = 0;
-    while j < m {
+    for j in 0..m {
         let t = layout::stamp_at(r, j);
         if some_waits(state, n, i as u64, t) {
             return j;
@@ -67,7 +54,6 @@ fn free(state: &[u8], n: usize, i: usize) -> usize
         if uncollected(r, t) {
             return j;
         }
-        j += 1;
     }
     m
 }

@@ -3,6 +3,7 @@ use Prim.Native.Nat.{ℕ}
 use mathlib.Core.Path.{◌≡◌, sym, ap}
 use mathlib.Core.Bool.{Bool, true, false, true≢false}
 use mathlib.Core.List.{List, []}
+use Rattle.refusal.specs.declared.Refusal.{Refusal}
 use Rattle.text.specs.declared.Fields.{Fields}
 use Rattle.plan.specs.Rules.{Form, refused, formed}
 
@@ -18,9 +19,5 @@ abbrev pub end_in : Form → ℕ
 end_in (refused r) = 0
 end_in (formed fs end) = end
 
-abbrev pub refusal_in : Form → ℕ
-refusal_in (refused r) = r
-refusal_in (formed fs end) = 1
-
-pub clash : {A : Type 0} {r end : ℕ} {fs : List Fields} → refused r ≡ formed fs end → A
+pub clash : {A : Type 0} {r : Refusal} {end : ℕ} {fs : List Fields} → refused r ≡ formed fs end → A
 clash e = absurd (true≢false (sym (ap is_formed e)))

@@ -11,12 +11,11 @@ use borrow.Author.Tests.{le-leb, leb-true}
 use Rattle.meaning.specs.CycleTest.{acyclic}
 use Rattle.machine.specs.State.{Declared}
 use Rattle.operators.specs.Limits.{most_streams, text_limit, count_fits}
-use Rattle.lines.specs.declared.Word.{Word}
-use Rattle.lines.specs.declared.Word.TheVariants.{Past, Absent}
-use Rattle.lines.specs.declared.Numeral.{Numeral}
-use Rattle.lines.specs.declared.Numeral.TheVariants.{Number, Fault}
+use Rattle.std.specs.Prelude.{Option, Some, None, Result, Ok, Err}
+use Rattle.refusal.specs.declared.Refusal.{Refusal}
+use Rattle.refusal.specs.Numbers.{number_of, code_of}
+use Rattle.refusal.specs.declared.Refusal.TheVariants.{TextStreams}
 use Rattle.lines.specs.Form.{skip, field}
-use Rattle.text.specs.declared.Head.{Head}
 use Rattle.text.specs.Grammar.{plan_line, streams_key, counts, head_after, head}
 use Rattle.render.proofs.Heads.{head_fits}
 use Rattle.plan.specs.Rules.{all_keep, Form, refused, formed, streams, declared_from, plan_from, windows_ok, number_after, number, declared}
@@ -26,9 +25,9 @@ use Rattle.plan.proofs.Rendered.{render_taken}
 use Rattle.plan.proofs.Taken.{taken_parts, parts_declared, taken_rendered}
 
 -- the number of streams in an opening
-abbrev count_in : Head → ℕ
-count_in (Head.Streams n at) = n
-count_in (Head.Refused r) = 0
+abbrev count_in : Result (ℕ × ℕ) Refusal → ℕ
+count_in (Ok (n, at)) = n
+count_in (Err r) = 0
 
 module _ (cap more : ℕ) (l : cap ≤ more) where
   pub rules_more : (ds : List Declared) → KeepsRules cap ds → KeepsRules more ds
@@ -43,22 +42,22 @@ module _ (cap more : ℕ) (l : cap ≤ more) where
       go true false h z = let q : ◌≡◌ {A = ℕ} 0 1 = cc in absurd (omega arith)
       go false b h z = z
 
-  counts_more : (x : Numeral) → (counts cap x ≡ Head.Refused 3 → ⊥) → counts more x ≡ counts cap x
-  counts_more (Number n p) z = go (count_fits cap n) refl z
+  counts_more : (x : Option (ℕ × ℕ)) → (counts cap x ≡ Err TextStreams → ⊥) → counts more x ≡ counts cap x
+  counts_more (Some (n, p)) z = go (count_fits cap n) refl z
     where
-      go : (b : Bool) → count_fits cap n ≡ b → (cond b (Head.Streams n p) (Head.Refused 3) ≡ Head.Refused 3 → ⊥) → cond (count_fits more n) (Head.Streams n p) (Head.Refused 3) ≡ cond b (Head.Streams n p) (Head.Refused 3)
+      go : (b : Bool) → count_fits cap n ≡ b → (cond {A = Result (ℕ × ℕ) Refusal} b (Ok (n, p)) (Err TextStreams) ≡ Err TextStreams → ⊥) → cond {A = Result (ℕ × ℕ) Refusal} (count_fits more n) (Ok (n, p)) (Err TextStreams) ≡ cond {A = Result (ℕ × ℕ) Refusal} b (Ok (n, p)) (Err TextStreams)
       go true e z = rw (fits_more n e)
       go false e z = absurd (z refl)
-  counts_more Fault z = refl
+  counts_more None z = refl
 
-  head_more : (s : List ℕ) → (head cap s ≡ Head.Refused 3 → ⊥) → head more s ≡ head cap s
+  head_more : (s : List ℕ) → (head cap s ≡ Err TextStreams → ⊥) → head more s ≡ head cap s
   unfolding head
   head_more [] z = refl
   head_more (b ∷ s) z = go (skip (b ∷ s) 0 plan_line) z
     where
-      go : (w : Word) → (head_after cap (b ∷ s) w ≡ Head.Refused 3 → ⊥) → head_after more (b ∷ s) w ≡ head_after cap (b ∷ s) w
-      go (Past p) z = counts_more (field (b ∷ s) p streams_key 3) z
-      go Absent z = refl
+      go : (w : Option ℕ) → (head_after cap (b ∷ s) w ≡ Err TextStreams → ⊥) → head_after more (b ∷ s) w ≡ head_after cap (b ∷ s) w
+      go (Some p) z = counts_more (field (b ∷ s) p streams_key 3) z
+      go None z = refl
 
   module _ (m : more ≤ most_streams) (s : List ℕ) where
     -- a text that is taken is taken where there is more room, and declares the same streams
@@ -69,7 +68,7 @@ module _ (cap more : ℕ) (l : cap ≤ more) where
         (sym (ap (number more) k.0) ∙ r.0, sym (ap (declared more) k.0) ∙ r.1)
 
     -- and one that is taken there is taken here, if its streams have room
-    taken_less : (n at : ℕ) → head cap s ≡ Head.Streams n at → head more s ≡ Head.Streams n at → number more s ≡ 0 → number cap s ≡ 0
+    taken_less : (n at : ℕ) → head cap s ≡ Ok (n, at) → head more s ≡ Ok (n, at) → number more s ≡ 0 → number cap s ≡ 0
     taken_less n at h i e =
         let p = taken_parts more s e in
         let c : p.count ≡ n = ap count_in (sym p.opens ∙ i) in
@@ -97,7 +96,7 @@ module _ (cap more : ℕ) (l : cap ≤ more) where
         go true false c d e y z = refl
         go false b c d e y z = refl
 
-    after_same : (n at : ℕ) → head cap s ≡ Head.Streams n at → head more s ≡ Head.Streams n at → ltb text_limit (length s) ≡ false → number more s ≡ number cap s
+    after_same : (n at : ℕ) → head cap s ≡ Ok (n, at) → head more s ≡ Ok (n, at) → ltb text_limit (length s) ≡ false → number more s ≡ number cap s
     after_same n at h i f = go (ℕ_discrete (number cap s) 0) (ℕ_discrete (number more s) 0)
       where
         cap_is : number cap s ≡ number_after cap s n (streams s at n)
@@ -112,7 +111,7 @@ module _ (cap more : ℕ) (l : cap ≤ more) where
         go (no y) (no z) = more_is ∙ refused_same n (streams s at n) (λ e. y (cap_is ∙ e)) (λ e. z (more_is ∙ e)) ∙ sym cap_is
 
     -- a refused opening
-    head_refuses : (d r : ℕ) → head d s ≡ Head.Refused r → ltb text_limit (length s) ≡ false → number d s ≡ r
+    head_refuses : (d : ℕ) (r : Refusal) → head d s ≡ Err r → ltb text_limit (length s) ≡ false → number d s ≡ number_of r
     unfolding number
     head_refuses d r h f = rw (f, h)
 
@@ -123,16 +122,12 @@ module _ (cap more : ℕ) (l : cap ≤ more) where
     pub number_more : (number cap s ≡ 3 → ⊥) → number more s ≡ number cap s
     number_more z = by_length (ltb text_limit (length s)) refl
       where
-        refusal : Head → ℕ
-        refusal (Head.Streams n at) = 0
-        refusal (Head.Refused r) = r
-
-        by_head : ltb text_limit (length s) ≡ false → (x : Head) → head cap s ≡ x → number more s ≡ number cap s
-        by_head f (Head.Streams n at) h =
-            let y : head cap s ≡ Head.Refused 3 → ⊥ = λ e. let q : ◌≡◌ {A = ℕ} 0 3 = ap refusal (sym h ∙ e) in absurd (omega arith) in
+        by_head : ltb text_limit (length s) ≡ false → (x : Result (ℕ × ℕ) Refusal) → head cap s ≡ x → number more s ≡ number cap s
+        by_head f (Ok (n, at)) h =
+            let y : head cap s ≡ Err TextStreams → ⊥ = λ e. let q : ◌≡◌ {A = ℕ} 0 3 = ap code_of (sym h ∙ e) in absurd (omega arith) in
             after_same n at h (head_more s y ∙ h) f
-        by_head f (Head.Refused r) h =
-            let y : head cap s ≡ Head.Refused 3 → ⊥ = λ e. z (head_refuses cap 3 e f) in
+        by_head f (Err r) h =
+            let y : head cap s ≡ Err TextStreams → ⊥ = λ e. z (head_refuses cap TextStreams e f) in
             head_refuses more r (head_more s y ∙ h) f ∙ sym (head_refuses cap r h f)
 
         by_length : (b : Bool) → ltb text_limit (length s) ≡ b → number more s ≡ number cap s

@@ -19,7 +19,8 @@ use Rattle.cycle.specs.Graph.{entry_of, graph_of, cleared}
 use Rattle.cycle.proofs.Tied.{args_at}
 use Rattle.cycle.proofs.Graphs.{entry_length, graph_acyclic}
 use Rattle.text.specs.declared.Fields.{Fields}
-use Rattle.text.specs.declared.Lines.{Lines}
+use Rattle.std.specs.Prelude.{Result, Ok, Err}
+use Rattle.refusal.specs.declared.Refusal.{Refusal}
 use Rattle.text.specs.Grammar.{stream}
 use Rattle.render.proofs.Ranges.{op_range}
 use Rattle.plan.specs.Rules.{keeps, all_keep, Form, refused, formed, put, others, streams, eqn_from, plan_from}
@@ -47,9 +48,9 @@ read_sound s (suc n) at fs end e = by_lines (λ at fs end e. read_sound s n at f
         let k = ih gs q refl in
         subst (λ (l : List Fields). All Sound l × (length l ≡ suc n)) (ap fields_in e) ((h, k.0), ap suc k.1)
 
-    by_lines : ((at : ℕ) (fs : List Fields) (end : ℕ) → streams s at n ≡ formed fs end → All Sound fs × (length fs ≡ n)) → (l : Lines) → stream s at ≡ l → others l (λ f. streams s f.next n) ≡ formed fs end → All Sound fs × (length fs ≡ suc n)
-    by_lines ih (Lines.Refused r) q e = clash e
-    by_lines ih (Lines.Stream f) q e = by_rest f (op_range s at f q) (streams s f.next n) (λ gs t z. ih f.next gs t z) e
+    by_lines : ((at : ℕ) (fs : List Fields) (end : ℕ) → streams s at n ≡ formed fs end → All Sound fs × (length fs ≡ n)) → (l : Result Fields Refusal) → stream s at ≡ l → others l (λ f. streams s f.next n) ≡ formed fs end → All Sound fs × (length fs ≡ suc n)
+    by_lines ih (Err r) q e = clash e
+    by_lines ih (Ok f) q e = by_rest f (op_range s at f q) (streams s f.next n) (λ gs t z. ih f.next gs t z) e
 
 -- ## The graph
 

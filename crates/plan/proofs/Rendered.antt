@@ -25,8 +25,7 @@ use Rattle.operators.proofs.Rules.{out_pass, fields_pass}
 use Rattle.operators.proofs.Laws.{eqn_back, number_range}
 use Rattle.operators.proofs.Widths.{width_pass}
 use Rattle.text.specs.declared.Fields.{Fields}
-use Rattle.text.specs.declared.Lines.TheVariants as Lines
-use Rattle.text.specs.declared.Head.{Head}
+use Rattle.std.specs.Prelude.{Ok}
 use Rattle.text.specs.Grammar.{stream, head}
 use Rattle.decimal.specs.Decimal.{value_text}
 use Rattle.render.specs.Render.{declared_text, all_text, opening, render}
@@ -142,7 +141,7 @@ more_widths : (f : Fields) (fs : List Fields) → width_ok f.op f.k ≡ true →
 unfolding all_widths
 more_widths f fs e g = rw (e, g)
 
-stream_text_lem : (s : List ℕ) (at : ℕ) (d : Declared) (r : List ℕ) (n : ℕ) → StreamKeeps n d → n ≤ most_streams → drop at s ≡ declared_text d ++ r → (p : ℕ) × (stream s at ≡ Lines.Stream (fields_of d p)) × (drop p s ≡ r) × (p ≤ length s)
+stream_text_lem : (s : List ℕ) (at : ℕ) (d : Declared) (r : List ℕ) (n : ℕ) → StreamKeeps n d → n ≤ most_streams → drop at s ≡ declared_text d ++ r → (p : ℕ) × (stream s at ≡ Ok (fields_of d p)) × (drop p s ≡ r) × (p ≤ length s)
 unfolding declared_text
 stream_text_lem s at d r n k h e =
     stream_written s at (number_of d.eqn) (arg_a d.eqn) (arg_b d.eqn) (value_of d.eqn) d.out r
@@ -226,11 +225,11 @@ unfolding plan_from
 same_plan [] = refl
 same_plan (f ∷ fs) = ap (λ (l : List Eqn). (declared_from f).eqn ∷ l) (same_plan fs)
 
-numbered : (cap : ℕ) (s : List ℕ) (n at : ℕ) (fs : List Fields) (end : ℕ) → length s ≤ text_limit → head cap s ≡ Head.Streams n at → streams s at n ≡ formed fs end → end ≡ length s → all_keep n fs ≡ true → windows_ok fs ≡ true → acyclic cap (plan_from fs) ≡ true → number cap s ≡ 0
+numbered : (cap : ℕ) (s : List ℕ) (n at : ℕ) (fs : List Fields) (end : ℕ) → length s ≤ text_limit → head cap s ≡ Ok (n, at) → streams s at n ≡ formed fs end → end ≡ length s → all_keep n fs ≡ true → windows_ok fs ≡ true → acyclic cap (plan_from fs) ≡ true → number cap s ≡ 0
 unfolding number number_after
 numbered cap s n at fs end l h e q k w c = rw (le-ltb text_limit (length s) l, h, e, eq-eqb end (length s) q, k, w, c)
 
-read_back : (cap : ℕ) (s : List ℕ) (n at : ℕ) (fs : List Fields) (end : ℕ) → head cap s ≡ Head.Streams n at → streams s at n ≡ formed fs end → declared cap s ≡ map declared_from fs
+read_back : (cap : ℕ) (s : List ℕ) (n at : ℕ) (fs : List Fields) (end : ℕ) → head cap s ≡ Ok (n, at) → streams s at n ≡ formed fs end → declared cap s ≡ map declared_from fs
 unfolding declared
 read_back cap s n at fs end h e = rw (h, e)
 

@@ -11,7 +11,8 @@ use Rattle.operators.specs.Operators.{uses_a, uses_b}
 use Rattle.operators.proofs.Rules.{arg_small, first_ok, second_ok}
 use Rattle.operators.proofs.Tests.{left, right}
 use Rattle.text.specs.declared.Fields.{Fields}
-use Rattle.text.specs.declared.Lines.{Lines}
+use Rattle.std.specs.Prelude.{Result, Ok, Err}
+use Rattle.refusal.specs.declared.Refusal.{Refusal}
 use Rattle.text.specs.Grammar.{stream}
 use Rattle.render.proofs.Heads.{head_fits}
 use Rattle.plan.specs.Rules.{keeps, all_keep, Form, refused, formed, put, others, streams}
@@ -21,16 +22,16 @@ use Rattle.plan.proofs.Noted.{Sound, All, read_sound}
 use Rattle.plan.proofs.Taken.{InRange, streams_read, Parts}
 
 module _ (s : List ℕ) (p m : ℕ) (fs : List Fields) (end : ℕ) (h : 0 < m) (e : streams s p m ≡ formed fs end) where
-  opened : (l : Lines) → stream s p ≡ l → others l (λ f. streams s f.next (m - 1)) ≡ formed fs end
-  opened l q = ap (λ (x : Lines). others x (λ f. streams s f.next (m - 1))) (sym q) ∙ sym (turn_streams s m p h) ∙ e
+  opened : (l : Result Fields Refusal) → stream s p ≡ l → others l (λ f. streams s f.next (m - 1)) ≡ formed fs end
+  opened l q = ap (λ (x : Result Fields Refusal). others x (λ f. streams s f.next (m - 1))) (sym q) ∙ sym (turn_streams s m p h) ∙ e
 
   -- no stream of a text that was read whole is refused
-  pub none_refused : (r : ℕ) → stream s p ≡ Lines.Refused r → ⊥
-  none_refused r q = clash (opened (Lines.Refused r) q)
+  pub none_refused : (r : Refusal) → stream s p ≡ Err r → ⊥
+  none_refused r q = clash (opened (Err r) q)
 
   -- the stream that is read is the first that is left, and the others follow it
-  pub next_read : (f : Fields) → stream s p ≡ Lines.Stream f → (gs : List Fields) × (fs ≡ f ∷ gs) × (streams s f.next (m - 1) ≡ formed gs end)
-  next_read f q = by (streams s f.next (m - 1)) refl (opened (Lines.Stream f) q)
+  pub next_read : (f : Fields) → stream s p ≡ Ok f → (gs : List Fields) × (fs ≡ f ∷ gs) × (streams s f.next (m - 1) ≡ formed gs end)
+  next_read f q = by (streams s f.next (m - 1)) refl (opened (Ok f) q)
     where
       by : (x : Form) → streams s f.next (m - 1) ≡ x → put f x ≡ formed fs end → (gs : List Fields) × (fs ≡ f ∷ gs) × (streams s f.next (m - 1) ≡ formed gs end)
       by (refused r) z g = clash g

@@ -26,16 +26,16 @@ use Rattle.operators.proofs.Widths.{width_is}
 use Rattle.operators.proofs.Rules.{fields_first, fields_second, fields_value, fields_reads, fields_out}
 use Rattle.operators.proofs.Tests.{left, right}
 use Rattle.text.specs.declared.Fields.{Fields}
-use Rattle.text.specs.declared.Lines.{Lines}
-use Rattle.text.specs.declared.Head.{Head}
+use Rattle.std.specs.Prelude.{Result, Ok, Err}
+use Rattle.refusal.specs.declared.Refusal.{Refusal}
 use Rattle.text.specs.Grammar.{stream, head}
 use Rattle.render.specs.Render.{stream_text, declared_text, all_text, opening, render}
-use Rattle.render.proofs.Ranges.{stream_refused}
 use Rattle.render.proofs.Back.{stream_read}
-use Rattle.render.proofs.Heads.{head_fits, head_read, head_refused}
+use Rattle.render.proofs.Heads.{head_fits, head_read}
 use Rattle.plan.specs.Rules.{keeps, all_keep, Form, refused, formed, put, others, streams, eqn_from, declared_from, plan_from, all_widths, windows_ok, number_after, number_of_head, number, declared}
 use Rattle.plan.specs.Taken.{StreamKeeps, Each, KeepsRules}
-use Rattle.plan.proofs.Forms.{fields_in, end_in, refusal_in, clash}
+use Rattle.refusal.proofs.Laws.{refusal_some}
+use Rattle.plan.proofs.Forms.{fields_in, end_in, clash}
 use Rattle.plan.proofs.Noted.{Sound, All, read_sound}
 use Rattle.plan.proofs.Rendered.{same_plan, render_taken}
 
@@ -82,7 +82,7 @@ streams_read s zero at fs end e =
     subst (λ (l : List Fields). AsRead s at l end) (ap fields_in e) (ap (λ (p : ℕ). drop p s) (ap end_in e), tt)
 streams_read s (suc n) at fs end e = by_lines (λ at fs end q. streams_read s n at fs end q) (stream s at) refl e
   where
-    by_rest : (f : Fields) → stream s at ≡ Lines.Stream f → (r : Form) → ((gs : List Fields) (q : ℕ) → r ≡ formed gs q → AsRead s f.next gs q) → put f r ≡ formed fs end → AsRead s at fs end
+    by_rest : (f : Fields) → stream s at ≡ Ok f → (r : Form) → ((gs : List Fields) (q : ℕ) → r ≡ formed gs q → AsRead s f.next gs q) → put f r ≡ formed fs end → AsRead s at fs end
     by_rest f g (refused r) ih e = clash e
     by_rest f g (formed gs q) ih e =
         let k = ih gs q refl in
@@ -92,22 +92,9 @@ streams_read s (suc n) at fs end e = by_lines (λ at fs end q. streams_read s n 
         subst (λ (l : List Fields). AsRead s at l end) (ap fields_in e)
         (t.0 ∙ ap (λ (l : List ℕ). x ++ l) (k.0 ∙ rw z) ∙ sym (append_assoc x (fields_text gs) (drop end s)), ((t.1, t.2), k.1))
 
-    by_lines : ((at : ℕ) (fs : List Fields) (end : ℕ) → streams s at n ≡ formed fs end → AsRead s at fs end) → (l : Lines) → stream s at ≡ l → others l (λ f. streams s f.next n) ≡ formed fs end → AsRead s at fs end
-    by_lines ih (Lines.Refused r) q e = clash e
-    by_lines ih (Lines.Stream f) q e = by_rest f q (streams s f.next n) (λ gs t z. ih f.next gs t z) e
-
-streams_refused : (s : List ℕ) (n at : ℕ) → streams s at n ≡ refused 0 → ⊥
-unfolding streams
-streams_refused s zero at e = clash (sym e)
-streams_refused s (suc n) at e = by_lines (λ at q. streams_refused s n at q) (stream s at) refl e
-  where
-    by_rest : (f : Fields) (r : Form) → (r ≡ refused 0 → ⊥) → put f r ≡ refused 0 → ⊥
-    by_rest f (refused r) ih e = ih e
-    by_rest f (formed gs q) ih e = clash (sym e)
-
-    by_lines : ((at : ℕ) → streams s at n ≡ refused 0 → ⊥) → (l : Lines) → stream s at ≡ l → others l (λ f. streams s f.next n) ≡ refused 0 → ⊥
-    by_lines ih (Lines.Stream f) q e = by_rest f (streams s f.next n) (ih f.next) e
-    by_lines ih (Lines.Refused r) q e = stream_refused s at (q ∙ ap Lines.Refused (ap refusal_in e))
+    by_lines : ((at : ℕ) (fs : List Fields) (end : ℕ) → streams s at n ≡ formed fs end → AsRead s at fs end) → (l : Result Fields Refusal) → stream s at ≡ l → others l (λ f. streams s f.next n) ≡ formed fs end → AsRead s at fs end
+    by_lines ih (Err r) q e = clash e
+    by_lines ih (Ok f) q e = by_rest f q (streams s f.next n) (λ gs t z. ih f.next gs t z) e
 
 module _ (n : ℕ) where
   all_text_lem : (fs : List Fields) → All Sound fs → all_keep n fs ≡ true → fields_text fs ≡ all_text (map declared_from fs)
@@ -140,13 +127,13 @@ pub record Parts (cap : ℕ) (s : List ℕ) : Type 0 where
   pub count : ℕ
   pub start : ℕ
   pub fields : List Fields
-  pub opens : head cap s ≡ Head.Streams count start
+  pub opens : head cap s ≡ Ok (count, start)
   pub lists : streams s start count ≡ formed fields (length s)
   pub kept : all_keep count fields ≡ true
   pub windowed : windows_ok fields ≡ true
   pub clear : acyclic cap (plan_from fields) ≡ true
 
-after_parts : (cap : ℕ) (s : List ℕ) (n at : ℕ) → head cap s ≡ Head.Streams n at → number_after cap s n (streams s at n) ≡ 0 → Parts cap s
+after_parts : (cap : ℕ) (s : List ℕ) (n at : ℕ) → head cap s ≡ Ok (n, at) → number_after cap s n (streams s at n) ≡ 0 → Parts cap s
 unfolding number_after
 after_parts cap s n at h e = by_form (streams s at n) refl e
   where
@@ -158,16 +145,16 @@ after_parts cap s n at h e = by_form (streams s at n) refl e
     by_tests fs end q false y w z a b d c e = absurd (omega arith)
 
     by_form : (x : Form) → streams s at n ≡ x → number_after cap s n x ≡ 0 → Parts cap s
-    by_form (refused r) q e = absurd (streams_refused s n at (q ∙ ap refused e))
+    by_form (refused r) q e = absurd (omega (arith, refusal_some r))
     by_form (formed fs end) q e = by_tests fs end q (eqb end (length s)) (all_keep n fs) (windows_ok fs) (acyclic cap (plan_from fs)) refl refl refl refl e
 
 pub taken_parts : (cap : ℕ) (s : List ℕ) → number cap s ≡ 0 → Parts cap s
 unfolding number
 taken_parts cap s e = by_length (ltb text_limit (length s)) e
   where
-    by_head : (x : Head) → head cap s ≡ x → number_of_head cap s x ≡ 0 → Parts cap s
-    by_head (Head.Streams n at) q e = after_parts cap s n at q e
-    by_head (Head.Refused r) q e = absurd (head_refused cap s (q ∙ ap Head.Refused e))
+    by_head : (x : Result (ℕ × ℕ) Refusal) → head cap s ≡ x → number_of_head cap s x ≡ 0 → Parts cap s
+    by_head (Ok (n, at)) q e = after_parts cap s n at q e
+    by_head (Err r) q e = absurd (omega (arith, refusal_some r))
 
     by_length : (b : Bool) → cond b 1 (number_of_head cap s (head cap s)) ≡ 0 → Parts cap s
     by_length true e = absurd (omega arith)

@@ -1,14 +1,13 @@
 -- How: one pass reads the lines, tests rule 5, weighs the windows for rule 18 and notes the arguments for rule 6.
-use Rattle.std.specs.Prelude.{ℕ, suc, ◌+◌, ◌*◌, ◌≡◌, Bool, true, false, cond, ◌&&◌, List, [], ◌∷◌, eqb}
+use Rattle.std.specs.Prelude.{ℕ, suc, ◌+◌, ◌*◌, ◌≡◌, Bool, true, false, cond, ◌&&◌, List, [], ◌∷◌, eqb, Result, Ok, Err}
 use Rattle.std.proofs.lemmas.List.Edits.{sets}
 use Rattle.operators.specs.Limits.{window_limit}
 use Rattle.operators.specs.Operators.{group_of, is_window}
 use Rattle.operators.specs.Windows.{width_ok}
 use Rattle.cycle.specs.Graph.{entry_of}
 use Rattle.text.specs.declared.Fields.{Fields}
-use Rattle.text.specs.declared.Lines.{Lines}
-use Rattle.plan.specs.declared.Checked.{Checked}
-use Rattle.plan.specs.declared.Turn.{Turn}
+use Rattle.refusal.specs.declared.Refusal.{Refusal}
+use Rattle.refusal.specs.declared.Refusal.TheVariants.{TextForm}
 use Rattle.plan.specs.Rules.{keeps, all_keep, Form, refused, formed}
 
 -- what is noted of stream i: nothing if it breaks rule 5, since the text is refused anyway
@@ -32,17 +31,17 @@ weights [] = 0
 weights (f ∷ fs) = weight_of f + weights fs
 
 -- one stream
-unfoldable pub turn : ℕ → Lines → Turn
-turn n (Lines.Stream f) = Turn.Next (keeps n f) (weight_of f) f.next
-turn n (Lines.Refused r) = Turn.Refused r
+unfoldable pub turn : ℕ → Result Fields Refusal → Result (Bool × ℕ × ℕ) Refusal
+turn n (Ok f) = Ok (keeps n f, weight_of f, f.next)
+turn n (Err r) = Err r
 
-abbrev pub noted_lines : ℕ → ℕ → Lines → List ℕ → List ℕ
-noted_lines n i (Lines.Stream f) g = noted_stream n i f g
-noted_lines n i (Lines.Refused r) g = g
+abbrev pub noted_lines : ℕ → ℕ → Result Fields Refusal → List ℕ → List ℕ
+noted_lines n i (Ok f) g = noted_stream n i f g
+noted_lines n i (Err r) g = g
 
 -- the whole pass: whether all keep rule 5, what they weigh, the graph, and where the lines end
 pub data Pass : Type 0 where
-  halted : ℕ → Pass
+  halted : Refusal → Pass
   through : Bool → ℕ → List ℕ → ℕ → Pass
 
 unfoldable pub pass_of : ℕ → Bool → ℕ → ℕ → List ℕ → Form → Pass
@@ -50,9 +49,9 @@ pass_of n ok sum i g (refused r) = halted r
 pass_of n ok sum i g (formed fs end) = through (ok && all_keep n fs) (sum + weights fs) (noted_all n i fs g) end
 
 -- bytes left over are 2
-abbrev pub checked_of : ℕ → Pass → Checked
-checked_of size (halted r) = Checked.Refused r
-checked_of size (through ok sum g end) = cond (eqb end size) (Checked.Formed ok sum) (Checked.Refused 2)
+abbrev pub checked_of : ℕ → Pass → Result (Bool × ℕ) Refusal
+checked_of size (halted r) = Err r
+checked_of size (through ok sum g end) = cond (eqb end size) (Ok (ok, sum)) (Err TextForm)
 
 -- the graph that the pass leaves, if it comes through
 abbrev pub Noted : List ℕ → Pass → Type 0

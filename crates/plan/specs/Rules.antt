@@ -1,5 +1,5 @@
 -- Believe: rules 5, 18 and 6, and the number of a whole plan text.
-use Rattle.std.specs.Prelude.{ℕ, zero, suc, Bool, true, cond, ◌&&◌, List, [], ◌∷◌, map, eqb, ltb, leb, length}
+use Rattle.std.specs.Prelude.{ℕ, zero, suc, Bool, true, cond, ◌&&◌, List, [], ◌∷◌, map, eqb, ltb, leb, length, Result, Ok, Err}
 use Rattle.std.specs.Int.{w64}
 use Rattle.std.proofs.Common.{to_z}
 use Rattle.meaning.specs.Plan.{Eqn, Plan}
@@ -10,8 +10,8 @@ use Rattle.operators.specs.Rules.{fields_ok}
 use Rattle.operators.specs.Limits.{window_limit, text_limit}
 use Rattle.operators.specs.Windows.{width_ok, windows}
 use Rattle.text.specs.declared.Fields.{Fields}
-use Rattle.text.specs.declared.Lines.{Lines}
-use Rattle.text.specs.declared.Head.{Head}
+use Rattle.refusal.specs.declared.Refusal.{Refusal}
+use Rattle.refusal.specs.Numbers.{number_of}
 use Rattle.text.specs.Grammar.{stream, head}
 
 -- ## "Then 5, an unused field not 0, a used argument not below N, or out=1 on in."
@@ -28,16 +28,16 @@ all_keep n (f ∷ fs) = keeps n f && all_keep n fs
 
 -- all streams' lines: their fields and where they end, or the refusal of the first faulty line
 pub data Form : Type 0 where
-  refused : ℕ → Form
+  refused : Refusal → Form
   formed : List Fields → ℕ → Form
 
 abbrev pub put : Fields → Form → Form
 put f (refused r) = refused r
 put f (formed fs end) = formed (f ∷ fs) end
 
-abbrev pub others : Lines → (Fields → Form) → Form
-others (Lines.Stream f) rest = put f (rest f)
-others (Lines.Refused r) rest = refused r
+abbrev pub others : Result Fields Refusal → (Fields → Form) → Form
+others (Ok f) rest = put f (rest f)
+others (Err r) rest = refused r
 
 unfoldable pub streams : List ℕ → ℕ → ℕ → Form
 streams s at zero = formed [] at
@@ -66,13 +66,13 @@ windows_ok fs = all_widths fs && leb (windows (plan_from fs)) window_limit
 
 -- "bytes left over" are 2, then 5, then 18, "Then 6, a cycle without a delayed argument."
 unfoldable pub number_after : ℕ → List ℕ → ℕ → Form → ℕ
-number_after cap s n (refused r) = r
+number_after cap s n (refused r) = number_of r
 number_after cap s n (formed fs end) =
     cond (eqb end (length s)) (cond (all_keep n fs) (cond (windows_ok fs) (cond (acyclic cap (plan_from fs)) 0 6) 18) 5) 2
 
-abbrev pub number_of_head : ℕ → List ℕ → Head → ℕ
-number_of_head cap s (Head.Streams n at) = number_after cap s n (streams s at n)
-number_of_head cap s (Head.Refused r) = r
+abbrev pub number_of_head : ℕ → List ℕ → Result (ℕ × ℕ) Refusal → ℕ
+number_of_head cap s (Ok (n, at)) = number_after cap s n (streams s at n)
+number_of_head cap s (Err r) = number_of r
 
 -- "the text limit becomes 4,096 bytes": 1 for a longer text, "then the first faulty line decides", for a state with room for so many
 -- streams
@@ -84,9 +84,9 @@ abbrev pub declared_of : Form → List Declared
 declared_of (refused r) = []
 declared_of (formed fs end) = map declared_from fs
 
-abbrev pub declared_head : List ℕ → Head → List Declared
-declared_head s (Head.Streams n at) = declared_of (streams s at n)
-declared_head s (Head.Refused r) = []
+abbrev pub declared_head : List ℕ → Result (ℕ × ℕ) Refusal → List Declared
+declared_head s (Ok (n, at)) = declared_of (streams s at n)
+declared_head s (Err r) = []
 
 unfoldable pub declared : ℕ → List ℕ → List Declared
 declared cap s = declared_head s (head cap s)

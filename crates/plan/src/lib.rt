@@ -1,36 +1,17 @@
-// The number of a plan text: its form line by line, then rules 5, 18 and 6.
+// A plan text checked: its form line by line, then rules 5, 18 and 6.
 #![tactic(auto)]
 
-ghost use Rattle.std.specs.Prelude.{◌≡◌, true, ◌&&◌, ◌+◌, ◌*◌, ◌<◌, ◌≤◌, length};
+ghost use Rattle.std.specs.Prelude.{◌≡◌, true, ◌+◌, ◌*◌, ◌<◌, ◌≤◌, length};
 ghost use Rattle.text.specs.Grammar.{stream};
 ghost use Rattle.operators.specs.Limits.{most_streams};
+ghost use Rattle.refusal.specs.Numbers.{code_of};
 ghost use Rattle.plan.specs.Rules.{keeps, streams, number_after, number};
 ghost use Rattle.plan.specs.Pass.{noted_stream, noted_lines, weight_of, turn, Noted, pass_of, checked_of};
 
 use cycle::GRAPH;
 use operators::Plan;
-use text::{Fields, Head, Lines};
-
-// What reading all lines of all streams finds: whether each keeps rule 5, and what they weigh; or the number of the refusal.
-#[derive(Clone, Copy)]
-pub enum Checked {
-    Formed(bool, u64),
-    Refused(u32),
-}
-
-// What reading one stream finds: whether it keeps rule 5, what it weighs, and the position past its lines; or the number of
-// the refusal.
-#[derive(Clone, Copy)]
-pub enum Turn {
-    Next(bool, u64, usize),
-    Refused(u32),
-}
-
-fn both(x: bool, y: bool) -> bool
-    ensures { result ≡ (x && y) }
-{
-    if x { y } else { false }
-}
+use refusal::Refusal;
+use text::Fields;
 
 // Whether a stream of a plan of n streams keeps rule 5.
 fn keeps(n: u64, f: Fields) -> bool
@@ -65,83 +46,73 @@ fn note_stream(graph: &mut [u8], i: usize, n: u64, f: Fields) -> bool
     true
 }
 
-// Reads stream i at a position.
-fn read_turn(text: &[u8], at: usize, graph: &mut [u8], i: usize, n: u64) -> Turn
+// Reads stream i at a position: whether it keeps rule 5, what it weighs, and the position past its lines.
+#[tactic(auto, unfolding(crate::specs::Pass::turn))]
+fn read_turn(
+    text: &[u8],
+    at: usize,
+    graph: &mut [u8],
+    i: usize,
+    n: u64,
+) -> Result<(bool, u64, usize), Refusal>
     requires { (3 * i + 2 < length graph.old) × (n ≤ 256) }
     ensures value { result ≡ turn n (stream text.now at) }
     ensures graph_after { graph.new ≡ noted_lines n i (stream text.now at) graph.old }
 {
-    match text::read_stream(text, at) {
-        Lines::Stream(f) => {
-            let kept = note_stream(graph, i, n, f);
-            let w = weight(f);
-            Turn::Next(kept, w, f.next)
-        }
-        Lines::Refused(r) => Turn::Refused(r),
-    }
+    let f = text::read_stream(text, at)?;
+    let kept = note_stream(graph, i, n, f);
+    Ok((kept, weight(f), f.next))
 }
 
-// Reads all streams' lines. A text whose form is right leaves its graph.
-fn form(text: &[u8], at: usize, n: usize, graph: &mut [u8]) -> Checked
+// Reads all streams' lines: whether each keeps rule 5, and what they weigh. A text whose form is right leaves its graph.
+fn form(text: &[u8], at: usize, n: usize, graph: &mut [u8]) -> Result<(bool, u64), Refusal>
     requires { (3 * n ≤ length graph.old) × (n ≤ 256) }
     ensures value { result ≡ checked_of (length text.now) (pass_of n true 0 0 graph.old (streams text.now at n)) }
     ensures noted { Noted graph.new (pass_of n true 0 0 graph.old (streams text.now at n)) }
 {
     let mut p = at;
-    let mut i = 0;
     let mut ok = true;
     let mut sum: u64 = 0;
-    while i < n {
-        match read_turn(text, p, graph, i, n as u64) {
-            Turn::Next(kept, w, q) => {
-                ok = both(ok, kept);
-                sum += w;
-                p = q;
-                i += 1;
-            }
-            Turn::Refused(r) => return Checked::Refused(r),
-        }
+    for i in 0..n {
+        let (kept, w, q) = read_turn(text, p, graph, i, n as u64)?;
+        ok &= kept;
+        sum += w;
+        p = q;
     }
-    if p == text.len() {
-        Checked::Formed(ok, sum)
-    } else {
-        Checked::Refused(2)
+    if p != text.len() {
+        return Err(Refusal::TextForm);
     }
+    Ok((ok, sum))
 }
 
-// The number of a text whose first two lines announce n streams, the first of them at a position.
-fn plan_number(text: &[u8], n: usize, at: usize, most: usize) -> u32
+// Checks a text whose first two lines announce n streams, the first of them at a position.
+fn check_streams(text: &[u8], n: usize, at: usize, most: usize) -> Result<(), Refusal>
     requires { (n ≤ most) × (most ≤ most_streams) }
-    ensures { result ≡ number_after most text.now n (streams text.now at n) }
+    ensures { code_of result ≡ number_after most text.now n (streams text.now at n) }
 {
     let mut graph = [0u8; GRAPH];
-    match form(text, at, n, &mut graph) {
-        Checked::Refused(r) => r,
-        Checked::Formed(ok, sum) => {
-            if !ok {
-                return 5;
-            }
-            if Plan::WINDOWS < sum {
-                return 18;
-            }
-            if !cycle::clear(&mut graph, n as u8, most as u8) {
-                return 6;
-            }
-            0
-        }
+    let (ok, sum) = form(text, at, n, &mut graph)?;
+    if !ok {
+        return Err(Refusal::TextField);
     }
+    if Plan::WINDOWS < sum {
+        return Err(Refusal::TextWindow);
+    }
+    if !cycle::clear(&mut graph, n as u8, most as u8) {
+        return Err(Refusal::TextCycle);
+    }
+    Ok(())
 }
 
-// The number of a plan text, for a state with room for so many streams: 0 if it is taken.
-pub fn number(text: &[u8], most: usize) -> u32
+// Checks a plan text, for a state with room for so many streams.
+#[tactic(auto, unfolding(crate::specs::Rules::number))]
+pub fn check(text: &[u8], most: usize) -> Result<(), Refusal>
     requires { most ≤ most_streams }
-    ensures { result ≡ number most text.now }
+    ensures { code_of result ≡ number most text.now }
 {
     if Plan::TEXT < text.len() {
-        return 1;
+        return Err(Refusal::TextLong);
     }
-    match text::read_head(text, most) {
-        Head::Streams(n, at) => plan_number(text, n, at, most),
-        Head::Refused(r) => r,
-    }
+    let (n, at) = text::read_head(text, most)?;
+    check_streams(text, n, at, most)
 }

@@ -11,14 +11,13 @@ use lib.Seq.{drop-cons, drop-append-le, drop-drop, drop-length, take-take, lengt
 use Rattle.le.proofs.RoundTrip.{drop_take}
 use Rattle.calls.specs.Reply.{reply}
 use Rattle.trace.specs.declared.Record.{Record}
-use Rattle.trace.specs.declared.Line.TheVariants as found
+use Rattle.std.specs.Prelude.{Some, None}
 use Rattle.trace.specs.Trace.{line}
 use Rattle.chunks.specs.Window.{longest, Enough}
 use Rattle.chunks.proofs.Held.{window_read, window_bad}
 use Rattle.printer.specs.Print.{refused_text}
 use Rattle.replaying.specs.Replay.{call_of}
 use Rattle.replaying.specs.Whole.{line_number, Lines, none, more, Stops, end, bad}
-use Rattle.playing.specs.declared.Stop.TheVariants.{Before, Bad}
 use Rattle.playing.specs.Played as played
 use Rattle.playing.specs.Played.{Settles, Offered, Trailed}
 use Rattle.playing.specs.Hand.{hand, line_after, Follow, Between, Through, Onward, Ended}
@@ -57,7 +56,7 @@ either f g (inr b) = g b
 
 -- one line more
 pub between_more : {n : ℕ} {text : List ℕ} {at : ℕ} {last : Bool} {first : ℕ} {s : List ℕ} {p l m : ℕ} {t u : List ℕ} → p ≤ length text → Whole text p last → Between n text at last first s p l t
-    → (r : Record) (next : ℕ) → line text p ≡ found.Read r next → next ≤ length text → m ≡ line_after l 1 → Settles n (reply (call_of r) t).buffer u → Between n text at last first s next m u
+    → (r : Record) (next : ℕ) → line text p ≡ Some (r, next) → next ≤ length text → m ≡ line_after l 1 → Settles n (reply (call_of r) t).buffer u → Between n text at last first s next m u
 between_more {text = text} {at} {last} {first} {p = p} {l} {m} inside whole x r next e fits c z =
     record { records = x.records ++ r ∷ []; counted = counted_then first l m x.records (r ∷ []) x.counted c; offered = played.more r x.offered z; lines = λ rest f. lines_then (x.lines rest f) (one rest f) }
   where
@@ -71,11 +70,11 @@ between_more {text = text} {at} {last} {first} {p = p} {l} {m} inside whole x r 
 
 -- a bad line
 pub between_bad : {n : ℕ} {text : List ℕ} {at : ℕ} {last : Bool} {first : ℕ} {s : List ℕ} {p l : ℕ} {t u : List ℕ} → p < length text → Whole text p last → Between n text at last first s p l t
-    → line text p ≡ found.Bad → u ≡ t → Through n text at last first s Bad u
+    → line text p ≡ None → u ≡ t → Through n text at last first s None u
 between_bad {n} {text} {at} {last} {first} {s} {p} {l} inside whole x e z =
-    (p, l, inside, subst (Between n text at last first s p l) (sym z) x, λ rest f. (refused_text (line_number found.Bad), stops rest (window_bad text p rest (omega arith) (enough text p whole f) e)))
+    (p, l, inside, subst (Between n text at last first s p l) (sym z) x, λ rest f. (refused_text (line_number None), stops rest (window_bad text p rest (omega arith) (enough text p whole f) e)))
   where
-    stops : (rest : List ℕ) → line (drop p text ++ rest) 0 ≡ found.Bad → Stops (drop p text ++ rest) (refused_text (line_number found.Bad))
+    stops : (rest : List ℕ) → line (drop p text ++ rest) 0 ≡ None → Stops (drop p text ++ rest) (refused_text (line_number None))
     stops rest = rw (drop-cons text p 0 inside) (λ q. bad q)
 
 -- ## From one part of the trace to the next
@@ -88,7 +87,7 @@ module _ (old buffer : List ℕ) (left filled : ℕ) (order : left ≤ filled) (
   size : length (take filled buffer) ≡ filled
   size = length-take-le filled buffer inside
 
-  pub part_onward : {n : ℕ} {s : List ℕ} {last : Bool} {p first line : ℕ} {t : List ℕ} → last ≡ false → Through n (take filled buffer) 0 last first s (Before p line) t → (p ≤ filled) × (filled ≤ length buffer) × (o : Onward n first old s (hand buffer p filled) line t) × (take filled buffer ≡ old ++ o.brought)
+  pub part_onward : {n : ℕ} {s : List ℕ} {last : Bool} {p first line : ℕ} {t : List ℕ} → last ≡ false → Through n (take filled buffer) 0 last first s (Some (p, line)) t → (p ≤ filled) × (filled ≤ length buffer) × (o : Onward n first old s (hand buffer p filled) line t) × (take filled buffer ≡ old ++ o.brought)
   part_onward {p = p} no_last x =
       let h : p ≤ filled = let k = x.0 in omega (arith, size) in
       let b = x.3 in
@@ -123,13 +122,13 @@ module _ (old buffer : List ℕ) (left filled : ℕ) (order : left ≤ filled) (
         short = λ q. let h = short q in omega (arith, ap length is, size);
       }
 
-  pub bad_ended : {n : ℕ} {s : List ℕ} {last : Bool} {first : ℕ} {t : List ℕ} → Through n (take filled buffer) 0 last first s Bad t → Ended n old s buffer t
+  pub bad_ended : {n : ℕ} {s : List ℕ} {last : Bool} {first : ℕ} {t : List ℕ} → Through n (take filled buffer) 0 last first s None t → Ended n old s buffer t
   bad_ended x =
       let l = x.2 in
       ended x.3 (x.4 [] (λ q. refl)).1
       (λ q. absurd (omega (arith, ap length (sym (append-nil (drop x.0 (take filled buffer))) ∙ q), length-drop x.0 (take filled buffer))))
 
-  pub last_ended : {n : ℕ} {s : List ℕ} {last : Bool} {p first line : ℕ} {t : List ℕ} → last ≡ true → filled < length buffer → Through n (take filled buffer) 0 last first s (Before p line) t → Ended n old s buffer t
+  pub last_ended : {n : ℕ} {s : List ℕ} {last : Bool} {p first line : ℕ} {t : List ℕ} → last ≡ true → filled < length buffer → Through n (take filled buffer) 0 last first s (Some (p, line)) t → Ended n old s buffer t
   last_ended {p = p} q short x =
       let e : drop p (take filled buffer) ++ [] ≡ [] = append-nil (drop p (take filled buffer)) ∙ ap (λ (k : ℕ). drop k (take filled buffer)) (x.1 q) ∙ drop-length (take filled buffer) in
       ended x.3 (subst (λ (l : List ℕ). Stops l []) (sym e) end) (λ r. short)

@@ -1,12 +1,9 @@
 -- How: the text in hand: the bytes of the trace that were read and not yet replayed, and what going through it comes to.
-use Rattle.std.specs.Prelude.{ℕ, ◌+◌, ◌-◌, ◌^◌, ◌<◌, ◌≤◌, min, ◌≡◌, Bool, true, List, [], ◌++◌, length, take, drop}
+use Rattle.std.specs.Prelude.{ℕ, ◌+◌, ◌-◌, ◌^◌, ◌<◌, ◌≤◌, min, ◌≡◌, Bool, true, List, [], ◌++◌, length, take, drop, Option, Some, None}
 use Rattle.chunks.specs.Window.{longest}
 use Rattle.trace.specs.declared.Record.{Record}
 use Rattle.replaying.specs.Whole.{Lines, Stops}
-use Rattle.playing.specs.declared.Stop.{Stop}
-use Rattle.playing.specs.declared.Stop.TheVariants.{Before, Bad}
 use Rattle.playing.specs.declared.Left.{Left}
-use Rattle.playing.specs.declared.Left.TheVariants.{Part, Done}
 use Rattle.playing.specs.Played.{Offered}
 
 -- the bytes of a buffer between two positions
@@ -31,9 +28,9 @@ pub record Between (n : ℕ) (text : List ℕ) (at : ℕ) (last : Bool) (first :
 
 -- all whole lines of a text from a position on: up to its end if it is the last, else to where fewer bytes are left than a line
 -- can have; or to a bad line
-abbrev pub Through : (n : ℕ) (text : List ℕ) (at : ℕ) (last : Bool) (first : ℕ) → List ℕ → Stop → List ℕ → Type 0
-Through n text at last first s (Before p line) t = (p ≤ length text) × (last ≡ true → p ≡ length text) × (length text - p < longest) × Between n text at last first s p line t
-Through n text at last first s Bad t = (p : ℕ) × (line : ℕ) × (p < length text) × Between n text at last first s p line t × ((more : List ℕ) → Follow last more → (v : List ℕ) × Stops (drop p text ++ more) v)
+abbrev pub Through : (n : ℕ) (text : List ℕ) (at : ℕ) (last : Bool) (first : ℕ) → List ℕ → Option (ℕ × ℕ) → List ℕ → Type 0
+Through n text at last first s (Some (p, line)) t = (p ≤ length text) × (last ≡ true → p ≡ length text) × (length text - p < longest) × Between n text at last first s p line t
+Through n text at last first s None t = (p : ℕ) × (line : ℕ) × (p < length text) × Between n text at last first s p line t × ((more : List ℕ) → Follow last more → (v : List ℕ) × Stops (drop p text ++ more) v)
 
 -- from the bytes in hand: what was read comes behind them, the lines that were replayed go, and the rest is in hand
 pub record Onward (n first : ℕ) (old s new : List ℕ) (line : ℕ) (t : List ℕ) : Type 0 where
@@ -55,6 +52,6 @@ pub record Ended (n : ℕ) (old s buffer t : List ℕ) : Type 0 where
   pub short : rest ≡ [] → length (old ++ brought) < length buffer
 
 -- what the buffer holds up to the end is what was in hand and what was read
-abbrev pub Advances : (n first : ℕ) → List ℕ → List ℕ → Left → List ℕ → List ℕ → Type 0
-Advances n first old s (Part from end line) buffer t = (from ≤ end) × (end ≤ length buffer) × (o : Onward n first old s (hand buffer from end) line t) × (take end buffer ≡ old ++ o.brought)
-Advances n first old s Done buffer t = Ended n old s buffer t
+abbrev pub Advances : (n first : ℕ) → List ℕ → List ℕ → Option Left → List ℕ → List ℕ → Type 0
+Advances n first old s (Some l) buffer t = (l.from ≤ l.end) × (l.end ≤ length buffer) × (o : Onward n first old s (hand buffer l.from l.end) l.line t) × (take l.end buffer ≡ old ++ o.brought)
+Advances n first old s None buffer t = Ended n old s buffer t

@@ -1,9 +1,7 @@
 -- How: the order in which the program makes its steps.
-use Rattle.std.specs.Prelude.{ℕ, ◌≡◌, Bool, true, List, [], ◌∷◌, ◌++◌}
+use Rattle.std.specs.Prelude.{ℕ, ◌≡◌, Bool, true, List, [], ◌∷◌, ◌++◌, Option, Some, None}
 use Rattle.calls.specs.Reply.{reply}
 use Rattle.trace.specs.declared.Record.{Record}
-use Rattle.trace.specs.declared.Line.{Line}
-use Rattle.trace.specs.declared.Line.TheVariants.{Read, Bad}
 use Rattle.replaying.specs.declared.Place.{Place}
 use Rattle.replaying.specs.declared.Place.TheVariants.{Rest}
 use Rattle.replaying.specs.Replay.{call_of, Prints, start}
@@ -19,9 +17,9 @@ abbrev pub Settles : ℕ → List ℕ → List ℕ → Type 0
 Settles n s t = Goes n start s Rest t
 
 -- a record that was read is offered and what follows settles; a bad line changes nothing
-abbrev pub Follows : ℕ → Line → List ℕ → List ℕ → Type 0
-Follows n (Read r next) s t = Settles n (reply (call_of r) s).buffer t
-Follows n Bad s t = t ≡ s
+abbrev pub Follows : ℕ → Option (Record × ℕ) → List ℕ → List ℕ → Type 0
+Follows n (Some (r, next)) s t = Settles n (reply (call_of r) s).buffer t
+Follows n None s t = t ≡ s
 
 -- records offered one after the other, each settled
 pub data Offered (n : ℕ) : List ℕ → List Record → List ℕ → Type 0 where

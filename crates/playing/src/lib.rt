@@ -17,7 +17,7 @@ use replaying::Place;
 use std::fs;
 use std::io::{Read, Write};
 use std::rt::{Env, Files};
-use trace::Line;
+use trace::Record;
 
 // The longest line of a trace, with its ending byte.
 const LINE: usize = 65;
@@ -25,20 +25,12 @@ const LINE: usize = 65;
 // The most bytes of `line=`, a number and a blank.
 const WORDS: usize = 25;
 
-// Where a replay of the text in hand stops: before a position, from which on there is no whole line, with the number of the line
-// there, or at a bad line.
+// What is left in hand: the bytes of the buffer between two positions, with the number of the first line there.
 #[derive(Clone, Copy)]
-enum Stop {
-    Before(usize, u64),
-    Bad,
-}
-
-// What is left in hand: the bytes of the buffer between two positions, with the number of the first line there, or nothing, since
-// the replay is done.
-#[derive(Clone, Copy)]
-enum Left {
-    Part { from: usize, end: usize, line: u64 },
-    Done,
+struct Left {
+    from: usize,
+    end: usize,
+    line: u64,
 }
 
 // Writes bytes, or, where a write fails, some of them.
@@ -108,7 +100,7 @@ fn replay_line<O: Write, E: Write>(
     number: u64,
     out: &mut O,
     err: &mut E,
-) -> Line
+) -> Option<(Record, usize)>
     requires { n * 256 ≤ length state.old }
     ensures found { result ≡ line text.now at }
     ensures follows { Follows n result state.old state.new }
@@ -119,15 +111,16 @@ fn replay_line<O: Write, E: Write>(
     put(out, &printed[..end]);
     say_line(err, number, &printed[..end]);
     let found = passed.found;
-    let Line::Read(_, _) = found else {
-        return found;
-    };
+    if found.is_none() {
+        return None;
+    }
     settle(state, n, out);
     found
 }
 
 // Replays all whole lines of the text in hand from a position on: those that end in it whatever follows, and if it is the last
-// of the trace, all. `first` is the number of the first one.
+// of the trace, all. `first` is the number of the first one. Answers the position from which on there is no whole line, with the
+// number of the line there; none if it stops at a bad line.
 fn replay_lines<O: Write, E: Write>(
     state: &mut [u8],
     n: u32,
@@ -137,25 +130,21 @@ fn replay_lines<O: Write, E: Write>(
     first: u64,
     out: &mut O,
     err: &mut E,
-) -> Stop
+) -> Option<(usize, u64)>
     requires { (n * 256 ≤ length state.old) × (at ≤ length text.now) }
     ensures { Through n text.now at last first state.old result state.new }
 {
     let mut from = at;
     let mut line = first;
     while from < text.len() {
-        if text.len() - from < LINE {
-            if !last {
-                return Stop::Before(from, line);
-            }
+        if text.len() - from < LINE && !last {
+            return Some((from, line));
         }
-        let Line::Read(_, next) = replay_line(state, n, text, from, line, out, err) else {
-            return Stop::Bad;
-        };
+        let (_, next) = replay_line(state, n, text, from, line, out, err)?;
         from = next;
         line = next_line(line);
     }
-    Stop::Before(from, line)
+    Some((from, line))
 }
 
 // Moves what is left in hand to the start of the buffer, reads on behind it, and answers where that ends.
@@ -170,35 +159,31 @@ fn ready<F: Read>(file: &mut F, buffer: &mut [u8], from: usize, end: usize) -> u
     left + got
 }
 
-// Reads on, and replays all whole lines of what is then in hand. A buffer that is not full holds the last of the trace.
+// Reads on, and replays all whole lines of what is then in hand. A buffer that is not full holds the last of the trace. Answers
+// what is then left; none once the replay is done.
 fn advance<F: Read, O: Write, E: Write>(
     file: &mut F,
     state: &mut [u8],
     n: u32,
     buffer: &mut [u8],
-    from: usize,
-    end: usize,
-    line: u64,
+    left: Left,
     out: &mut O,
     err: &mut E,
-) -> Left
-    requires { (n * 256 ≤ length state.old) × (from ≤ end) × (end ≤ length buffer.old) }
-    ensures { Advances n line (hand buffer.old from end) state.old result buffer.new state.new }
+) -> Option<Left>
+    requires { (n * 256 ≤ length state.old) × (left.from ≤ left.end) × (left.end ≤ length buffer.old) }
+    ensures { Advances n left.line (hand buffer.old left.from left.end) state.old result buffer.new state.new }
 {
-    let filled = ready(file, buffer, from, end);
+    let filled = ready(file, buffer, left.from, left.end);
     let last = filled < buffer.len();
-    let Stop::Before(p, next) = replay_lines(state, n, &buffer[..filled], 0, last, line, out, err)
-    else {
-        return Left::Done;
-    };
+    let (p, next) = replay_lines(state, n, &buffer[..filled], 0, last, left.line, out, err)?;
     if last {
-        return Left::Done;
+        return None;
     }
-    Left::Part {
+    Some(Left {
         from: p,
         end: filled,
         line: next,
-    }
+    })
 }
 
 // Replays the trace, and answers whether it came to its end. A proved loop has to end, and nothing says that a file does: it
@@ -214,22 +199,17 @@ fn replay_trace<F: Read, O: Write, E: Write>(
     ensures { Trailed n state.old result state.new }
 {
     let mut buffer = [0u8; 4096];
-    let mut from: usize = 0;
-    let mut end: usize = 0;
-    let mut line: u64 = 1;
+    let mut left = Left {
+        from: 0,
+        end: 0,
+        line: 1,
+    };
     let mut reads = u64::MAX;
     while 0 < reads {
-        let Left::Part {
-            from: p,
-            end: e,
-            line: l,
-        } = advance(file, state, n, &mut buffer, from, end, line, out, err)
-        else {
+        let Some(next) = advance(file, state, n, &mut buffer, left, out, err) else {
             return true;
         };
-        from = p;
-        end = e;
-        line = l;
+        left = next;
         reads -= 1;
     }
     false

@@ -2,7 +2,7 @@
 use Prim.Native.Nat.{ℕ, zero, suc, ◌-◌, ◌<◌, ◌≤◌}
 use mathlib.Core.Path.{◌≡◌, refl, sym}
 use mathlib.Core.Bool.{Bool, true, false, not, cond}
-use mathlib.Core.Option.{Option, none, some}
+use Rattle.std.specs.Prelude.{Option, None, Some}
 use mathlib.Core.List.{List, [], ◌∷◌}
 use native.Mathlib.Omega.{arith}
 use native.Mathlib.Decide.{dec_lt}
@@ -85,7 +85,7 @@ module _ {cap : ℕ} (M : State) (ok : Sound cap M) (s : ℕ) (l : s < length M)
       t : ℕ
       t = first e o a b
 
-      event_fine : t < reach e o a b → (v : ℤ) → gives e o a b t ≡ some v → Fine (event t v)
+      event_fine : t < reach e o a b → (v : ℤ) → gives e o a b t ≡ Some v → Fine (event t v)
       event_fine h v q = room_left (look (leb room (length o.held)))
         where
           room_left : Is (leb room (length o.held)) → Fine (event t v)
@@ -96,10 +96,10 @@ module _ {cap : ℕ} (M : State) (ok : Sound cap M) (s : ℕ) (l : s < length M)
               value = rw q at (found_at t (omega (arith, top)))
 
       with_some : t < reach e o a b → (x : Option ℤ) → gives e o a b t ≡ x → Fine (next_of t (reach e o a b) x)
-      with_some h none q = (top, silence)
-      with_some h (some v) q = event_fine h v q
+      with_some h None q = (top, silence)
+      with_some h (Some v) q = event_fine h v q
 
-      go : (p : Bool) → ltb t (reach e o a b) ≡ p → Fine (next_of t (reach e o a b) (cond p (gives e o a b t) none))
+      go : (p : Bool) → ltb t (reach e o a b) ≡ p → Fine (next_of t (reach e o a b) (cond p (gives e o a b t) None))
       go true q = with_some (ltb-true t (reach e o a b) q) (gives e o a b t) refl
       go false q = (top, silence)
 
@@ -158,7 +158,7 @@ run_sound {cap} (suc n) M ok = go (ltb (lowest M) (length M)) refl (λ h. run_so
     go true e rec = rw (run_more n M e) (let l = ltb-true (lowest M) (length M) e in rec (move_sound M ok (lowest M) l (lowest_can M l)))
     go false e rec = rw (run_ends n M e) ok
 
-pub stamp_below : (w lo top : ℕ) (es : List Event) (x : Event) → Rising lo top es → oldest w es ≡ some x → suc x.stamp ≤ top
+pub stamp_below : (w lo top : ℕ) (es : List Event) (x : Event) → Rising lo top es → oldest w es ≡ Some x → suc x.stamp ≤ top
 stamp_below w lo top [] x r q = let z : ◌≡◌ {A = ℕ} 0 1 = cc in absurd (omega arith)
 stamp_below w lo top (y ∷ es) x r q = go (leb w y.stamp) q (λ h. stamp_below w (suc y.stamp) top es x r.2 h)
   where
@@ -166,7 +166,7 @@ stamp_below w lo top (y ∷ es) x r q = go (leb w y.stamp) q (λ h. stamp_below 
     top_of l [] q = q
     top_of l (z ∷ xs) q = let u = top_of (suc z.stamp) xs q.2 in let v = q.0 in omega arith
 
-    go : (p : Bool) → cond p (some y) (oldest w es) ≡ some x → (oldest w es ≡ some x → suc x.stamp ≤ top) → suc x.stamp ≤ top
+    go : (p : Bool) → cond p (Some y) (oldest w es) ≡ Some x → (oldest w es ≡ Some x → suc x.stamp ≤ top) → suc x.stamp ≤ top
     go true h rec = let i : y ≡ x = cc in rw (sym i) (top_of (suc y.stamp) es r.2)
     go false h rec = rec h
 
@@ -186,8 +186,8 @@ collect_sound {cap} i M ok =
     is_true false t = absurd t
 
     go : (x : Option Event) → oldest (cell_at M i).next (cell_at M i).held ≡ x → i < length M → (cell_at M i).out ≡ true → Sound cap (hand_out x i M).state
-    go none q l t = ok
-    go (some e) q l t =
+    go None q l t = ok
+    go (Some e) q l t =
         release_sound i (set M i (with_next (suc e.stamp) (cell_at M i)))
         (next_sound i (suc e.stamp) M ok l t (stamp_below (cell_at M i).next 0 (cell_at M i).bound (cell_at M i).held e (ok.each i l).held q))
 

@@ -8,7 +8,7 @@ use lib.Dec.{leb}
 use lib.IntN.{ℤ}
 use Rattle.meaning.specs.Plan.{Eqn, input, nil, unit, one, two, last, delay, signal, window}
 use Rattle.meaning.specs.Table.{width}
-use Rattle.meaning.specs.Missing.{Reason, outside, divisor, said_for, can_lack}
+use Rattle.meaning.specs.Missing.{Reason, Outside, ZeroDivisor, said_for, can_lack}
 use Rattle.meaning.proofs.Missing.{one_lacks, two_lacks, signal_lacks, window_lacks, tally_zero}
 use Rattle.machine.specs.State.{Passed, Cell, count_of, with_window, with_counts}
 use Rattle.machine.specs.Reach.{view, held_latest, slid}
@@ -18,12 +18,12 @@ use Rattle.encoding.specs.Sound.{IsCount}
 -- ---- a count by its reason
 
 counts_of : (q : Reason) (n : Reason → ℕ) (w : Passed) → count_of q (with_counts n w) ≡ n q
-counts_of outside n w = refl
-counts_of divisor n w = refl
+counts_of Outside n w = refl
+counts_of ZeroDivisor n w = refl
 
 window_counts : (q : Reason) (xs : List ℤ) (w : Passed) → count_of q (with_window xs w) ≡ count_of q w
-window_counts outside xs w = refl
-window_counts divisor xs w = refl
+window_counts Outside xs w = refl
+window_counts ZeroDivisor xs w = refl
 
 -- ---- a count that follows the bound from x to y
 

@@ -2,7 +2,7 @@
 use Prim.Native.Nat.{ℕ, ◌+◌, ◌≤◌}
 use mathlib.Core.Path.{◌≡◌, refl, ap}
 use mathlib.Core.Bool.{Bool, true, false, cond, ◌&&◌}
-use mathlib.Core.Option.{none}
+use Rattle.std.specs.Prelude.{None}
 use mathlib.Core.List.{List}
 use native.Mathlib.Omega.{arith}
 use lib.Dec.{T, leb, ltb, eqb}
@@ -35,7 +35,7 @@ and_true false q e = let z : ◌≡◌ {A = ℕ} 0 1 = ap (λ (b : Bool). cond b
 since_up : (p : Bool) (y t : ℕ) (k : Kept) → k.since ≤ (since_told p y t k).since
 since_up p y t k = go (p && leb k.since t) refl
   where
-    go : (b : Bool) → (p && leb k.since t) ≡ b → k.since ≤ (cond b (with_since (t + 1) (with_value (cond (eqb y (t + 1)) k.prior none) k)) k).since
+    go : (b : Bool) → (p && leb k.since t) ≡ b → k.since ≤ (cond b (with_since (t + 1) (with_value (cond (eqb y (t + 1)) k.prior None) k)) k).since
     go true e = let h = leb-true k.since t (and_true p (leb k.since t) e).1 in omega arith
     go false e = omega arith
 

@@ -1,7 +1,7 @@
 -- Held events by rising stamp, each with a value: another top, one more event, the oldest let go.
 use Prim.Native.Nat.{ℕ, suc, ◌<◌, ◌≤◌}
 use mathlib.Core.Bool.{Bool, true, false, cond}
-use mathlib.Core.Option.{some}
+use Rattle.std.specs.Prelude.{Some}
 use mathlib.Core.List.{List, [], ◌∷◌, ◌++◌}
 use native.Mathlib.Omega.{arith}
 use lib.Dec.{T, ltb, eqb}
@@ -38,6 +38,6 @@ rising_past lo top z [] r l h = l
 rising_past lo top z (e ∷ es) r l h =
     (r.0, r.1, rising_past (suc e.stamp) top z es r.2 (h e.stamp (rw (eqb_self e.stamp) tt)) (λ p k. h p (later_has (eqb e.stamp p) p k)))
   where
-    later_has : (b : Bool) (p : ℕ) → T (has (found es p)) → T (has (cond b (some e.value) (found es p)))
+    later_has : (b : Bool) (p : ℕ) → T (has (found es p)) → T (has (cond b (Some e.value) (found es p)))
     later_has true p k = tt
     later_has false p k = k

@@ -2,7 +2,7 @@
 use Prim.Native.Nat.{ℕ, zero, suc, pred, ◌+◌, ◌-◌, ◌<◌, ◌≤◌}
 use mathlib.Core.Path.{◌≡◌, refl, sym, ap, ◌∙◌, subst}
 use mathlib.Core.Bool.{Bool, true, false, cond, ◌&&◌}
-use mathlib.Core.Option.{Option, none, some}
+use Rattle.std.specs.Prelude.{Option, None, Some}
 use mathlib.Core.List.{List, [], ◌∷◌, ◌++◌, map, append-nil}
 use native.Mathlib.Omega.{arith}
 use native.Mathlib.Decide.{dec_lt}
@@ -83,7 +83,7 @@ releases_sound ss M ok =
 
 -- ---- told
 
-cond_none : (p : Bool) (v : ℤ) (o : Option ℤ) → (p ≡ true → ⊥) → o ≡ none → cond p (some v) o ≡ none
+cond_none : (p : Bool) (v : ℤ) (o : Option ℤ) → (p ≡ true → ⊥) → o ≡ None → cond p (Some v) o ≡ None
 cond_none true v o h e = absurd (h refl)
 cond_none false v o h e = e
 
@@ -94,7 +94,7 @@ module _ (y t : ℕ) (v : ℤ) (l : t < y) (hv : IsValue v) where
         prev = ok.prev;
         prev_b = ok.prev_b;
         since = ok.since;
-        value = cond_value (p && eqb k.since (t + 1)) (some v) k.value hv ok.value;
+        value = cond_value (p && eqb k.since (t + 1)) (Some v) k.value hv ok.value;
         prior = ok.prior;
         unset = λ z. cond_none (p && eqb k.since (t + 1)) v k.value (λ q. let r = eqb-true k.since (t + 1) (and_true p (eqb k.since (t + 1)) q).1 in omega arith) (ok.unset z);
         fresh = ok.fresh;
@@ -107,7 +107,7 @@ module _ (y t : ℕ) (v : ℤ) (l : t < y) (hv : IsValue v) where
         prev_b = ok.prev_b;
         since = ok.since;
         value = ok.value;
-        prior = cond_value (p && eqb y (t + 1)) (some v) k.prior hv ok.prior;
+        prior = cond_value (p && eqb y (t + 1)) (Some v) k.prior hv ok.prior;
         unset = ok.unset;
         fresh = λ z. absurd (omega (arith, l));
       }
@@ -115,8 +115,8 @@ module _ (y t : ℕ) (v : ℤ) (l : t < y) (hv : IsValue v) where
   since_kept : (p : Bool) (k : Kept) → DelayKept y k → DelayKept y (since_told p y t k)
   since_kept p k ok = go (p && leb k.since t)
     where
-      go : (b : Bool) → DelayKept y (cond b (with_since (t + 1) (with_value (cond (eqb y (t + 1)) k.prior none) k)) k)
-      go true = record { prev = ok.prev; prev_b = ok.prev_b; since = omega (arith, l); value = cond_value (eqb y (t + 1)) k.prior none ok.prior tt; prior = ok.prior; unset = λ z. absurd (omega arith); fresh = ok.fresh }
+      go : (b : Bool) → DelayKept y (cond b (with_since (t + 1) (with_value (cond (eqb y (t + 1)) k.prior None) k)) k)
+      go true = record { prev = ok.prev; prev_b = ok.prev_b; since = omega (arith, l); value = cond_value (eqb y (t + 1)) k.prior None ok.prior tt; prior = ok.prior; unset = λ z. absurd (omega arith); fresh = ok.fresh }
       go false = ok
 
   kept_told_lem : (e : Eqn) (s : ℕ) (k : Kept) → IsKept e y k → IsKept e y (kept_told e s y t v k)
@@ -125,7 +125,7 @@ module _ (y t : ℕ) (v : ℤ) (l : t < y) (hv : IsValue v) where
   kept_told_lem unit s k ok = ok
   kept_told_lem (one f a) s k ok = ok
   kept_told_lem (two g a b) s k ok = ok
-  kept_told_lem (last a b) s k ok = record { prev = cond_value (eqb a s) (some v) k.prev hv ok.prev; fresh = λ z. absurd (omega (arith, l)); prev_b = ok.prev_b; since = ok.since; value = ok.value; prior = ok.prior }
+  kept_told_lem (last a b) s k ok = record { prev = cond_value (eqb a s) (Some v) k.prev hv ok.prev; fresh = λ z. absurd (omega (arith, l)); prev_b = ok.prev_b; since = ok.since; value = ok.value; prior = ok.prior }
   kept_told_lem (delay a b) s k ok = since_kept (eqb b s) (prior_told (eqb a s) y t v (value_told (eqb a s) t v k)) (prior_kept (eqb a s) (value_told (eqb a s) t v k) (value_kept_lem (eqb a s) k ok))
   kept_told_lem (signal c a b) s k ok = ok
   kept_told_lem (window f n a) s k ok = ok
@@ -241,8 +241,8 @@ absorb_kept (delay _ _) o a b z ok ha hb =
       prev = ok.prev;
       prev_b = ok.prev_b;
       since = omega arith;
-      value = cond_value (eqb (later o b) 0) none (value_at o a (later o b)) tt
-          (or_value (view a (pred (later o b))) (cond (eqb (later o b) o.kept.since) o.kept.value none) (ha (pred (later o b))) (cond_value (eqb (later o b) o.kept.since) o.kept.value none ok.value tt));
+      value = cond_value (eqb (later o b) 0) None (value_at o a (later o b)) tt
+          (or_value (view a (pred (later o b))) (cond (eqb (later o b) o.kept.since) o.kept.value None) (ha (pred (later o b))) (cond_value (eqb (later o b) o.kept.since) o.kept.value None ok.value tt));
       prior = ha (pred o.bound);
       unset = λ u. rw (eq-eqb (later o b) 0 u);
       fresh = λ q. absurd (omega arith);

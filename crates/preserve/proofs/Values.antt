@@ -1,15 +1,14 @@
 -- Whatever an equation gives or keeps of sound cells is a value.
 use Prim.Native.Nat.{ℕ, zero, suc, ◌-◌, ◌<◌}
 use mathlib.Core.Bool.{Bool, true, false, cond, ◌||◌}
-use mathlib.Core.Option.{Option, none, some}
+use Rattle.std.specs.Prelude.{Option, None, Some, Ok, Err}
 use mathlib.Core.List.{List, [], ◌∷◌, ◌++◌}
 use native.Mathlib.Omega.{arith}
 use lib.Dec.{eqb, ltb, lit<}
 use lib.IntN.{ℤ, pos}
 use lib.ListN.{length, drop}
 use lib.Signed.{le_z}
-use Rattle.num.specs.declared.Answer.{Answer}
-use Rattle.num.specs.declared.Answer.TheVariants.{Value, Outside, ZeroDivisor}
+use Rattle.num.specs.Arithmetic.{Answer}
 use Rattle.num.specs.Arithmetic.{is_zero, negated, added}
 use Rattle.num.proofs.Values.{InRange, negated_in, added_in, subtracted_in, multiplied_in, divided_in, remainder_in, less_in, at_most_in, equal_in}
 use Rattle.meaning.specs.Plan.{Unary, time, neg, set, plus, Calc, add, sub, mul, div, rem, lt, le, eq, Binary, calc, keep, merge, Eqn, input, nil, unit, one, two, last, delay, signal, window, Fold, wsum, wmin, wmax}
@@ -25,9 +24,8 @@ use Rattle.encoding.specs.Sound.{IsValue, IsOptional, Rising, AllValues, IsKept,
 
 answer_value : (a : Answer) → InRange a → IsOptional (value_of a)
 unfolding value_of
-answer_value (Value v) h = h
-answer_value Outside h = tt
-answer_value ZeroDivisor h = tt
+answer_value (Ok v) h = h
+answer_value (Err q) h = tt
 
 calc_in : (g : Calc) (x y : ℤ) → InRange (calculated g x y)
 unfolding calculated
@@ -43,8 +41,8 @@ calc_in eq x y = equal_in x y
 -- ---- options
 
 pub or_value : (a b : Option ℤ) → IsOptional a → IsOptional b → IsOptional (or_else a b)
-or_value none b h k = k
-or_value (some x) b h k = h
+or_value None b h k = k
+or_value (Some x) b h k = h
 
 pub cond_value : (p : Bool) (a b : Option ℤ) → IsOptional a → IsOptional b → IsOptional (cond p a b)
 cond_value true a b h k = h
@@ -52,7 +50,7 @@ cond_value false a b h k = k
 
 pub found_value : (lo top : ℕ) (es : List Event) → Rising lo top es → (t : ℕ) → IsOptional (found es t)
 found_value lo top [] r t = tt
-found_value lo top (e ∷ es) r t = cond_value (eqb e.stamp t) (some e.value) (found es t) r.1 (found_value (suc e.stamp) top es r.2 t)
+found_value lo top (e ∷ es) r t = cond_value (eqb e.stamp t) (Some e.value) (found es t) r.1 (found_value (suc e.stamp) top es r.2 t)
 
 pub latest_value : (f : Stream) → ((t : ℕ) → IsOptional (f t)) → (t : ℕ) → IsOptional (latest f t)
 unfolding latest
@@ -71,8 +69,8 @@ all_drop (suc n) [] h = h
 all_drop (suc n) (x ∷ xs) h = all_drop n xs h.1
 
 here_values : (t : ℕ) (x : Option ℤ) → IsOptional x → AllValues (values (here t x))
-here_values t none h = tt
-here_values t (some v) h = (h, tt)
+here_values t None h = tt
+here_values t (Some v) h = (h, tt)
 
 events_values : (f : Stream) → ((t : ℕ) → IsOptional (f t)) → (x : ℕ) → AllValues (values (events f x))
 events_values f h zero = tt
@@ -83,26 +81,26 @@ pub slid_values : (k y x : ℕ) (w : List ℤ) (f : Stream) → AllValues w → 
 unfolding latest_of
 slid_values k y x w f hw h =
     let new = values (events (from y f) x) in
-    all_drop (length (w ++ new) - k) (w ++ new) (all_append w new hw (events_values (from y f) (λ t. cond_value (ltb t y) none (f t) tt (h t)) x))
+    all_drop (length (w ++ new) - k) (w ++ new) (all_append w new hw (events_values (from y f) (λ t. cond_value (ltb t y) None (f t) tt (h t)) x))
 
 -- ---- the rows
 
 one_value : (f : Unary) (t : ℕ) (x : Option ℤ) → t < horizon → IsValue (operators.unary_value f) → IsOptional (one_at f t x)
 unfolding one_at
-one_value f t none h k = tt
-one_value time t (some x) h k = omega arith
-one_value neg t (some x) h k = answer_value (negated x) (negated_in x)
-one_value (set v) t (some x) h k = k
-one_value (plus v) t (some x) h k = answer_value (added x v) (added_in x v)
+one_value f t None h k = tt
+one_value time t (Some x) h k = omega arith
+one_value neg t (Some x) h k = answer_value (negated x) (negated_in x)
+one_value (set v) t (Some x) h k = k
+one_value (plus v) t (Some x) h k = answer_value (added x v) (added_in x v)
 
 two_value : (g : Binary) (x y : Option ℤ) → IsOptional x → IsOptional y → IsOptional (two_at g x y)
 unfolding two_at
-two_value (calc g) none y h k = tt
-two_value (calc g) (some x) none h k = tt
-two_value (calc g) (some x) (some y) h k = answer_value (calculated g x y) (calc_in g x y)
-two_value keep none y h k = tt
-two_value keep (some x) none h k = tt
-two_value keep (some x) (some y) h k = cond_value (is_zero y) none (some x) tt h
+two_value (calc g) None y h k = tt
+two_value (calc g) (Some x) None h k = tt
+two_value (calc g) (Some x) (Some y) h k = answer_value (calculated g x y) (calc_in g x y)
+two_value keep None y h k = tt
+two_value keep (Some x) None h k = tt
+two_value keep (Some x) (Some y) h k = cond_value (is_zero y) None (Some x) tt h
 two_value merge x y h k = or_value x y h k
 
 unit_value : (t : ℕ) → IsOptional (unit_at t)
@@ -112,8 +110,8 @@ unit_value (suc t) = tt
 
 last_value : (b v : Option ℤ) → IsOptional v → IsOptional (last_at b v)
 unfolding last_at
-last_value none v h = tt
-last_value (some x) v h = h
+last_value None v h = tt
+last_value (Some x) v h = h
 
 delay_value : (b : Bool) → IsOptional (delay_at b)
 unfolding delay_at
@@ -122,7 +120,7 @@ delay_value false = tt
 
 signal_value : (c : Calc) (a b x y : Option ℤ) → IsOptional x → IsOptional y → IsOptional (signal_at c a b x y)
 unfolding signal_at
-signal_value c a b x y h k = cond_value (has a || has b) (two_at (calc c) x y) none (two_value (calc c) x y h k) tt
+signal_value c a b x y h k = cond_value (has a || has b) (two_at (calc c) x y) None (two_value (calc c) x y h k) tt
 
 pick_value : (p : Bool) (x y : ℤ) → IsValue x → IsValue y → IsValue (cond p x y)
 pick_value true x y h k = h
@@ -148,8 +146,8 @@ fold_in wmax (x ∷ xs) h = greatest_value x xs h.0 h.1
 
 window_value : (f : Fold) (x : Option ℤ) (xs : List ℤ) → AllValues xs → IsOptional (window_at_lem f x xs)
 unfolding window_at_lem
-window_value f none xs h = tt
-window_value f (some x) xs h = answer_value (folded f xs) (fold_in f xs h)
+window_value f None xs h = tt
+window_value f (Some x) xs h = answer_value (folded f xs) (fold_in f xs h)
 
 -- a cell's held events are values
 abbrev pub Holds : Cell → Type 0

@@ -1,7 +1,7 @@
 -- A list of events as a stream: the latest event below a stamp, read off the list.
 use mathlib.Core.Path.{◌≡◌, refl, sym, ◌∙◌, ap}
 use mathlib.Core.Bool.{cond}
-use mathlib.Core.Option.{Option, none, some}
+use Rattle.std.specs.Prelude.{Option, None, Some}
 use mathlib.Core.List.{List, [], ◌∷◌}
 use Prim.Native.Nat.{ℕ, zero, suc, pred, ◌-◌, ◌≤◌, ◌<◌, max}
 use native.Mathlib.Omega.{arith}
@@ -13,13 +13,13 @@ use Rattle.meaning.specs.Table.{latest}
 use Rattle.meaning.proofs.Tests.{Is, yes!, no!, look}
 use Rattle.machine.specs.Reach.{past_latest}
 use Rattle.machine.proofs.Window.{past_le, past_max, past_hit, past_is}
-use Rattle.queue.specs.Found.{passed}
+use Rattle.queue.specs.Latest.{passed}
 
 -- the stream of one event more
-found_cases : (P : Option ℤ → Type 0) (e : Event) (es : List Event) (t : ℕ) → (e.stamp ≡ t → P (some e.value)) → ((e.stamp ≡ t → ⊥) → P (found es t)) → P (found (e ∷ es) t)
+found_cases : (P : Option ℤ → Type 0) (e : Event) (es : List Event) (t : ℕ) → (e.stamp ≡ t → P (Some e.value)) → ((e.stamp ≡ t → ⊥) → P (found es t)) → P (found (e ∷ es) t)
 found_cases P e es t same other = go (look (eqb e.stamp t))
   where
-    go : Is (eqb e.stamp t) → P (cond (eqb e.stamp t) (some e.value) (found es t))
+    go : Is (eqb e.stamp t) → P (cond (eqb e.stamp t) (Some e.value) (found es t))
     go (yes! q k) = rw q (same (eqb→eq e.stamp t k))
     go (no! q k) = rw q (other (λ h. T_not (eqb e.stamp t) k (rw h (eqb_refl t))))
 
@@ -62,7 +62,7 @@ past_none (suc t) = past_none t
 
 -- what a stream has one below a stamp
 abbrev below : Stream → ℕ → Option ℤ
-below f zero = none
+below f zero = None
 below f (suc p) = f p
 
 latest_past : (f : Stream) (t : ℕ) → latest f t ≡ below f (past_latest f t)
@@ -71,11 +71,11 @@ latest_past f zero = refl
 latest_past f (suc t) = go (f t) refl (latest_past f t)
   where
     go : (o : Option ℤ) → f t ≡ o → latest f t ≡ below f (past_latest f t) → latest f (suc t) ≡ below f (past_latest f (suc t))
-    go none e ih = rw (e, latest, past_latest) ih
-    go (some x) e ih = rw (e, latest, past_latest) (sym e)
+    go None e ih = rw (e, latest, past_latest) ih
+    go (Some x) e ih = rw (e, latest, past_latest) (sym e)
 
 -- z is one past the latest event
-pub latest_none : (f : Stream) (t z : ℕ) → z ≡ past_latest f t → z ≡ 0 → none ≡ latest f t
+pub latest_none : (f : Stream) (t z : ℕ) → z ≡ past_latest f t → z ≡ 0 → None ≡ latest f t
 latest_none f t z e q = sym (latest_past f t ∙ ap (below f) (sym e ∙ q))
 
 pub latest_some : (f : Stream) (t z : ℕ) → z ≡ past_latest f t → (z ≡ 0 → ⊥) → f (z - 1) ≡ latest f t

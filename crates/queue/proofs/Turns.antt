@@ -2,7 +2,7 @@
 use Prim.Native.Nat.{ℕ, suc, ◌+◌, ◌-◌, ◌<◌, ◌≤◌, min}
 use mathlib.Core.Path.{◌≡◌, sym, ap, ap₂, ◌∙◌}
 use mathlib.Core.List.{List, [], ◌∷◌, map}
-use mathlib.Core.Option.{some}
+use Rattle.std.specs.Prelude.{Some}
 use mathlib.Core.Bool.{cond}
 use native.Mathlib.Omega.{arith}
 use native.Mathlib.Nat.{sub-zero}
@@ -14,7 +14,7 @@ use Rattle.encoding.specs.Back.{event_of, held_of}
 use Rattle.meaning.specs.Events.{Event, found}
 use Rattle.machine.specs.State.{room}
 use Rattle.machine.specs.Reach.{past_latest}
-use Rattle.queue.specs.Found.{passed}
+use Rattle.queue.specs.Latest.{passed}
 use Rattle.queue.proofs.Latest.{past_cons, past_none}
 
 -- the events in the slots from i on, of n
@@ -38,16 +38,16 @@ left_all r n e = rw (e, sub-zero)
 
 module _ (l : List Slot) (i n t x : ℕ) (h : i < n) (k : n ≤ length l) (w : x ≡ (get_or l i no_slot).stamp) where
   -- find
-  pub find_hit : x ≡ t → found (left l i n) t ≡ some (event_of (get_or l i no_slot)).value
+  pub find_hit : x ≡ t → found (left l i n) t ≡ Some (event_of (get_or l i no_slot)).value
   find_hit e =
       ap (λ (es : List Event). found es t) (left_more l i n h k)
-      ∙ ap (λ b. cond b (some (event_of (get_or l i no_slot)).value) (found (left l (i + 1) n) t)) (eq-eqb (get_or l i no_slot).stamp t (sym w ∙ e))
+      ∙ ap (λ b. cond b (Some (event_of (get_or l i no_slot)).value) (found (left l (i + 1) n) t)) (eq-eqb (get_or l i no_slot).stamp t (sym w ∙ e))
 
   pub find_miss : (x ≡ t → ⊥) → found (left l (i + 1) n) t ≡ found (left l i n) t
   find_miss e =
       sym
       (ap (λ (es : List Event). found es t) (left_more l i n h k)
-      ∙ ap (λ b. cond b (some (event_of (get_or l i no_slot)).value) (found (left l (i + 1) n) t)) (ne_eqb (get_or l i no_slot).stamp t (λ q. e (w ∙ q))))
+      ∙ ap (λ b. cond b (Some (event_of (get_or l i no_slot)).value) (found (left l (i + 1) n) t)) (ne_eqb (get_or l i no_slot).stamp t (λ q. e (w ∙ q))))
 
   -- past_latest
   pub past_turn : passed t x (past_latest (found (left l (i + 1) n)) t) ≡ past_latest (found (left l i n)) t

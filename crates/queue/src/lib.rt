@@ -10,19 +10,10 @@ ghost use Rattle.machine.specs.Reach.{past_latest};
 ghost use Rattle.layout.specs.Record as layout;
 ghost use Rattle.layout.specs.Record.{enc_raw, dec_raw};
 ghost use Rattle.encoding.specs.Back.{held_of};
-ghost use Rattle.queue.specs.Found.{as_option, passed};
+ghost use Rattle.queue.specs.Latest.{passed};
 ghost use Rattle.queue.specs.Queue.{pushed, below, shed, released};
 
 use limits::{Bound, Queue};
-
-// What a search for a value finds.
-#[derive(Clone, Copy)]
-pub enum Found {
-    // The value.
-    Value(i64),
-    // No event is there.
-    Nothing,
-}
 
 // How many events a record holds: never more than there is room for.
 pub fn count(r: &[u8]) -> usize
@@ -51,12 +42,10 @@ pub fn first_from(r: &[u8], n: usize, w: u64) -> usize
     requires { (length r.now ≡ 256) × (n ≤ room) }
     ensures { (result ≡ below w n (dec_raw r.now).slots) × (result ≤ n) }
 {
-    let mut i = 0;
-    while i < n {
+    for i in 0..n {
         if w <= layout::stamp_at(r, i) {
             return i;
         }
-        i += 1;
     }
     n
 }
@@ -86,20 +75,18 @@ pub fn drop_below(r: &mut [u8], w: u64)
 }
 
 // The value of the held event at stamp t.
-pub fn find(r: &[u8], t: u64) -> Found
+pub fn find(r: &[u8], t: u64) -> Option<i64>
     requires { length r.now ≡ 256 }
-    ensures { as_option result ≡ found (held_of (dec_raw r.now)) t }
+    ensures { result ≡ found (held_of (dec_raw r.now)) t }
 {
     let n = count(r);
-    let mut i = 0;
-    while i < n {
+    for i in 0..n {
         let stamp = layout::stamp_at(r, i);
         if stamp == t {
-            return Found::Value(num::of_bits(layout::value_at(r, i)));
+            return Some(num::of_bits(layout::value_at(r, i)));
         }
-        i += 1;
     }
-    Found::Nothing
+    None
 }
 
 // One past the stamp, if that is below t and past the best so far.
@@ -132,13 +119,13 @@ pub fn past_latest(r: &[u8], t: u64) -> u64
 }
 
 // The value of the latest held event strictly before t.
-pub fn latest_before(r: &[u8], t: u64) -> Found
+pub fn latest_before(r: &[u8], t: u64) -> Option<i64>
     requires { length r.now ≡ 256 }
-    ensures { as_option result ≡ latest (found (held_of (dec_raw r.now))) t }
+    ensures { result ≡ latest (found (held_of (dec_raw r.now))) t }
 {
     let z = past_latest(r, t);
     if z == 0 {
-        return Found::Nothing;
+        return None;
     }
     find(r, z - 1)
 }

@@ -137,12 +137,10 @@ pub fn tell_all(state: &mut [u8], n: usize, s: u64, t: u32, v: u64)
     requires { n * 256 ≤ length state.old }
     ensures { state.new ≡ encode n (change_all (told_row s t v) (decode n state.old)) }
 {
-    let mut i = 0;
-    while i < n {
+    for i in 0..n {
         let at = i * layout::RECORD;
         let end = at + layout::RECORD;
         tell(&mut state[at..end], s, t, v);
-        i += 1;
     }
 }
 
@@ -151,12 +149,10 @@ pub fn last_reader(state: &[u8], n: usize, s: u64) -> usize
     requires { n * 256 ≤ length state.now }
     ensures { (result ≡ last_reader s (decode n state.now).rows n) × (result ≤ n) }
 {
-    let mut i = n;
-    while 0 < i {
-        if reads(layout::row_at(state, i - 1), s) {
-            return i;
+    for i in (0..n).rev() {
+        if reads(layout::row_at(state, i), s) {
+            return i + 1;
         }
-        i -= 1;
     }
     0
 }
@@ -183,7 +179,7 @@ fn least_reader(state: &[u8], n: usize, s: u64, last: usize) -> u64
     let mut i = last;
     while 0 < i {
         let bound = layout::word_at(layout::row_at(state, i - 1), layout::BOUND);
-        least = limits::smaller(bound, least);
+        least = bound.min(least);
         i = last_reader(state, i - 1, s);
     }
     least
@@ -199,7 +195,7 @@ fn waiting(r: &[u8], least: u64) -> u64
         return least;
     }
     let next = layout::word_at(r, layout::NEXT);
-    limits::smaller(next, least)
+    next.min(least)
 }
 
 // Lets go what nobody waits for of stream i, whose last reader is the record before last: the least bound of the readers is worked

@@ -3,7 +3,7 @@ use Prim.Native.Nat.{ℕ, zero, suc, ◌+◌, ◌<◌, ◌≤◌, min}
 use mathlib.Core.Path.{◌≡◌, refl, sym, ap, ◌∙◌}
 use mathlib.Core.List.{List, [], ◌∷◌, map}
 use mathlib.Core.Bool.{Bool, true, false, not, cond}
-use mathlib.Core.Option.{none, some}
+use Rattle.std.specs.Prelude.{None, Some}
 use native.Mathlib.Omega.{arith}
 use native.Mathlib.Numerals.{add-one}
 use lib.Dec.{ltb, eqb}
@@ -32,8 +32,8 @@ gone w n es = below w (length es) (slots n es)
 
 -- the oldest waiting event: none, or the one in the first slot that is not collected
 pub data Waiting (w n : ℕ) (es : List Event) : Type 0 where
-  nothing : oldest w es ≡ none → gone w n es ≡ length es → Waiting w n es
-  waits : (e : Event) → oldest w es ≡ some e → gone w n es < length es → get_or (slots n es) (gone w n es) no_slot ≡ slot_of e → Waiting w n es
+  nothing : oldest w es ≡ None → gone w n es ≡ length es → Waiting w n es
+  waits : (e : Event) → oldest w es ≡ Some e → gone w n es < length es → get_or (slots n es) (gone w n es) no_slot ≡ slot_of e → Waiting w n es
 
 gone_cons : (w n : ℕ) (e : Event) (es : List Event) → gone w (suc n) (e ∷ es) ≡ cond (ltb e.stamp w) (suc (gone w n es)) 0
 unfolding below pad_to

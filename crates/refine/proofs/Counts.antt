@@ -7,7 +7,7 @@ use native.Mathlib.Omega.{arith}
 use lib.ListN.{length, set}
 use Rattle.meaning.specs.Plan.{Fold, wsum, wmin, wmax, Eqn, input, nil, unit, one, two, last, delay, signal, window}
 use Rattle.meaning.specs.Table.{width}
-use Rattle.meaning.specs.Missing.{Reason, outside, divisor, said_for, can_lack, count_limit}
+use Rattle.meaning.specs.Missing.{Reason, Outside, ZeroDivisor, said_for, can_lack, count_limit}
 use Rattle.machine.specs.State.{Kept, Passed, Cell, State, cell_at, plan_of, count_of, no_passed, with_passed}
 use Rattle.machine.specs.Step.{hears, counted, drop_below, pass}
 use Rattle.machine.specs.Counting.{sum_tally, tallied}
@@ -39,7 +39,7 @@ pub counted_cell : (c : Cell) (m n : ℕ) → ((q : Reason) → IsCount (can_lac
 unfolding counted_row of_cell
 counted_cell c m n ok =
     let p = c.passed in
-    let h = halves p.outside p.divisors (count_small (can_lack c.eqn) c.bound p.outside (ok outside)) (count_small (can_lack c.eqn) c.bound p.divisors (ok divisor)) in
+    let h = halves p.outside p.divisors (count_small (can_lack c.eqn) c.bound p.outside (ok Outside)) (count_small (can_lack c.eqn) c.bound p.divisors (ok ZeroDivisor)) in
     ap₂ (λ (u w : ℕ). with_num counts_f (min count_limit (u + m) + min count_limit (w + n) * 2 ^ 32) (of_cell c)) h.0 h.1
 
 -- ---- the stamps that are counted
@@ -49,16 +49,16 @@ pub pass_count : (e : Eqn) (y : ℕ) (o a b : Cell) → can_lack e ≡ true → 
 pass_count input y o a b h q = absurd (true≢false (sym h))
 pass_count nil y o a b h q = absurd (true≢false (sym h))
 pass_count unit y o a b h q = absurd (true≢false (sym h))
-pass_count (one f c) y o a b h outside = refl
-pass_count (one f c) y o a b h divisor = refl
-pass_count (two g c d) y o a b h outside = refl
-pass_count (two g c d) y o a b h divisor = refl
+pass_count (one f c) y o a b h Outside = refl
+pass_count (one f c) y o a b h ZeroDivisor = refl
+pass_count (two g c d) y o a b h Outside = refl
+pass_count (two g c d) y o a b h ZeroDivisor = refl
 pass_count (last c d) y o a b h q = absurd (true≢false (sym h))
 pass_count (delay c d) y o a b h q = absurd (true≢false (sym h))
-pass_count (signal g c d) y o a b h outside = refl
-pass_count (signal g c d) y o a b h divisor = refl
-pass_count (window f k c) y o a b h outside = refl
-pass_count (window f k c) y o a b h divisor = refl
+pass_count (signal g c d) y o a b h Outside = refl
+pass_count (signal g c d) y o a b h ZeroDivisor = refl
+pass_count (window f k c) y o a b h Outside = refl
+pass_count (window f k c) y o a b h ZeroDivisor = refl
 
 -- any but a window looks at its own bound and kept data, and at the arguments' held events
 pub tallied_plain : (q : Reason) (e : Eqn) (o a b : Cell) (x : ℕ) → is_window_eqn e ≡ false → tallied q e (own_cell nil o.bound o.kept) (with_passed no_passed a) (with_passed no_passed b) x ≡ tallied q e o a b x
@@ -84,10 +84,10 @@ tallied_window q (two g c d) o a b x h = absurd (true≢false (sym h))
 tallied_window q (last c d) o a b x h = absurd (true≢false (sym h))
 tallied_window q (delay c d) o a b x h = absurd (true≢false (sym h))
 tallied_window q (signal g c d) o a b x h = absurd (true≢false (sym h))
-tallied_window outside (window wsum k c) o a b x h = refl
-tallied_window outside (window wmin k c) o a b x h = refl
-tallied_window outside (window wmax k c) o a b x h = refl
-tallied_window divisor (window f k c) o a b x h = refl
+tallied_window Outside (window wsum k c) o a b x h = refl
+tallied_window Outside (window wmin k c) o a b x h = refl
+tallied_window Outside (window wmax k c) o a b x h = refl
+tallied_window ZeroDivisor (window f k c) o a b x h = refl
 
 -- ---- the plan stays
 

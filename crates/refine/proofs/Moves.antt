@@ -16,7 +16,7 @@ use Rattle.meaning.specs.Plan.{Eqn, input, nil, unit, one, two, last, delay, sig
 use Rattle.meaning.specs.Arguments.{reads, arg_a, arg_b, AllBelow}
 use Rattle.meaning.specs.Events.{Event, ev, horizon}
 use Rattle.meaning.specs.Table.{latest_of, values, width}
-use Rattle.meaning.specs.Missing.{Reason, outside, divisor, can_lack, count_limit}
+use Rattle.meaning.specs.Missing.{Reason, Outside, ZeroDivisor, can_lack, count_limit}
 use Rattle.machine.specs.State.{Kept, Passed, Cell, State, absent, cell_at, plan_of, room, no_passed, count_of, with_kept, with_window, with_passed}
 use Rattle.machine.specs.Reach.{Next, event, silent, decide}
 use Rattle.machine.specs.Step.{drop_below, passes, advance, absorb, absorbed, write, tell, release, releases, raise, new_bound, added, ahead, can_move, comes_in, move}
@@ -255,11 +255,11 @@ module _ {cap : ℕ} (size : ℕ) (M : State) (ok : Sound cap M) (i : ℕ) (l : 
           both true e u v = absurd (true≢false e)
           both false e u v = u ∙ sym v
 
-      go : (b : Bool) → can_lack me.eqn ≡ b → cond b (change i (counted_row (m outside) (m divisor)) (raws_of size M)) (raws_of size M) ≡ raws_of size (set M i counted_to)
+      go : (b : Bool) → can_lack me.eqn ≡ b → cond b (change i (counted_row (m Outside) (m ZeroDivisor)) (raws_of size M)) (raws_of size M) ≡ raws_of size (set M i counted_to)
       go true h =
-          change_of size M i (counted_row (m outside) (m divisor)) (with_both (min count_limit (me.passed.outside + m outside)) (min count_limit (me.passed.divisors + m divisor)) me) l (counted_cell me (m outside) (m divisor) (ok.each i l).counts) refl refl
-          ∙ ap₂ (λ (u v : ℕ). raws_of size (set M i (with_both u v me))) (count_is h outside) (count_is h divisor)
-      go false h = sym (ap₂ (λ (u v : ℕ). raws_of size (set M i (with_both u v me))) (stays h outside) (stays h divisor) ∙ ap (raws_of size) (set-get_or M i absent))
+          change_of size M i (counted_row (m Outside) (m ZeroDivisor)) (with_both (min count_limit (me.passed.outside + m Outside)) (min count_limit (me.passed.divisors + m ZeroDivisor)) me) l (counted_cell me (m Outside) (m ZeroDivisor) (ok.each i l).counts) refl refl
+          ∙ ap₂ (λ (u v : ℕ). raws_of size (set M i (with_both u v me))) (count_is h Outside) (count_is h ZeroDivisor)
+      go false h = sym (ap₂ (λ (u v : ℕ). raws_of size (set M i (with_both u v me))) (stays h Outside) (stays h ZeroDivisor) ∙ ap (raws_of size) (set-get_or M i absent))
 
   -- a state whose stream i has other counts holds the same events
   held_same : (j : ℕ) → j < length M → held_of (of_cell (cell_at (set M i counted_to) j)) ≡ (cell_at M j).held

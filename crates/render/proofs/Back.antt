@@ -15,14 +15,9 @@ use mir.Syntax.{w64}
 use mir.Val.{to_z}
 use mir.Facts.{to_z_pos, to_z-neg}
 use Rattle.operators.specs.Operators.{Operator, operators, no_operator, name_of}
-use Rattle.lines.specs.declared.Word.{Word}
-use Rattle.lines.specs.declared.Word.TheVariants.{Past, Absent}
-use Rattle.lines.specs.declared.Numeral.{Numeral}
-use Rattle.lines.specs.declared.Numeral.TheVariants.{Number, Fault}
-use Rattle.text.specs.declared.Name.{Name}
+use Rattle.std.specs.Prelude.{Option, Some, None, Ok}
 use Rattle.lines.specs.declared.Scanned.{Scanned}
 use Rattle.text.specs.declared.Fields.{Fields}
-use Rattle.text.specs.declared.Lines.{Lines}
 use Rattle.lines.specs.Form.{ending, value_key, out_key, stands, skip, after, digit, scanned, scan, counted, or_zero, whole, ended_at, ended, field, positive, negative, signed_after, signed, value_line, bit, out_line}
 use Rattle.text.specs.Grammar.{op_key, first_key, second_key, letter, name_at, same_name, place, names, number_named, op_line, stream}
 use Rattle.lines.proofs.Turns.{grows}
@@ -34,15 +29,15 @@ use Rattle.render.proofs.Ranges.{stream_case, fields_case, op_case}
 
 -- ## Words
 
-abbrev position_of : Word → ℕ
-position_of (Past p) = p
-position_of Absent = 0
+abbrev position_of : Option ℕ → ℕ
+position_of (Some p) = p
+position_of None = 0
 
-abbrev is_past : Word → Bool
-is_past (Past p) = true
-is_past Absent = false
+abbrev is_past : Option ℕ → Bool
+is_past (Some p) = true
+is_past None = false
 
-absent : {A : Type 0} {p : ℕ} → Absent ≡ Past p → A
+absent : {A : Type 0} {p : ℕ} → None ≡ Some p → A
 absent e = absurd (true≢false (sym (ap is_past e)))
 
 there : (s : List ℕ) (at c : ℕ) → at < length s → get_or s at 0 ≡ c → drop at s ≡ c ∷ drop (at + 1) s
@@ -50,12 +45,12 @@ there s at c h e =
     let z : suc at ≡ at + 1 = omega arith in
     drop-cons s at 0 h ∙ rw (e, z)
 
-pub skip_read : (s : List ℕ) (w : List ℕ) (at p : ℕ) → skip s at w ≡ Past p → drop at s ≡ w ++ drop p s
+pub skip_read : (s : List ℕ) (w : List ℕ) (at p : ℕ) → skip s at w ≡ Some p → drop at s ≡ w ++ drop p s
 unfolding skip
 skip_read s [] at p e = ap (λ (n : ℕ). drop n s) (ap position_of e)
 skip_read s (c ∷ w) at p e = by (stands s at c) refl e (λ q. skip_read s w (at + 1) p q)
   where
-    by : (b : Bool) → stands s at c ≡ b → cond b (skip s (at + 1) w) Absent ≡ Past p → (skip s (at + 1) w ≡ Past p → drop (at + 1) s ≡ w ++ drop p s) → drop at s ≡ c ∷ (w ++ drop p s)
+    by : (b : Bool) → stands s at c ≡ b → cond b (skip s (at + 1) w) None ≡ Some p → (skip s (at + 1) w ≡ Some p → drop (at + 1) s ≡ w ++ drop p s) → drop at s ≡ c ∷ (w ++ drop p s)
     by true q e ih = there s at c (ltb-true at (length s) (left (ltb at (length s)) (eqb (get_or s at 0) c) q)) (eqb-true (get_or s at 0) c (right (ltb at (length s)) (eqb (get_or s at 0) c) q)) ∙ ap (λ (l : List ℕ). c ∷ l) (ih e)
     by false q e ih = absent e
 
@@ -103,25 +98,25 @@ scan_read s (suc n) p v i w q h b z l e =
         ∙ ap (λ (x : List ℕ). x ++ drop (p + 1) s) (sym t)
         ∙ ih d e
 
-abbrev value_in : Numeral → ℕ
-value_in (Number v p) = v
-value_in Fault = 0
+abbrev value_in : Option (ℕ × ℕ) → ℕ
+value_in (Some (v, p)) = v
+value_in None = 0
 
-abbrev place_in : Numeral → ℕ
-place_in (Number v p) = p
-place_in Fault = 0
+abbrev place_in : Option (ℕ × ℕ) → ℕ
+place_in (Some (v, p)) = p
+place_in None = 0
 
-abbrev is_number : Numeral → Bool
-is_number (Number v p) = true
-is_number Fault = false
+abbrev is_number : Option (ℕ × ℕ) → Bool
+is_number (Some (v, p)) = true
+is_number None = false
 
-pub fault : {A : Type 0} {v p : ℕ} → Fault ≡ Number v p → A
+pub fault : {A : Type 0} {v p : ℕ} → ◌≡◌ {A = Option (ℕ × ℕ)} None (Some (v, p)) → A
 fault e = absurd (true≢false (sym (ap is_number e)))
 
-counted_case : (at v p : ℕ) (x : Scanned) → counted at x ≡ Number v p → (x ≡ scanned v p) × (x.next ≡ at → ⊥)
+counted_case : (at v p : ℕ) (x : Scanned) → counted at x ≡ Some (v, p) → (x ≡ scanned v p) × (x.next ≡ at → ⊥)
 counted_case at v p x e = by (eqb x.next at) refl e
   where
-    by : (b : Bool) → eqb x.next at ≡ b → cond b Fault (Number x.value x.next) ≡ Number v p → (x ≡ scanned v p) × (x.next ≡ at → ⊥)
+    by : (b : Bool) → eqb x.next at ≡ b → cond {A = Option (ℕ × ℕ)} b None (Some (x.value, x.next)) ≡ Some (v, p) → (x ≡ scanned v p) × (x.next ≡ at → ⊥)
     by true q e = fault e
     by false q e = ((λ i. record { value = ap value_in e i; next = ap place_in e i }), eqb-false x.next at q)
 
@@ -145,50 +140,50 @@ counted_read s at m v p l z e n = by (digit (get_or s at 0)) refl e n
         ∙ ap (λ (x : List ℕ). x ++ drop (at + 1) s) (sym f)
         ∙ scan_read s m (at + 1) (c - 48) 1 v p (omega arith) (omega arith) (lit< tt) (omega arith) (rw w at e)
 
-zero_absent : (s : List ℕ) (at : ℕ) → stands s at 48 ≡ true → skip s at (48 ∷ []) ≡ Absent → ⊥
+zero_absent : (s : List ℕ) (at : ℕ) → stands s at 48 ≡ true → skip s at (48 ∷ []) ≡ None → ⊥
 unfolding skip
 zero_absent s at q e = true≢false (ap is_past (rw q at e))
 
-pub whole_read : (s : List ℕ) (at max v p : ℕ) → 0 < max → max ≤ 19 → whole s at max ≡ Number v p → drop at s ≡ decimal v ++ drop p s
+pub whole_read : (s : List ℕ) (at max v p : ℕ) → 0 < max → max ≤ 19 → whole s at max ≡ Some (v, p) → drop at s ≡ decimal v ++ drop p s
 unfolding whole
 whole_read s at zero v p h l e = absurd (omega arith)
 whole_read s at (suc m) v p h l e = by (skip s at (48 ∷ [])) refl e
   where
-    by : (x : Word) → skip s at (48 ∷ []) ≡ x → or_zero x (counted at (scan s at 0 (suc m))) ≡ Number v p → drop at s ≡ decimal v ++ drop p s
-    by (Past q) f e =
+    by : (x : Option ℕ) → skip s at (48 ∷ []) ≡ x → or_zero x (counted at (scan s at 0 (suc m))) ≡ Some (v, p) → drop at s ≡ decimal v ++ drop p s
+    by (Some q) f e =
         let a : 0 ≡ v = ap value_in e in
         let b : q ≡ p = ap place_in e in
         skip_read s (48 ∷ []) at q f ∙ rw (← a, b, digit_one 18 0 (lit< tt))
-    by Absent f e =
+    by None f e =
         let c = counted_case at v p (scan s at 0 (suc m)) e in
         counted_read s at m v p l (λ q. zero_absent s at q f) c.0 c.1
 
 -- ## Lines
 
-pub ended_read : {A : Type 0} (s : List ℕ) (x : Numeral) (v q : ℕ) → ended s x ≡ Number v q → ((p : ℕ) → x ≡ Number v p → drop p s ≡ 10 ∷ drop q s → A) → A
+pub ended_read : {A : Type 0} (s : List ℕ) (x : Option (ℕ × ℕ)) (v q : ℕ) → ended s x ≡ Some (v, q) → ((p : ℕ) → x ≡ Some (v, p) → drop p s ≡ 10 ∷ drop q s → A) → A
 unfolding ended
-ended_read {A = A} s Fault v q e c = fault e
-ended_read {A = A} s (Number w p) v q e c = by (skip s p ending) refl e
+ended_read {A = A} s None v q e c = fault e
+ended_read {A = A} s (Some (w, p)) v q e c = by (skip s p ending) refl e
   where
-    by : (x : Word) → skip s p ending ≡ x → ended_at w x ≡ Number v q → A
-    by (Past t) f e =
+    by : (x : Option ℕ) → skip s p ending ≡ x → ended_at w x ≡ Some (v, q) → A
+    by (Some t) f e =
         let a : w ≡ v = ap value_in e in
         let b : t ≡ q = ap place_in e in
-        c p (ap (λ (n : ℕ). Number n p) a) (skip_read s ending p t f ∙ rw b)
-    by Absent f e = fault e
+        c p (ap (λ (n : ℕ). Some (n, p)) a) (skip_read s ending p t f ∙ rw b)
+    by None f e = fault e
 
 -- a key, and what follows it
-keyed : {A : Type 0} (s : List ℕ) (at : ℕ) (key : List ℕ) (f : ℕ → Numeral) (v q : ℕ) → after (skip s at key) f ≡ Number v q → ((p : ℕ) → drop at s ≡ key ++ drop p s → f p ≡ Number v q → A) → A
+keyed : {A : Type 0} (s : List ℕ) (at : ℕ) (key : List ℕ) (f : ℕ → Option (ℕ × ℕ)) (v q : ℕ) → after (skip s at key) f ≡ Some (v, q) → ((p : ℕ) → drop at s ≡ key ++ drop p s → f p ≡ Some (v, q) → A) → A
 keyed {A = A} s at key f v q e c = by (skip s at key) refl e
   where
-    by : (x : Word) → skip s at key ≡ x → after x f ≡ Number v q → A
-    by (Past p) g e = c p (skip_read s key at p g) e
-    by Absent g e = fault e
+    by : (x : Option ℕ) → skip s at key ≡ x → after x f ≡ Some (v, q) → A
+    by (Some p) g e = c p (skip_read s key at p g) e
+    by None g e = fault e
 
 joined : (s key value : List ℕ) (at p t q : ℕ) → drop at s ≡ key ++ drop p s → drop p s ≡ value ++ drop t s → drop t s ≡ 10 ∷ drop q s → drop at s ≡ line key value ++ drop q s
 joined s key value at p t q a b c = a ∙ ap (λ (x : List ℕ). key ++ x) (b ∙ ap (λ (x : List ℕ). value ++ x) c) ∙ sym (line_split key value (drop q s))
 
-pub field_read : (s : List ℕ) (at : ℕ) (key : List ℕ) (max v q : ℕ) → 0 < max → max ≤ 19 → field s at key max ≡ Number v q → drop at s ≡ line key (decimal v) ++ drop q s
+pub field_read : (s : List ℕ) (at : ℕ) (key : List ℕ) (max v q : ℕ) → 0 < max → max ≤ 19 → field s at key max ≡ Some (v, q) → drop at s ≡ line key (decimal v) ++ drop q s
 unfolding field
 field_read s at key max v q h l e =
     keyed s at key (λ p. ended s (whole s p max)) v q e
@@ -201,11 +196,11 @@ positive_number : (v : ℕ) → (v ≡ 0 → ⊥) → 0 < v
 positive_number zero h = absurd (h refl)
 positive_number (suc v) h = omega arith
 
-signed_read : (s : List ℕ) (at k t : ℕ) → signed s at ≡ Number k t → (drop at s ≡ value_text (to_z w64 k) ++ drop t s) × (k < 2 ^ 64)
+signed_read : (s : List ℕ) (at k t : ℕ) → signed s at ≡ Some (k, t) → (drop at s ≡ value_text (to_z w64 k) ++ drop t s) × (k < 2 ^ 64)
 unfolding signed
 signed_read s at k t e = by (skip s at (45 ∷ [])) refl e
   where
-    up : (v p : ℕ) (b : Bool) → ltb v (2 ^ 63) ≡ b → whole s at 19 ≡ Number v p → cond b (Number v p) Fault ≡ Number k t → (drop at s ≡ value_text (to_z w64 k) ++ drop t s) × (k < 2 ^ 64)
+    up : (v p : ℕ) (b : Bool) → ltb v (2 ^ 63) ≡ b → whole s at 19 ≡ Some (v, p) → cond {A = Option (ℕ × ℕ)} b (Some (v, p)) None ≡ Some (k, t) → (drop at s ≡ value_text (to_z w64 k) ++ drop t s) × (k < 2 ^ 64)
     up v p false q f e = fault e
     up v p true q f e =
         let a : v ≡ k = ap value_in e in
@@ -213,11 +208,11 @@ signed_read s at k t e = by (skip s at (45 ∷ [])) refl e
         let l : k < 2 ^ 63 = omega (arith, ltb-true v (2 ^ 63) q) in
         (whole_read s at 19 k t (lit< tt) (lit≤ tt) (f ∙ rw (a, b)) ∙ rw (to_z_pos w64 l), omega arith)
 
-    positive_by : (x : Numeral) → whole s at 19 ≡ x → positive x ≡ Number k t → (drop at s ≡ value_text (to_z w64 k) ++ drop t s) × (k < 2 ^ 64)
-    positive_by (Number v p) f e = up v p (ltb v (2 ^ 63)) refl f e
-    positive_by Fault f e = fault e
+    positive_by : (x : Option (ℕ × ℕ)) → whole s at 19 ≡ x → positive x ≡ Some (k, t) → (drop at s ≡ value_text (to_z w64 k) ++ drop t s) × (k < 2 ^ 64)
+    positive_by (Some (v, p)) f e = up v p (ltb v (2 ^ 63)) refl f e
+    positive_by None f e = fault e
 
-    down : (o v p : ℕ) → drop at s ≡ 45 ∷ drop o s → whole s o 19 ≡ Number v p → (x y : Bool) → eqb v 0 ≡ x → leb v (2 ^ 63) ≡ y → cond x Fault (cond y (Number (2 ^ 64 - v) p) Fault) ≡ Number k t → (drop at s ≡ value_text (to_z w64 k) ++ drop t s) × (k < 2 ^ 64)
+    down : (o v p : ℕ) → drop at s ≡ 45 ∷ drop o s → whole s o 19 ≡ Some (v, p) → (x y : Bool) → eqb v 0 ≡ x → leb v (2 ^ 63) ≡ y → cond {A = Option (ℕ × ℕ)} x None (cond {A = Option (ℕ × ℕ)} y (Some (2 ^ 64 - v, p)) None) ≡ Some (k, t) → (drop at s ≡ value_text (to_z w64 k) ++ drop t s) × (k < 2 ^ 64)
     down o v p d f true y q r e = fault e
     down o v p d f false false q r e = fault e
     down o v p d f false true q r e =
@@ -229,15 +224,15 @@ signed_read s at k t e = by (skip s at (45 ∷ [])) refl e
         let z : to_z w64 k ≡ negsuc (v - 1) = ap (to_z w64) (sym a ∙ ap (λ (x : ℕ). 2 ^ 64 - x) (sym m)) ∙ to_z-neg w64 (v - 1) (omega arith) in
         (d ∙ ap (λ (x : List ℕ). 45 ∷ x) (whole_read s o 19 v t (lit< tt) (lit≤ tt) (f ∙ rw b)) ∙ rw (z, m), omega arith)
 
-    negative_by : (o : ℕ) → drop at s ≡ 45 ∷ drop o s → (x : Numeral) → whole s o 19 ≡ x → negative x ≡ Number k t → (drop at s ≡ value_text (to_z w64 k) ++ drop t s) × (k < 2 ^ 64)
-    negative_by o d (Number v p) f e = down o v p d f (eqb v 0) (leb v (2 ^ 63)) refl refl e
-    negative_by o d Fault f e = fault e
+    negative_by : (o : ℕ) → drop at s ≡ 45 ∷ drop o s → (x : Option (ℕ × ℕ)) → whole s o 19 ≡ x → negative x ≡ Some (k, t) → (drop at s ≡ value_text (to_z w64 k) ++ drop t s) × (k < 2 ^ 64)
+    negative_by o d (Some (v, p)) f e = down o v p d f (eqb v 0) (leb v (2 ^ 63)) refl refl e
+    negative_by o d None f e = fault e
 
-    by : (x : Word) → skip s at (45 ∷ []) ≡ x → signed_after s at x ≡ Number k t → (drop at s ≡ value_text (to_z w64 k) ++ drop t s) × (k < 2 ^ 64)
-    by (Past o) f e = negative_by o (skip_read s (45 ∷ []) at o f) (whole s o 19) refl e
-    by Absent f e = positive_by (whole s at 19) refl e
+    by : (x : Option ℕ) → skip s at (45 ∷ []) ≡ x → signed_after s at x ≡ Some (k, t) → (drop at s ≡ value_text (to_z w64 k) ++ drop t s) × (k < 2 ^ 64)
+    by (Some o) f e = negative_by o (skip_read s (45 ∷ []) at o f) (whole s o 19) refl e
+    by None f e = positive_by (whole s at 19) refl e
 
-pub value_read : (s : List ℕ) (at k q : ℕ) → value_line s at ≡ Number k q → (drop at s ≡ line value_key (value_text (to_z w64 k)) ++ drop q s) × (k < 2 ^ 64)
+pub value_read : (s : List ℕ) (at k q : ℕ) → value_line s at ≡ Some (k, q) → (drop at s ≡ line value_key (value_text (to_z w64 k)) ++ drop q s) × (k < 2 ^ 64)
 unfolding value_line
 value_read s at k q e =
     keyed s at value_key (λ p. ended s (signed s p)) k q e
@@ -246,7 +241,7 @@ value_read s at k q e =
 
 -- ## out
 
-pub out_read : (s : List ℕ) (at v q : ℕ) → out_line s at ≡ Number v q → (drop at s ≡ line out_key (bit_text (eqb v 1)) ++ drop q s) × (v ≤ 1)
+pub out_read : (s : List ℕ) (at v q : ℕ) → out_line s at ≡ Some (v, q) → (drop at s ≡ line out_key (bit_text (eqb v 1)) ++ drop q s) × (v ≤ 1)
 unfolding out_line
 out_read s at v q e = by (field s at out_key 1) refl e
   where
@@ -255,7 +250,7 @@ out_read s at v q e = by (field s at out_key 1) refl e
     text_of (suc zero) h = digit_one 18 1 (lit< tt)
     text_of (suc (suc v)) h = absurd (omega arith)
 
-    within : (w p : ℕ) (b : Bool) → leb w 1 ≡ b → field s at out_key 1 ≡ Number w p → cond b (Number w p) Fault ≡ Number v q → (drop at s ≡ line out_key (bit_text (eqb v 1)) ++ drop q s) × (v ≤ 1)
+    within : (w p : ℕ) (b : Bool) → leb w 1 ≡ b → field s at out_key 1 ≡ Some (w, p) → cond {A = Option (ℕ × ℕ)} b (Some (w, p)) None ≡ Some (v, q) → (drop at s ≡ line out_key (bit_text (eqb v 1)) ++ drop q s) × (v ≤ 1)
     within w p false r f e = fault e
     within w p true r f e =
         let a : w ≡ v = ap value_in e in
@@ -263,9 +258,9 @@ out_read s at v q e = by (field s at out_key 1) refl e
         let l : v ≤ 1 = omega (arith, leb-true w 1 r) in
         (field_read s at out_key 1 v q (lit< tt) (lit≤ tt) (f ∙ rw (a, b)) ∙ ap (λ (x : List ℕ). line out_key x ++ drop q s) (text_of v l), l)
 
-    by : (x : Numeral) → field s at out_key 1 ≡ x → bit x ≡ Number v q → (drop at s ≡ line out_key (bit_text (eqb v 1)) ++ drop q s) × (v ≤ 1)
-    by (Number w p) f e = within w p (leb w 1) refl f e
-    by Fault f e = fault e
+    by : (x : Option (ℕ × ℕ)) → field s at out_key 1 ≡ x → bit x ≡ Some (v, q) → (drop at s ≡ line out_key (bit_text (eqb v 1)) ++ drop q s) × (v ≤ 1)
+    by (Some (w, p)) f e = within w p (leb w 1) refl f e
+    by None f e = fault e
 
 -- ## op
 
@@ -311,7 +306,7 @@ name_back w n e h =
     let z : n - 0 ≡ n = omega arith in
     sym (get_or-map (λ (o : Operator). o.name) operators n no_operator) ∙ ap (λ (x : ℕ). get_or names x []) (sym z) ∙ r.1
 
-pub op_read : (s : List ℕ) (at n q : ℕ) → op_line s at ≡ Name.Operator n q → drop at s ≡ line op_key (name_of n) ++ drop q s
+pub op_read : (s : List ℕ) (at n q : ℕ) → op_line s at ≡ Ok (n, q) → drop at s ≡ line op_key (name_of n) ++ drop q s
 op_read s at n q e =
     op_case s at n q e
     (λ p f g h d.
@@ -321,7 +316,7 @@ op_read s at n q e =
 
 -- ## The five lines
 
-pub stream_read : (s : List ℕ) (at : ℕ) (f : Fields) → stream s at ≡ Lines.Stream f → (drop at s ≡ stream_text f.op f.a f.b (to_z w64 f.k) (eqb f.out 1) ++ drop f.next s) × (f.k < 2 ^ 64) × (f.out ≤ 1)
+pub stream_read : (s : List ℕ) (at : ℕ) (f : Fields) → stream s at ≡ Ok f → (drop at s ≡ stream_text f.op f.a f.b (to_z w64 f.k) (eqb f.out 1) ++ drop f.next s) × (f.k < 2 ^ 64) × (f.out ≤ 1)
 unfolding stream_text
 stream_read s at f e =
     stream_case s at f e

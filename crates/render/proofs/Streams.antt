@@ -12,11 +12,7 @@ use lib.ListN.{length, get_or, drop}
 use borrow.Author.Tests.{lt-ltb, le-leb, ne_eqb, leb-true, eqb-true}
 use Rattle.operators.specs.Operators.{operator_count, name_of}
 use Rattle.operators.proofs.Numbers.{agree}
-use Rattle.lines.specs.declared.Word.TheVariants.{Past, Absent}
-use Rattle.lines.specs.declared.Numeral.{Numeral}
-use Rattle.lines.specs.declared.Numeral.TheVariants.{Number}
-use Rattle.text.specs.declared.Name.{Name}
-use Rattle.text.specs.declared.Lines.{Lines}
+use Rattle.std.specs.Prelude.{Option, Some, None, Ok}
 use Rattle.lines.specs.Form.{ending, value_key, out_key, skip, whole, positive, negative, signed, value_line, bit, out_line}
 use Rattle.text.specs.Grammar.{op_key, first_key, second_key, place, letter, name_at, number_named, known, named, op_line, fields_after, stream}
 use Rattle.decimal.specs.Decimal.{decimal, value_text}
@@ -31,13 +27,13 @@ abbrev pub bits_of : ℤ → ℕ
 bits_of (pos n) = n
 bits_of (negsuc n) = 2 ^ 64 - suc n
 
-positive_found : (s : List ℕ) (x : Numeral) (v : ℕ) (r : List ℕ) → v < 2 ^ 63 → Finds s x v r → Finds s (positive x) v r
+positive_found : (s : List ℕ) (x : Option (ℕ × ℕ)) (v : ℕ) (r : List ℕ) → v < 2 ^ 63 → Finds s x v r → Finds s (positive x) v r
 positive_found s x v r h f = (f.0, rw (f.1, lt-ltb v (2 ^ 63) h), f.2, f.3)
 
-negative_found : (s : List ℕ) (x : Numeral) (v : ℕ) (r : List ℕ) → v < 2 ^ 63 → Finds s x (suc v) r → Finds s (negative x) (2 ^ 64 - suc v) r
+negative_found : (s : List ℕ) (x : Option (ℕ × ℕ)) (v : ℕ) (r : List ℕ) → v < 2 ^ 63 → Finds s x (suc v) r → Finds s (negative x) (2 ^ 64 - suc v) r
 negative_found s x v r h f = (f.0, rw (f.1, ne_eqb (suc v) 0 (λ e. omega arith), le-leb (suc v) (2 ^ 63) h), f.2, f.3)
 
-no_minus : (s : List ℕ) (at v : ℕ) (r d : List ℕ) → d ≡ decimal v → v < 10 ^ 19 → drop at s ≡ d ++ r → skip s at (45 ∷ []) ≡ Absent
+no_minus : (s : List ℕ) (at v : ℕ) (r d : List ℕ) → d ≡ decimal v → v < 10 ^ 19 → drop at s ≡ d ++ r → skip s at (45 ∷ []) ≡ None
 no_minus s at v r [] q h e = absurd (omega (arith, digits_some 19 v (lit< tt), ap length q))
 no_minus s at v r (c ∷ d) q h e =
     let f : get_or (decimal v) 0 0 ≡ c = ap (λ (x : List ℕ). get_or x 0 0) (sym q) in
@@ -80,7 +76,7 @@ out_written s at b r e =
     small true = lit< tt
     small false = lit< tt
 
-    bit_of : (b : Bool) (p : ℕ) → bit (Number (out_of b) p) ≡ Number (out_of b) p
+    bit_of : (b : Bool) (p : ℕ) → bit (Some (out_of b, p)) ≡ Some (out_of b, p)
     bit_of true p = refl
     bit_of false p = refl
 
@@ -128,7 +124,7 @@ module _ (n : ℕ) (l : 1 ≤ n) (h : n ≤ operator_count) where
   name_number : number_named (name_of n) ≡ n
   name_number = eqb-true (number_named (name_of n)) n (right (leb (length (name_of n)) 5) (eqb (number_named (name_of n)) n) rest₂)
 
-known_operator : (n p : ℕ) → 1 ≤ n → known n (Past p) ≡ Name.Operator n p
+known_operator : (n p : ℕ) → 1 ≤ n → known n (Some p) ≡ Ok (n, p)
 known_operator zero p h = absurd (omega arith)
 known_operator (suc n) p h = refl
 
@@ -137,7 +133,7 @@ unfolding named
 named_full s p [] h = absurd (omega arith)
 named_full s p (c ∷ w) h = refl
 
-pub op_written : (s : List ℕ) (at n : ℕ) (r : List ℕ) → 1 ≤ n → n ≤ operator_count → drop at s ≡ line op_key (name_of n) ++ r → (p : ℕ) × (op_line s at ≡ Name.Operator n p) × (drop p s ≡ r)
+pub op_written : (s : List ℕ) (at n : ℕ) (r : List ℕ) → 1 ≤ n → n ≤ operator_count → drop at s ≡ line op_key (name_of n) ++ r → (p : ℕ) × (op_line s at ≡ Ok (n, p)) × (drop p s ≡ r)
 unfolding op_line
 op_written s at n r l h e =
     let e₁ = e ∙ line_split op_key (name_of n) r in
@@ -153,7 +149,7 @@ op_written s at n r l h e =
 -- ## The five lines
 
 pub stream_written : (s : List ℕ) (at op a b : ℕ) (k : ℤ) (out : Bool) (r : List ℕ) → 1 ≤ op → op ≤ operator_count → a < 10 ^ 3 → b < 10 ^ 3 → mag k < 2 ^ 63 → drop at s ≡ stream_text op a b k out ++ r
-    → (p : ℕ) × (stream s at ≡ Lines.Stream (record { op = op; a = a; b = b; k = bits_of k; out = out_of out; next = p })) × (drop p s ≡ r) × (p ≤ length s)
+    → (p : ℕ) × (stream s at ≡ Ok (record { op = op; a = a; b = b; k = bits_of k; out = out_of out; next = p })) × (drop p s ≡ r) × (p ≤ length s)
 unfolding stream stream_text fields_after
 stream_written s at op a b k out r l h ha hb hk e =
     let o = line out_key (bit_text out) in

@@ -8,9 +8,7 @@ use lib.Dec.{lit<}
 use lib.ListN.{length, get_or, drop, length-append, length-drop}
 use lib.Seq.{get_or-drop, drop-drop, drop-append_seam}
 use borrow.Author.Tests.{lt-ltb, eq-eqb, ne_eqb}
-use Rattle.lines.specs.declared.Word.TheVariants.{Past, Absent}
-use Rattle.lines.specs.declared.Numeral.{Numeral}
-use Rattle.lines.specs.declared.Numeral.TheVariants.{Number}
+use Rattle.std.specs.Prelude.{Option, Some, None}
 use Rattle.lines.specs.Form.{ending, skip, scanned, scan, whole, ended, field}
 use Rattle.lines.proofs.Turns.{scan_go, scan_low, scan_end}
 use Rattle.decimal.specs.Decimal.{digits, decimal}
@@ -31,15 +29,15 @@ on s at w r e = sym (drop-drop (length w) at s) ∙ ap (drop (length w)) e ∙ d
 
 -- ## Words
 
-pub skip_written : (s : List ℕ) (w : List ℕ) (at : ℕ) (r : List ℕ) → drop at s ≡ w ++ r → skip s at w ≡ Past (at + length w)
+pub skip_written : (s : List ℕ) (w : List ℕ) (at : ℕ) (r : List ℕ) → drop at s ≡ w ++ r → skip s at w ≡ Some (at + length w)
 unfolding skip
-skip_written s [] at r e = ap Past (omega arith)
+skip_written s [] at r e = ap Some (omega arith)
 skip_written s (c ∷ w) at r e =
     let h = here s at c (w ++ r) e in
     let z : at + 1 + length w ≡ at + suc (length w) = omega arith in
-    rw (lt-ltb at (length s) h.0, eq-eqb (get_or s at 0) c h.1) (skip_written s w (at + 1) r h.2 ∙ ap Past z)
+    rw (lt-ltb at (length s) h.0, eq-eqb (get_or s at 0) c h.1) (skip_written s w (at + 1) r h.2 ∙ ap Some z)
 
-pub skip_absent : (s : List ℕ) (at c d : ℕ) (w r : List ℕ) → drop at s ≡ d ∷ r → (d ≡ c → ⊥) → skip s at (c ∷ w) ≡ Absent
+pub skip_absent : (s : List ℕ) (at c d : ℕ) (w r : List ℕ) → drop at s ≡ d ∷ r → (d ≡ c → ⊥) → skip s at (c ∷ w) ≡ None
 unfolding skip
 skip_absent s at c d w r e n =
     let h = here s at d r e in
@@ -84,8 +82,8 @@ stopped s p v zero e = sym (scan_end s p v 0 refl)
 stopped s p v (suc n) e = sym (scan_low s p v (suc n) (omega arith) 10 (sym e) (lit< tt))
 
 -- the number v with the rest r behind it, within the text
-abbrev pub Finds : List ℕ → Numeral → ℕ → List ℕ → Type 0
-Finds s x v r = (p : ℕ) × (x ≡ Number v p) × (drop p s ≡ r) × (p ≤ length s)
+abbrev pub Finds : List ℕ → Option (ℕ × ℕ) → ℕ → List ℕ → Type 0
+Finds s x v r = (p : ℕ) × (x ≡ Some (v, p)) × (drop p s ≡ r) × (p ≤ length s)
 
 found_digits : (s : List ℕ) (at v max : ℕ) (r d : List ℕ) → d ≡ decimal v → 0 < v → v < 10 ^ 19 → length d ≤ max → drop at s ≡ d ++ (10 ∷ r) → Finds s (whole s at max) v (10 ∷ r)
 unfolding whole
@@ -103,7 +101,7 @@ found_digits s at v max r (c ∷ d) q h b l e =
       omega (arith, t.0),
     )
 
-whole_zero : (s : List ℕ) (at max p : ℕ) → skip s at (48 ∷ []) ≡ Past p → whole s at max ≡ Number 0 p
+whole_zero : (s : List ℕ) (at max p : ℕ) → skip s at (48 ∷ []) ≡ Some p → whole s at max ≡ Some (0, p)
 unfolding whole
 whole_zero s at max p e = rw e
 
@@ -118,7 +116,7 @@ whole_written s at (suc v) max r h m l e =
 
 -- ## Lines
 
-pub ended_written : (s : List ℕ) (x : Numeral) (v : ℕ) (r : List ℕ) → Finds s x v (10 ∷ r) → Finds s (ended s x) v r
+pub ended_written : (s : List ℕ) (x : Option (ℕ × ℕ)) (v : ℕ) (r : List ℕ) → Finds s x v (10 ∷ r) → Finds s (ended s x) v r
 unfolding ended
 ended_written s x v r f =
     let p = f.0 in

@@ -9,8 +9,7 @@ use Rattle.operators.specs.Limits.{capacity}
 use Rattle.calls.specs.Reply.{reply}
 use Rattle.engine.specs.Load.{load_reply}
 use Rattle.trace.specs.declared.Record.{Record}
-use Rattle.trace.specs.declared.Line.{Line}
-use Rattle.trace.specs.declared.Line.TheVariants.{Read, Bad}
+use Rattle.std.specs.Prelude.{Option, Some, None}
 use Rattle.trace.specs.Trace.{line}
 use Rattle.trace.proofs.Ends.{line_ends}
 use Rattle.printer.specs.Print.{refused_text}
@@ -63,9 +62,9 @@ lines_exist zero trace h = absurd (omega arith)
 lines_exist (suc k) [] h = ([], [], [], none, end)
 lines_exist (suc k) (c ∷ l) h = go (line (c ∷ l) 0) refl (λ next d. lines_exist k (drop next (c ∷ l)) (rw (length-drop next (c ∷ l)) (omega arith)))
   where
-    go : (x : Line) → line (c ∷ l) 0 ≡ x → ((next : ℕ) → 0 < next → Stopped (drop next (c ∷ l))) → Stopped (c ∷ l)
-    go (Read r next) e ahead = let x = ahead next (line_ends (c ∷ l) 0 r next e).some in (r ∷ x.0, x.1, x.2, more e x.3, x.4)
-    go Bad e ahead = ([], c ∷ l, refused_text (line_number Bad), none, bad e)
+    go : (x : Option (Record × ℕ)) → line (c ∷ l) 0 ≡ x → ((next : ℕ) → 0 < next → Stopped (drop next (c ∷ l))) → Stopped (c ∷ l)
+    go (Some (r, next)) e ahead = let x = ahead next (line_ends (c ∷ l) 0 r next e).some in (r ∷ x.0, x.1, x.2, more e x.3, x.4)
+    go None e ahead = ([], c ∷ l, refused_text (line_number None), none, bad e)
 
 -- ## The whole
 

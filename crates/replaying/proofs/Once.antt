@@ -1,6 +1,6 @@
 -- What is printed is fixed: every step is, and so is what each line reads.
 use Prim.Native.Nat.{ℕ, suc}
-use mathlib.Core.Path.{◌≡◌, refl, sym, ap, ap₂, subst}
+use mathlib.Core.Path.{◌≡◌, refl, sym, ap, ap₂, ◌∙◌, subst}
 use mathlib.Core.List.{List, [], ◌++◌, ◌∷◌}
 use native.Mathlib.Omega.{arith}
 use lib.ListN.{length, drop}
@@ -9,7 +9,8 @@ use Rattle.lines.specs.Form.{skip}
 use Rattle.calls.specs.Reply.{reply}
 use Rattle.engine.specs.Load.{load_reply}
 use Rattle.trace.specs.declared.Record.{Record}
-use Rattle.trace.specs.declared.Line.TheVariants.{Read}
+use Rattle.std.specs.Prelude.{Some}
+use Rattle.trace.proofs.Bounds.{same_first, same_second}
 use Rattle.trace.specs.Trace.{line}
 use Rattle.printer.specs.Print.{refused_text}
 use Rattle.replaying.specs.declared.Place.{Place}
@@ -44,7 +45,7 @@ replays_once {n} (goes {r = r} {rs = rs} x x₂) (goes {v = v'} {u = u'} y y₂)
 
 -- ## The lines of a trace
 
-unreadable : {A : Type 0} {trace v : List ℕ} {r : Record} {next : ℕ} → Stops trace v → line trace 0 ≡ Read r next → A
+unreadable : {A : Type 0} {trace v : List ℕ} {r : Record} {next : ℕ} → Stops trace v → line trace 0 ≡ Some (r, next) → A
 unfolding line skip
 unreadable end e = let z : ◌≡◌ {A = ℕ} 0 1 = cc in absurd (omega arith)
 unreadable (bad q) e = let z : ◌≡◌ {A = ℕ} 0 1 = cc in absurd (omega arith)
@@ -58,8 +59,8 @@ lines_once none x none y = (refl, stops_once x y)
 lines_once none x (more e l) y = unreadable x e
 lines_once (more e l) x none y = unreadable y e
 lines_once (more {trace} {r} {next} {rs} e l) x (more {r = r'} {next = next'} {rs = rs'} {rest = rest'} f m) y =
-    let p : r ≡ r' = cc in
-    let q : next' ≡ next = cc in
+    let p : r ≡ r' = same_first (sym e ∙ f) in
+    let q : next' ≡ next = same_second (sym f ∙ e) in
     let g = lines_once l x (subst (λ (k : ℕ). Lines (drop k trace) rs' rest') q m) y in
     (ap₂ ◌∷◌ p g.0, g.1)
 

@@ -8,8 +8,8 @@ use lib.Dec.{eqb, ltb}
 use lib.ListN.{length}
 use borrow.Author.Tests.{eq-eqb, ne_eqb, lt-ltb, le-ltb}
 use Rattle.calls.specs.Reply.{Reply, reply}
-use Rattle.trace.specs.declared.Line.{Line}
-use Rattle.trace.specs.declared.Line.TheVariants.{Read, Bad}
+use Rattle.std.specs.Prelude.{Option, Some, None}
+use Rattle.trace.specs.declared.Record.{Record}
 use Rattle.printer.specs.Print.{event_text, refused_text, refused_room}
 use Rattle.printer.proofs.Lines.{refused_most}
 use Rattle.replaying.specs.declared.Place.TheVariants.{Run, Collect}
@@ -76,6 +76,6 @@ refusal_most (suc n) = refused_most (suc n)
 
 -- ## A line
 
-pub line_most : (x : Line) (s : List ℕ) → length (line_text x s) ≤ refused_room
-line_most (Read r next) s = refusal_most (reply (call_of r) s).number
-line_most Bad s = refused_most (line_number Bad)
+pub line_most : (x : Option (Record × ℕ)) (s : List ℕ) → length (line_text x s) ≤ refused_room
+line_most (Some (r, next)) s = refusal_most (reply (call_of r) s).number
+line_most None s = refused_most (line_number None)

@@ -2,7 +2,7 @@
 use Prim.Native.Nat.{ℕ, zero, suc, ◌^◌, ◌<◌, ◌≤◌}
 use mathlib.Core.Path.{◌≡◌, refl, ap, ◌∙◌, subst}
 use mathlib.Core.Bool.{Bool, true, false}
-use mathlib.Core.Option.{Option, none, some}
+use Rattle.std.specs.Prelude.{Option, None, Some}
 use mathlib.Core.List.{List, [], map}
 use mathlib.Core.Logic.{inl}
 use native.Mathlib.Omega.{arith}
@@ -63,8 +63,8 @@ unfolding call
 collect_nothing i M o n = rw (collect_is i M o) (go (oldest (cell_at M i).next (cell_at M i).held) (rw (collect_is i M o) at n))
   where
     go : (x : Option Event) → ((hand_out x i M).number ≡ 0 → ⊥) → (hand_out x i M).number ≡ 14
-    go none k = refl
-    go (some e) k = absurd (k refl)
+    go None k = refl
+    go (Some e) k = absurd (k refl)
 
 pub still_rest : (n : ℕ) (ds : List Declared) (cs : List Call) {seen : List Seen} {t : List ℕ} → length ds ≤ n → Inside ds cs seen t → AllTyped cs → Still n t → AtRest ds (next_number ds cs)
 still_rest n ds cs few h typed still =

@@ -6,7 +6,7 @@ use mathlib.Core.List.{List, map}
 use Rattle.runs.specs.Seen.{Typed, AllTyped}
 use Rattle.trace.specs.declared.Record.{Record}
 use Rattle.trace.specs.declared.Record.TheVariants.{Reading, Progress}
-use Rattle.trace.specs.declared.Line.TheVariants.{Read}
+use Rattle.std.specs.Prelude.{Some}
 use Rattle.trace.specs.Trace.{line}
 use Rattle.trace.proofs.Fits.{Fits, line_fits}
 use Rattle.replaying.specs.Replay.{call_of}
@@ -18,7 +18,7 @@ fits_typed : (r : Record) → Fits r → Typed (call_of r)
 fits_typed (Reading i t v) h = h
 fits_typed (Progress i y) h = h
 
-pub line_typed : (s : List ℕ) (at : ℕ) (r : Record) (next : ℕ) → line s at ≡ Read r next → Typed (call_of r)
+pub line_typed : (s : List ℕ) (at : ℕ) (r : Record) (next : ℕ) → line s at ≡ Some (r, next) → Typed (call_of r)
 line_typed s at r next e = fits_typed r (line_fits s at r next e)
 
 pub lines_typed : {trace : List ℕ} {rs : List Record} {rest : List ℕ} → Lines trace rs rest → AllTyped (map call_of rs)

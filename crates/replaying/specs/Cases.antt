@@ -1,7 +1,6 @@
 -- Cases: what is printed of events and of the numbers of offers and lines, worked out.
-use Rattle.std.specs.Prelude.{ℕ, List, [], ◌∷◌, pos, negsuc}
+use Rattle.std.specs.Prelude.{ℕ, List, [], ◌∷◌, pos, negsuc, None}
 use Prim.Native.String.{String}
-use Rattle.trace.specs.declared.Line.TheVariants.{Bad}
 use Rattle.printer.specs.Print.{event_text}
 use Rattle.replaying.specs.Replay.{refusal}
 use Rattle.replaying.specs.Whole.{line_text}
@@ -21,5 +20,5 @@ cases =
     row (refusal 0) "" ∷
     row (refusal 7) "refused=7\n" ∷
     row (refusal 10) "refused=10\n" ∷
-    row (line_text Bad []) "refused=16\n" ∷
+    row (line_text None []) "refused=16\n" ∷
     []

@@ -12,7 +12,8 @@ ghost use Rattle.engine.specs.Load.{load_reply};
 ghost use Rattle.trace.specs.Trace.{line as Trace·line};
 ghost use Rattle.machine.specs.Calls.{running, collecting};
 
-use trace::{Line, Record};
+use refusal::Refusal;
+use trace::Record;
 
 // Where a replay stands.
 #[derive(Clone, Copy)]
@@ -42,12 +43,9 @@ pub struct Loaded {
 // What reading a line found, and the position past what was put.
 #[derive(Clone, Copy)]
 pub struct Passed {
-    pub found: Line,
+    pub found: Option<(Record, usize)>,
     pub end: usize,
 }
-
-// The number of a line that can't be read.
-const BAD_LINE: u32 = 16;
 
 // Offers a record.
 fn offered(state: &mut [u8], read: Record) -> u32
@@ -98,8 +96,8 @@ pub fn line(state: &mut [u8], text: &[u8], at: usize, out: &mut [u8]) -> Passed
     ensures state { state.new ≡ line_state (Trace·line text.now at) state.old }
 {
     let found = trace::read(text, at);
-    let Line::Read(read, _) = found else {
-        let end = printer::put_refused(out, 0, BAD_LINE);
+    let Some((read, _)) = found else {
+        let end = printer::put_refused(out, 0, Refusal::BadLine.number());
         return Passed { found, end };
     };
     let number = offered(state, read);

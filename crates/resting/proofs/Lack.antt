@@ -2,7 +2,7 @@
 use Prim.Native.Nat.{ℕ, zero, suc, ◌+◌, ◌<◌, ◌≤◌}
 use mathlib.Core.Path.{◌≡◌, refl, ap, ◌∙◌}
 use mathlib.Core.Bool.{Bool, true, false, not}
-use mathlib.Core.Option.{Option, none, some}
+use Rattle.std.specs.Prelude.{Option, None, Some}
 use native.Mathlib.Omega.{arith}
 use native.Mathlib.Decide.{dec_lt, ℕ_discrete}
 use lib.Dec.{T, ltb}
@@ -110,7 +110,7 @@ unfolding release
 release_size i M = length-set M i _
 
 module _ {cap : ℕ} (i : ℕ) (M : State) (ok : Sound cap M) where
-  marked_lack : (e : Event) → oldest (cell_at M i).next (cell_at M i).held ≡ some e → i < length M → Sound cap (release i (set M i (with_next (suc e.stamp) (cell_at M i))))
+  marked_lack : (e : Event) → oldest (cell_at M i).next (cell_at M i).held ≡ Some e → i < length M → Sound cap (release i (set M i (with_next (suc e.stamp) (cell_at M i))))
       → lack (release i (set M i (with_next (suc e.stamp) (cell_at M i)))) < lack M
   marked_lack e q l fine =
       let g = oldest_ge (cell_at M i).next (cell_at M i).held e q in
@@ -132,8 +132,8 @@ module _ {cap : ℕ} (i : ℕ) (M : State) (ok : Sound cap M) where
   collect_lack e = unfold collect in by e (unfold collect in collect_sound i M ok)
     where
       go : (x : Option Event) → oldest (cell_at M i).next (cell_at M i).held ≡ x → i < length M → (hand_out x i M).number ≡ 0 → Sound cap (hand_out x i M).state → lack (hand_out x i M).state < lack M
-      go none q l e f = absurd (omega arith)
-      go (some x) q l e f = marked_lack x q l f
+      go None q l e f = absurd (omega arith)
+      go (Some x) q l e f = marked_lack x q l f
 
       by : (unless (not (cell_at M i).out) 13 M (hand_out (oldest (cell_at M i).next (cell_at M i).held) i M)).number ≡ 0 → Sound cap (unless (not (cell_at M i).out) 13 M (hand_out (oldest (cell_at M i).next (cell_at M i).held) i M)).state
           → lack (unless (not (cell_at M i).out) 13 M (hand_out (oldest (cell_at M i).next (cell_at M i).held) i M)).state < lack M

@@ -3,7 +3,7 @@ use Prim.Native.Nat.{ℕ, zero, suc, ◌+◌, ◌*◌, ◌^◌, ◌<◌, ◌≤�
 use mathlib.Core.Path.{◌≡◌, refl, sym}
 use mathlib.Core.List.{List}
 use mathlib.Core.Bool.{Bool, true, false, not, cond, ◌&&◌}
-use mathlib.Core.Option.{none}
+use Rattle.std.specs.Prelude.{None}
 use native.Mathlib.Omega.{arith}
 use lib.Dec.{eqb, ltb, leb, lit<, lit≤}
 use lib.IntN.{pos}
@@ -116,7 +116,7 @@ flag_facts (suc (suc n)) x h e =
     let z = eqb-true (suc (suc n)) 1 (rw (ne_eqb (suc (suc n)) 0 ne) at e) in
     absurd (omega arith)
 
-absent : (y has x : ℕ) → none_if y has ≡ true → y ≡ 0 → optional has x ≡ none
+absent : (y has x : ℕ) → none_if y has ≡ true → y ≡ 0 → optional has x ≡ None
 absent y has x e z =
     let q : has ≡ 0 = none_is y has e z in
     rw q
@@ -150,7 +150,7 @@ module _ (r : Raw) (ok : RawOk r) where
       go (suc (suc (suc (suc (suc (suc (suc (suc (suc (suc (suc (suc (suc (suc (suc j))))))))))))))) l h q = absurd (omega arith)
 
   -- the value of an argument's latest event
-  latest_facts : (f j : ℕ) → 8 ≤ j → j < 15 → latest_ok f j r ≡ true → FlagFacts (num f r) (num j r) × (num bound_f r ≡ 0 → optional (num f r) (num j r) ≡ none)
+  latest_facts : (f j : ℕ) → 8 ≤ j → j < 15 → latest_ok f j r ≡ true → FlagFacts (num f r) (num j r) × (num bound_f r ≡ 0 → optional (num f r) (num j r) ≡ None)
   unfolding latest_ok
   latest_facts f j l h e =
       let a : Bool = flag_ok (num f r) (num j r) in

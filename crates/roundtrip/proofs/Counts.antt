@@ -7,7 +7,7 @@ use native.Mathlib.Omega.{arith}
 use lib.Dec.{eqb}
 use lib.IntN.{ℤ}
 use borrow.Author.Tests.{eqb-true, eq-eqb, ne_eqb}
-use Rattle.meaning.specs.Missing.{Reason, outside, divisor, can_lack}
+use Rattle.meaning.specs.Missing.{Reason, Outside, ZeroDivisor, can_lack}
 use Rattle.machine.specs.State.{Cell, count_of, with_window}
 use Rattle.operators.specs.Operators.{lacks_at}
 use Rattle.operators.proofs.Laws.{lacks_of}
@@ -39,8 +39,8 @@ module _ (r : Raw) (small : num counts_f r < 2 ^ 64) (ok : counts_ok r ≡ true)
   half_sound false e m l h = h (eqb-true (num counts_f r) 0 (rw e at ok))
 
   pub counts_sound : (xs : List ℤ) (q : Reason) → IsCount (lacks_at (num op_f r)) (num bound_f r) (count_of q (with_window xs (counts_in r)))
-  counts_sound xs outside = half_sound (lacks_at (num op_f r)) refl (num counts_f r % 2 ^ 32) (omega arith) (λ e. omega arith)
-  counts_sound xs divisor = half_sound (lacks_at (num op_f r)) refl (num counts_f r / 2 ^ 32) (omega arith) (λ e. omega arith)
+  counts_sound xs Outside = half_sound (lacks_at (num op_f r)) refl (num counts_f r % 2 ^ 32) (omega arith) (λ e. omega arith)
+  counts_sound xs ZeroDivisor = half_sound (lacks_at (num op_f r)) refl (num counts_f r / 2 ^ 32) (omega arith) (λ e. omega arith)
 
 -- ---- from a cell to a record
 
@@ -51,7 +51,7 @@ count_small false y m h = omega arith
 module _ (n : ℕ) (c : Cell) (ok : SoundCell n c) where
   pub counts_pass : counts_ok (of_cell c) ≡ true
   unfolding counts_ok of_cell
-  counts_pass = rw (lacks_of c.eqn) (go (can_lack c.eqn) c.passed.outside c.passed.divisors (ok.counts outside) (ok.counts divisor))
+  counts_pass = rw (lacks_of c.eqn) (go (can_lack c.eqn) c.passed.outside c.passed.divisors (ok.counts Outside) (ok.counts ZeroDivisor))
     where
       go : (b : Bool) (m k : ℕ) → IsCount b c.bound m → IsCount b c.bound k → cond b (none_if c.bound (m + k * 2 ^ 32)) (eqb (m + k * 2 ^ 32) 0) ≡ true
       go true m k h l = none_passes c.bound (m + k * 2 ^ 32) (λ z. let u = h.1 z in let v = l.1 z in omega arith)
@@ -63,7 +63,7 @@ module _ (n : ℕ) (c : Cell) (ok : SoundCell n c) where
   passed_back xs e =
       let m = c.passed.outside in
       let k = c.passed.divisors in
-      let l = count_small (can_lack c.eqn) c.bound m (ok.counts outside) in
+      let l = count_small (can_lack c.eqn) c.bound m (ok.counts Outside) in
       let lower : (m + k * 2 ^ 32) % 2 ^ 32 ≡ m = omega arith in
       let upper : (m + k * 2 ^ 32) / 2 ^ 32 ≡ k = omega arith in
       λ i. record { window = e i; outside = lower i; divisors = upper i }

@@ -3,6 +3,7 @@ use Prim.Native.Nat.{ℕ, ◌+◌, ◌*◌, ◌≤◌}
 use mathlib.Core.Path.{◌≡◌, refl, sym, ap, ◌∙◌}
 use mathlib.Core.Bool.{Bool, true, false, cond}
 use mathlib.Core.List.{List}
+use Rattle.std.specs.Prelude.{None, Some}
 use native.Mathlib.Omega.{arith}
 use lib.ListN.{length}
 use Rattle.machine.specs.State.{State}
@@ -14,7 +15,6 @@ use Rattle.layout.specs.Windows.{area_length}
 use Rattle.encoding.specs.View.{raws_of, bytes_of}
 use Rattle.encoding.specs.Back.{state_of}
 use Rattle.encoding.specs.Sound.{Sound}
-use Rattle.valid.specs.declared.Tested.TheVariants as Tested
 use Rattle.valid.specs.Valid.{count, valid, tested}
 use Rattle.valid.proofs.Link.{count_few, count_fits}
 use Rattle.roundtrip.specs.In.{state_in, IsState}
@@ -22,19 +22,19 @@ use Rattle.encoding.proofs.Cells.{state_length_lem}
 use Rattle.roundtrip.proofs.Whole.{decoded, valid_bytes, valid_sound, bytes_valid, bytes_count, bytes_state}
 
 -- what the test of number 15 answers
-pub tested_state : (s : List ℕ) (n : ℕ) → Tested.State n ≡ tested s → IsState s n
+pub tested_state : (s : List ℕ) (n : ℕ) → Some n ≡ tested s → IsState s n
 unfolding tested
 tested_state s n = go (valid s) refl
   where
-    go : (b : Bool) → valid s ≡ b → Tested.State n ≡ cond b (Tested.State (count s)) Tested.NoState → IsState s n
+    go : (b : Bool) → valid s ≡ b → Some n ≡ cond b (Some (count s)) None → IsState s n
     go true v e = record { is_valid = v; streams = cc }
     go false v e = let z : ◌≡◌ {A = ℕ} 0 1 = cc in absurd (omega arith)
 
-pub tested_none : (s : List ℕ) → Tested.NoState ≡ tested s → valid s ≡ false
+pub tested_none : (s : List ℕ) → None ≡ tested s → valid s ≡ false
 unfolding tested
 tested_none s = go (valid s) refl
   where
-    go : (b : Bool) → valid s ≡ b → Tested.NoState ≡ cond b (Tested.State (count s)) Tested.NoState → valid s ≡ false
+    go : (b : Bool) → valid s ≡ b → None ≡ cond b (Some (count s)) None → valid s ≡ false
     go true v e = let z : ◌≡◌ {A = ℕ} 0 1 = cc in absurd (omega arith)
     go false v e = v
 

@@ -3,7 +3,7 @@ use Prim.Native.Nat.{ℕ, zero, suc, ◌+◌, ◌*◌, ◌-◌, ◌<◌, ◌≤�
 use mathlib.Core.Path.{◌≡◌, refl, sym, ap, ◌∙◌}
 use mathlib.Core.List.{List, [], ◌∷◌, ◌++◌, map}
 use mathlib.Core.Bool.{Bool, true, false, cond, ◌&&◌}
-use mathlib.Core.Option.{Option, none, some}
+use Rattle.std.specs.Prelude.{Option, None, Some}
 use native.Mathlib.Omega.{arith}
 use lib.Dec.{T, lit<, ltb, eqb}
 use lib.IntN.{ℤ}
@@ -81,10 +81,10 @@ risen_passes lo top (suc n) (e ∷ es) h r =
     rw (le-leb lo e.stamp r.0, q) (risen_passes (suc e.stamp) top n es (omega arith) r.2)
 
 flag_passes : (o : Option ℤ) → flag_ok (flag_of o) (bits_of o) ≡ true
-flag_passes none = refl
-flag_passes (some v) = refl
+flag_passes None = refl
+flag_passes (Some v) = refl
 
-absent_passes : (y : ℕ) (o : Option ℤ) → (y ≡ 0 → o ≡ none) → none_if y (flag_of o) ≡ true
+absent_passes : (y : ℕ) (o : Option ℤ) → (y ≡ 0 → o ≡ None) → none_if y (flag_of o) ≡ true
 absent_passes y o h = none_passes y (flag_of o) (λ z. ap flag_of (h z))
 
 -- the newest event lies below the top

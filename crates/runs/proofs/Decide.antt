@@ -2,7 +2,7 @@
 -- found is the solution's next one, and up to the reach there is no other.
 use mathlib.Core.Path.{◌≡◌, refl, sym, ◌∙◌, ap}
 use mathlib.Core.Bool.{Bool, true, false, not, cond, ◌&&◌}
-use mathlib.Core.Option.{Option, none, some}
+use Rattle.std.specs.Prelude.{Option, None, Some}
 use mathlib.Core.List.{List, [], ◌∷◌, append-nil}
 use Prim.Native.Nat.{ℕ, suc, pred, ◌-◌, ◌≤◌, ◌<◌, min, max}
 use native.Mathlib.Omega.{arith}
@@ -33,8 +33,8 @@ use Rattle.runs.proofs.Fires.{fires_latest}
 
 -- what is found from lo on and below hi, against the stream f
 pub data Finds (f : Stream) (lo hi : ℕ) : Next → Type 0 where
-  nothing : lo ≤ hi → ((p : ℕ) → lo ≤ p → p < hi → f p ≡ none) → Finds f lo hi (silent hi)
-  something : {t : ℕ} {v : ℤ} → lo ≤ t → t < hi → ((p : ℕ) → lo ≤ p → p < t → f p ≡ none) → f t ≡ some v → Finds f lo hi (event t v)
+  nothing : lo ≤ hi → ((p : ℕ) → lo ≤ p → p < hi → f p ≡ None) → Finds f lo hi (silent hi)
+  something : {t : ℕ} {v : ℤ} → lo ≤ t → t < hi → ((p : ℕ) → lo ≤ p → p < t → f p ≡ None) → f t ≡ Some v → Finds f lo hi (event t v)
 
 -- what comes in then
 pub finds_new : {f : Stream} {lo hi : ℕ} {n : Next} → Finds f lo hi n → (held : List Event) → New f lo (new_bound n held) (added n held)
@@ -88,8 +88,8 @@ module _ (S : Streams) (M : State) (inv : Tracks S M) where
         rw (arg_at b t lb l m) (cases (S b t) (λ i. latest_is a t la (ap (λ c. c.prev) k) l (nltb→le (C a).bound t (right (has (S b t)) (ltb (C a).bound t) i (rw (arg_at b t lb l m) at n)))))
       where
         cases : (o : Option ℤ) {u v : Option ℤ} → (T (has o) → u ≡ v) → last_at o u ≡ last_at o v
-        cases none h = unfold last_at in refl
-        cases (some x) h = rw (h tt)
+        cases None h = unfold last_at in refl
+        cases (Some x) h = rw (h tt)
 
         right : (p q : Bool) → T p → T (not (p && q)) → T (not q)
         right true q h k = k
@@ -114,7 +114,7 @@ module _ (S : Streams) (M : State) (inv : Tracks S M) where
     window_gives f k a t la e l m = rw (slid_is (width k) a (suc t) la (ap (λ w. w.window) e) (omega arith) m, arg_at a t la l m)
 
     module _ (a b t : ℕ) (la : floor a ≤ y) (lb : floor b ≤ y) (k : (C s).kept ≡ kept_of (delay a b) (known_in S M) s y) (l : y ≤ t) (m : t ≤ (C b).bound)
-        (q : (p : ℕ) → y ≤ p → p < t → S s p ≡ none) where
+        (q : (p : ℕ) → y ≤ p → p < t → S s p ≡ None) where
       since_is : (C s).kept.since ≡ point_of (S b) (S s) y
       since_is = rw (k, known_past b y (omega arith), known_past s y (omega arith))
 
@@ -154,7 +154,7 @@ module _ (S : Streams) (M : State) (inv : Tracks S M) where
     gives_at : (e : Eqn) (t : ℕ) → Each (λ i. floor i ≤ y) (reads e) → (C s).kept ≡ kept_of e (known_in S M) s y → (C s).passed ≡ passed_of e S s y
         → ((p : ℕ) → p < horizon → S s p ≡ at e rd S s p)
         → y ≤ t → t < horizon → t < limit e (C s) (C (arg_a e)) (C (arg_b e)) → T (not (stops e (C s) (C (arg_a e)) (C (arg_b e)) t))
-        → ((p : ℕ) → y ≤ p → p < t → S s p ≡ none) → (e ≡ input → ⊥) → gives e (C s) (C (arg_a e)) (C (arg_b e)) t ≡ at e rd S s t
+        → ((p : ℕ) → y ≤ p → p < t → S s p ≡ None) → (e ≡ input → ⊥) → gives e (C s) (C (arg_a e)) (C (arg_b e)) t ≡ at e rd S s t
     unfolding at
     gives_at input t l k w row a h b c n i = absurd (i refl)
     gives_at nil t l k w row a h b c n i = refl
@@ -223,7 +223,7 @@ module _ (S : Streams) (M : State) (inv : Tracks S M) where
           (omega arith, least_before (stops e (C s) (C (arg_a e)) (C (arg_b e))) y (limit e (C s) (C (arg_a e)) (C (arg_b e)) - y) t l m)
 
       -- below the reach an equation gives what the solution has
-      gives_is : (t : ℕ) → y ≤ t → t < far → ((p : ℕ) → y ≤ p → p < t → S s p ≡ none) → has_at t ≡ S s t
+      gives_is : (t : ℕ) → y ≤ t → t < far → ((p : ℕ) → y ≤ p → p < t → S s p ≡ None) → has_at t ≡ S s t
       gives_is t l m n =
           let h = in_reach t l m in
           let g = limit_le e in
@@ -238,9 +238,9 @@ module _ (S : Streams) (M : State) (inv : Tracks S M) where
       unfolding first
       first_ge = least_ge (λ t. has (has_at t)) y (far - y)
 
-      before_first : (t : ℕ) → y ≤ t → t < next → S s t ≡ none
+      before_first : (t : ℕ) → y ≤ t → t < next → S s t ≡ None
       unfolding first
-      before_first = strong (λ t. y ≤ t → t < next → S s t ≡ none) (λ t past l m.
+      before_first = strong (λ t. y ≤ t → t < next → S s t ≡ None) (λ t past l m.
           let f = first_le in
           sym (gives_is t l (omega arith) (λ p j i. past p i j (omega arith))) ∙ has_none (has_at t) (least_before (λ t. has (has_at t)) y (far - y) t l m))
 
@@ -254,9 +254,9 @@ module _ (S : Streams) (M : State) (inv : Tracks S M) where
       ahead_finds = go (look (ltb next far))
         where
           some_of : next < far → (o : Option ℤ) → has_at next ≡ o → Finds (S s) y far (next_of next far o)
-          some_of l none q = absurd (rw q at (first_has l))
-          some_of l (some v) q = something first_ge l before_first (sym (gives_is next first_ge l before_first) ∙ q)
+          some_of l None q = absurd (rw q at (first_has l))
+          some_of l (Some v) q = something first_ge l before_first (sym (gives_is next first_ge l before_first) ∙ q)
 
-          go : Is (ltb next far) → Finds (S s) y far (next_of next far (cond (ltb next far) (has_at next) none))
+          go : Is (ltb next far) → Finds (S s) y far (next_of next far (cond (ltb next far) (has_at next) None))
           go (yes! j x) = rw j (some_of (ltb→lt next far x) (has_at next) refl)
           go (no! j x) = let m = nltb→le next far x in let f = first_le in rw j (nothing reach_ge (λ p a b. before_first p a (omega arith)))

@@ -9,7 +9,7 @@ use lib.Dec.{ltb, lt→ltb}
 use lib.ListN.{length}
 use Rattle.meaning.specs.Plan.{Eqn, input, nil, unit, one, two, last, delay, signal, window}
 use Rattle.meaning.specs.Events.{Stream, Streams}
-use Rattle.meaning.specs.Missing.{outside, divisor}
+use Rattle.meaning.specs.Missing.{Outside, ZeroDivisor}
 use Rattle.meaning.proofs.Tests.{true_is}
 use Rattle.meaning.proofs.Missing.{count_readings}
 use Rattle.machine.specs.State.{State, cell_at}
@@ -76,4 +76,4 @@ passed_as S M inv s = rw (inv.passed s) (passed_of_lem (cell_at M s).eqn S s (ce
 pub missed_as_lem : (S : Streams) (M : State) → Tracks S M → (rd : Streams) (s : ℕ) → s < length M → missing s M ≡ missed_as (cell_at M s).eqn rd S s (cell_at M s).bound
 unfolding missing
 missed_as_lem S M inv rd s l =
-    rw (true_is (ltb s (length M)) (lt→ltb s (length M) l), inv.passed s, count_readings (cell_at M s).eqn outside S rd S s (cell_at M s).bound, count_readings (cell_at M s).eqn divisor S rd S s (cell_at M s).bound)
+    rw (true_is (ltb s (length M)) (lt→ltb s (length M) l), inv.passed s, count_readings (cell_at M s).eqn Outside S rd S s (cell_at M s).bound, count_readings (cell_at M s).eqn ZeroDivisor S rd S s (cell_at M s).bound)

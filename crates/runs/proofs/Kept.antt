@@ -3,7 +3,7 @@
 -- depends on K below y alone.
 use mathlib.Core.Path.{◌≡◌, refl, sym, ◌∙◌, ap}
 use mathlib.Core.Bool.{Bool, true, false, cond, ◌&&◌}
-use mathlib.Core.Option.{Option, none, some}
+use Rattle.std.specs.Prelude.{Option, None, Some}
 use Prim.Native.Nat.{ℕ, zero, suc, pred, ◌+◌, ◌≤◌, ◌<◌, max}
 use native.Mathlib.Omega.{arith}
 use native.Mathlib.Numerals.{add-one}
@@ -29,13 +29,13 @@ abbrev pub point_of : (b d : Stream) → ℕ → ℕ
 point_of b d y = max (past_latest b y) (past_latest d y)
 
 abbrev pub of_last : Option ℤ → Kept
-of_last v = record { prev = v; prev_b = none; since = 0; value = none; prior = none }
+of_last v = record { prev = v; prev_b = None; since = 0; value = None; prior = None }
 
 abbrev pub of_delay : ℕ → (value prior : Option ℤ) → Kept
-of_delay z v p = record { prev = none; prev_b = none; since = z; value = v; prior = p }
+of_delay z v p = record { prev = None; prev_b = None; since = z; value = v; prior = p }
 
 abbrev pub of_signal : (a b : Option ℤ) → Kept
-of_signal a b = record { prev = a; prev_b = b; since = 0; value = none; prior = none }
+of_signal a b = record { prev = a; prev_b = b; since = 0; value = None; prior = None }
 
 -- what stream s with this equation and the bound y keeps
 abbrev pub kept_of : Eqn → Streams → (s y : ℕ) → Kept
@@ -87,16 +87,16 @@ Edge (delay a b) s t y = b ≡ s → y ≡ suc t
 Edge (signal c a b) s t y = (a ≡ s → ⊥) × (b ≡ s → ⊥)
 Edge (window f k a) s t y = Unit
 
-module _ (K L : Streams) (s t : ℕ) (v : ℤ) (other : (i p : ℕ) → (i ≡ s → p ≡ t → ⊥) → K i p ≡ L i p) (here : L s t ≡ some v) (above : (p : ℕ) → t < p → L s p ≡ none) where
-  told_value_lem : (a z : ℕ) → cond (eqb a s && eqb z (t + 1)) (some v) (below (K a) z) ≡ below (L a) z
+module _ (K L : Streams) (s t : ℕ) (v : ℤ) (other : (i p : ℕ) → (i ≡ s → p ≡ t → ⊥) → K i p ≡ L i p) (here : L s t ≡ Some v) (above : (p : ℕ) → t < p → L s p ≡ None) where
+  told_value_lem : (a z : ℕ) → cond (eqb a s && eqb z (t + 1)) (Some v) (below (K a) z) ≡ below (L a) z
   told_value_lem a zero = rw (ne_eqb 0 (t + 1) (λ e. omega arith)) (no (eqb a s))
     where
-      no : (b : Bool) → cond (b && false) (some v) none ≡ none
+      no : (b : Bool) → cond (b && false) (Some v) None ≡ None
       no true = refl
       no false = refl
   told_value_lem a (suc p) = go (look (eqb a s)) (look (eqb (suc p) (t + 1)))
     where
-      go : Is (eqb a s) → Is (eqb (suc p) (t + 1)) → cond (eqb a s && eqb (suc p) (t + 1)) (some v) (K a p) ≡ L a p
+      go : Is (eqb a s) → Is (eqb (suc p) (t + 1)) → cond (eqb a s && eqb (suc p) (t + 1)) (Some v) (K a p) ≡ L a p
       go (yes! q x) (yes! j y) =
           let e = eqb→eq a s x in
           let f = eqb→eq (suc p) (t + 1) y in
@@ -109,10 +109,10 @@ module _ (K L : Streams) (s t : ℕ) (v : ℤ) (other : (i p : ℕ) → (i ≡ s
   latest_other : (a y : ℕ) → (a ≡ s → ⊥) → latest (K a) y ≡ latest (L a) y
   latest_other a y n = latest_cong (K a) (L a) y (λ p m. other a p (λ e f. n e))
 
-  told_prev : (a y : ℕ) → t < y → cond (eqb a s) (some v) (latest (K a) y) ≡ latest (L a) y
+  told_prev : (a y : ℕ) → t < y → cond (eqb a s) (Some v) (latest (K a) y) ≡ latest (L a) y
   told_prev a y l = go (look (eqb a s))
     where
-      go : Is (eqb a s) → cond (eqb a s) (some v) (latest (K a) y) ≡ latest (L a) y
+      go : Is (eqb a s) → cond (eqb a s) (Some v) (latest (K a) y) ≡ latest (L a) y
       go (yes! q x) = let e = eqb→eq a s x in rw (q, e, latest_flat (L s) (suc t) y l (λ p m n. above p m), latest_suc (L s) t, here)
       go (no! q x) = rw q (latest_other a y (eqb_ne a s x))
 
@@ -130,7 +130,7 @@ module _ (K L : Streams) (s t : ℕ) (v : ℤ) (other : (i p : ℕ) → (i ≡ s
 
       go : Is (eqb b s)
           → Is (leb z t)
-          → cond (eqb b s && leb z t) (of_delay (t + 1) (cond (eqb y (t + 1)) (below (L a) y) none) (below (L a) y)) (of_delay z (below (L a) z) (below (L a) y))
+          → cond (eqb b s && leb z t) (of_delay (t + 1) (cond (eqb y (t + 1)) (below (L a) y) None) (below (L a) y)) (of_delay z (below (L a) z) (below (L a) y))
           ≡ kept_of (delay a b) L r y
       go (yes! q x) w =
           let e = eqb→eq b s x in
@@ -152,14 +152,14 @@ module _ (K L : Streams) (s t : ℕ) (v : ℤ) (other : (i p : ℕ) → (i ≡ s
 
 -- a's event one below z, where z is one past the latest set point: seen, or kept if that set point lies below y
 pub value_seam : (f v g : Stream) (lo y z z₀ : ℕ) → Seen f lo v → lo ≤ y → ((p : ℕ) → p < y → g p ≡ f p) → z₀ ≤ y → ((z ≡ z₀ → ⊥) → y < z)
-    → 0 < z → or_else (v (pred z)) (cond (eqb z z₀) (below g z₀) none) ≡ f (pred z)
+    → 0 < z → or_else (v (pred z)) (cond (eqb z z₀) (below g z₀) None) ≡ f (pred z)
 value_seam f v g lo y z z₀ w l same m new k = go (look (eqb z z₀))
   where
     kept : (n : ℕ) → 0 < n → n ≤ y → or_else (v (pred n)) (below g n) ≡ f (pred n)
     kept zero a b = absurd (omega arith)
     kept (suc p) a b = rw (same p b) (seen_or f v lo w p)
 
-    go : Is (eqb z z₀) → or_else (v (pred z)) (cond (eqb z z₀) (below g z₀) none) ≡ f (pred z)
+    go : Is (eqb z z₀) → or_else (v (pred z)) (cond (eqb z z₀) (below g z₀) None) ≡ f (pred z)
     go (yes! q x) = let e = eqb→eq z z₀ x in rw (q, e) (kept z₀ (omega arith) m)
     go (no! q x) = let n = new (eqb_ne z z₀ x) in rw (q, w.from (pred z) (omega arith)) (or_none (f (pred z)))
 
@@ -194,13 +194,13 @@ module _ (K L : Streams) (s y x : ℕ) (grows : y < x) (same : (i p : ℕ) → p
         let q = past_seam (L s) (view (C s)) (lo s) (shows s) y x own (omega arith) in
         rw at (omega arith)
 
-    value_is : cond (eqb (later (C s) (C b)) 0) none (value_at (C s) (C a) (later (C s) (C b))) ≡ below (L a) (point_of (L b) (L s) x)
+    value_is : cond (eqb (later (C s) (C b)) 0) None (value_at (C s) (C a) (later (C s) (C b))) ≡ below (L a) (point_of (L b) (L s) x)
     value_is = rw later_is (go (dec_lt 0 z))
       where
         z : ℕ
         z = point_of (L b) (L s) x
 
-        go : Dec (0 < z) → cond (eqb z 0) none (value_at (C s) (C a) z) ≡ below (L a) z
+        go : Dec (0 < z) → cond (eqb z 0) None (value_at (C s) (C a) z) ≡ below (L a) z
         go (no d) = let e : z ≡ 0 = omega arith in rw e
         go (yes d) =
             let j : (C s).kept.value ≡ below (K a) (C s).kept.since = ap (λ c. c.value) k ∙ ap (λ c. below (K a) c.since) (sym k) in

@@ -1,7 +1,7 @@
 -- The local step equals tidying all streams, in every state of a run.
 use mathlib.Core.Path.{◌≡◌, refl, sym, ◌∙◌, ap}
 use mathlib.Core.Bool.{Bool, true, false, cond}
-use mathlib.Core.Option.{Option, none}
+use Rattle.std.specs.Prelude.{Option, None}
 use mathlib.Core.List.{List}
 use Prim.Native.Nat.{ℕ, ◌≤◌, ◌<◌, min}
 use native.Mathlib.Omega.{arith}
@@ -49,7 +49,7 @@ refreshed_stale (two g x z) K s y o a b k l = rw k
 refreshed_stale (last x z) K s y o a b k l = rw k
 refreshed_stale (delay x z) K s y o a b k l = rw (ne_eqb o.bound 0 (λ e. omega arith), or_none, gone (eqb (later o b) o.bound))
   where
-    gone : (c : Bool) → ◌≡◌ {A = Option ℤ} (cond c none none) none
+    gone : (c : Bool) → ◌≡◌ {A = Option ℤ} (cond c None None) None
     gone true = refl
     gone false = refl
 refreshed_stale (signal g x z) K s y o a b k l = rw k

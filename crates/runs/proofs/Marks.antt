@@ -1,7 +1,7 @@
 -- Progress of an input and collection of an output keep the invariant.
 use mathlib.Core.Path.{◌≡◌, refl, sym, ◌∙◌, ap}
 use mathlib.Core.Bool.{cond}
-use mathlib.Core.Option.{none}
+use Rattle.std.specs.Prelude.{None}
 use mathlib.Core.List.{List}
 use Prim.Native.Nat.{ℕ, ◌≤◌, ◌<◌}
 use native.Mathlib.Omega.{arith}
@@ -27,7 +27,7 @@ reads_none : (i : ℕ) (e : Eqn) → T (is_input e) → T (reads_it i e) → ⊥
 reads_none i e h k = rw (input_is e h) at k
 
 module _ (S : Streams) (M : State) (inv : Tracks S M) (s y : ℕ) (is_in : T (is_input (cell_at M s).eqn)) (there : s < length M) (grows : (cell_at M s).bound ≤ y)
-    (top : y ≤ horizon) (quiet : (p : ℕ) → (cell_at M s).bound ≤ p → p < y → S s p ≡ none) where
+    (top : y ≤ horizon) (quiet : (p : ℕ) → (cell_at M s).bound ≤ p → p < y → S s p ≡ None) where
   abbrev N : State
   N = set M s (with_bound y (cell_at M s))
 

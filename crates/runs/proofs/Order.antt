@@ -6,7 +6,7 @@
 -- So two ways to rest from one state end with equal bounds, and bounds and marks determine the state.
 use mathlib.Core.Path.{◌≡◌, refl, sym, ◌∙◌, ap}
 use mathlib.Core.Bool.{Bool, true, false, not, cond, ◌&&◌}
-use mathlib.Core.Option.{none, some}
+use Rattle.std.specs.Prelude.{None, Some}
 use mathlib.Core.List.{List}
 use Prim.Native.Nat.{ℕ, suc, ◌≤◌, ◌<◌}
 use native.Mathlib.Omega.{arith}
@@ -99,10 +99,10 @@ module _ (ds : List Declared) (rd S : Streams) (sol : Solves (declared_plan ds) 
 
     module _ (past : top < goal s X) where
       -- what X finds lies at top or later
-      quiet_before : (p : ℕ) → (cell_at X s).bound ≤ p → p < top → S s p ≡ none
+      quiet_before : (p : ℕ) → (cell_at X s).bound ≤ p → p < top → S s p ≡ None
       quiet_before = go (ahead s X) finds_x refl
         where
-          go : (n : Next) → Finds (S s) (cell_at X s).bound (reach_of s X) n → new_bound n (cell_at X s).held ≡ goal s X → (p : ℕ) → (cell_at X s).bound ≤ p → p < top → S s p ≡ none
+          go : (n : Next) → Finds (S s) (cell_at X s).bound (reach_of s X) n → new_bound n (cell_at X s).held ≡ goal s X → (p : ℕ) → (cell_at X s).bound ≤ p → p < top → S s p ≡ None
           go n (nothing l q) e p i j = q p i (omega arith)
           go n (something {t} {v} l m q k) e p i j = q p i (at (leb room (length (cell_at X s).held)) e)
             where
@@ -159,14 +159,14 @@ module _ (ds : List Declared) (rd S : Streams) (sol : Solves (declared_plan ds) 
               absurd (T_not (can_move s Z) (stuck s (let a = of-x.size in let b = of-z.size in omega arith)) (can_of s Z (rw (same_eqn s) (can_equation s X can)) d))
 
       -- so s is full in Z, and an event waits at top
-      full_z : T (leb room (length (cell_at Z s).held)) × ((v : ℤ) × (S s top ≡ some v))
+      full_z : T (leb room (length (cell_at Z s).held)) × ((v : ℤ) × (S s top ≡ Some v))
       full_z = go (ahead s Z) finds_z refl
         where
-          go : (n : Next) → Finds (S s) top (reach_of s Z) n → new_bound n (cell_at Z s).held ≡ goal s Z → T (leb room (length (cell_at Z s).held)) × ((v : ℤ) × (S s top ≡ some v))
+          go : (n : Next) → Finds (S s) top (reach_of s Z) n → new_bound n (cell_at Z s).held ≡ goal s Z → T (leb room (length (cell_at Z s).held)) × ((v : ℤ) × (S s top ≡ Some v))
           go n (nothing l q) e = let a = stays in let b = far_z in absurd (omega arith)
           go n (something {t} {v} l m q k) e = at (look (leb room (length (cell_at Z s).held)))
             where
-              at : Is (leb room (length (cell_at Z s).held)) → T (leb room (length (cell_at Z s).held)) × ((v : ℤ) × (S s top ≡ some v))
+              at : Is (leb room (length (cell_at Z s).held)) → T (leb room (length (cell_at Z s).held)) × ((v : ℤ) × (S s top ≡ Some v))
               at (yes! i h) =
                   let a = stays in
                   let f : t ≡ goal s Z = rw i at e in
@@ -181,7 +181,7 @@ module _ (ds : List Declared) (rd S : Streams) (sol : Solves (declared_plan ds) 
       room_x : T (not (leb room (length (cell_at X s).held)))
       room_x = go (ahead s X) finds_x refl
         where
-          here : S s top ≡ none → ⊥
+          here : S s top ≡ None → ⊥
           here e = let k = full_z.1.1 in let w : ◌≡◌ {A = ℕ} 0 1 = cc in omega arith
 
           go : (n : Next) → Finds (S s) (cell_at X s).bound (reach_of s X) n → new_bound n (cell_at X s).held ≡ goal s X → T (not (leb room (length (cell_at X s).held)))

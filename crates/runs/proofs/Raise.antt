@@ -5,7 +5,7 @@
 -- dropping once.
 use mathlib.Core.Path.{◌≡◌, refl, sym, ◌∙◌, ap}
 use mathlib.Core.Bool.{not, cond}
-use mathlib.Core.Option.{none, some}
+use Rattle.std.specs.Prelude.{None, Some}
 use mathlib.Core.List.{List, [], ◌∷◌, ◌++◌, append-nil, map}
 use Prim.Native.Nat.{ℕ, suc, ◌≤◌, ◌<◌, min}
 use native.Mathlib.Nat.{lt-suc_self}
@@ -120,7 +120,7 @@ module _ (S : Streams) (M : State) (inv : Tracks S M) (s y : ℕ) (new : List Ev
       ∙ rw (C-other i n) (ap (λ k. with_kept k (cell_at M i)) (inv.kept i))
 
   -- ---- tell
-  told_quiet : ((p : ℕ) → (cell_at M s).bound ≤ p → p < y → S s p ≡ none) → (i : ℕ) → cell_at M₂ i ≡ with_kept (kept_of (C i).eqn (known_in S M₁) i (C i).bound) (C i)
+  told_quiet : ((p : ℕ) → (cell_at M s).bound ≤ p → p < y → S s p ≡ None) → (i : ℕ) → cell_at M₂ i ≡ with_kept (kept_of (C i).eqn (known_in S M₁) i (C i).bound) (C i)
   told_quiet q i = go (look (eqb i s))
     where
       same : (i p : ℕ) → known_in S M i p ≡ known_in S M₁ i p
@@ -131,7 +131,7 @@ module _ (S : Streams) (M : State) (inv : Tracks S M) (s y : ℕ) (new : List Ev
       go (no! e x) =
           other₂ i (eqb_ne i s x) ∙ ap (λ k. with_kept k (C i)) (kept_cong (C i).eqn (known_in S M) (known_in S M₁) i (C i).bound (λ j p l. same j p))
 
-  module _ (t : ℕ) (v : ℤ) (l : (cell_at M s).bound ≤ t) (q : (p : ℕ) → (cell_at M s).bound ≤ p → p < t → S s p ≡ none) (e : S s t ≡ some v) (at : y ≡ suc t) where
+  module _ (t : ℕ) (v : ℤ) (l : (cell_at M s).bound ≤ t) (q : (p : ℕ) → (cell_at M s).bound ≤ p → p < t → S s p ≡ None) (e : S s t ≡ Some v) (at : y ≡ suc t) where
     self_bound : (C s).bound ≡ suc t
     self_bound = ap (λ c. c.bound) C-self ∙ at
 
@@ -140,10 +140,10 @@ module _ (S : Streams) (M : State) (inv : Tracks S M) (s y : ℕ) (new : List Ev
         C-cases (λ i c. (i ≡ s → p ≡ t → ⊥) → cut (S i) (cell_at M i).bound p ≡ cut (S i) c.bound p) (λ i n d. refl)
         (λ d. rw at (cut_event (S s) (cell_at M s).bound t p l q (d refl))) i
 
-    here : known_in S M₁ s t ≡ some v
+    here : known_in S M₁ s t ≡ Some v
     here = rw self_bound (cut_yes (S s) (suc t) t (lt-suc_self t) ∙ e)
 
-    above : (p : ℕ) → t < p → known_in S M₁ s p ≡ none
+    above : (p : ℕ) → t < p → known_in S M₁ s p ≡ None
     above p k = rw self_bound (cut_no (S s) (suc t) p k)
 
     told_cell : (K : Streams) (i : ℕ) → ((i p : ℕ) → (i ≡ s → p ≡ t → ⊥) → K i p ≡ known_in S M₁ i p) → ((p : ℕ) → K i p ≡ known_in S M₁ i p)

@@ -4,7 +4,7 @@
 -- is silent between, and otherwise both go past its first event.
 use mathlib.Core.Path.{◌≡◌, refl, sym}
 use mathlib.Core.Bool.{Bool, false, not, ◌&&◌}
-use mathlib.Core.Option.{none}
+use Rattle.std.specs.Prelude.{None}
 use mathlib.Core.List.{List}
 use Prim.Native.Nat.{ℕ, suc, pred, ◌-◌, ◌+◌, ◌≤◌, ◌<◌, min, max}
 use native.Mathlib.Omega.{arith}
@@ -34,7 +34,7 @@ use Rattle.runs.proofs.Keeping.{point_max, point_hit}
 
 -- a stream is silent from one stamp on and below another
 abbrev Silent : Stream → ℕ → ℕ → Type 0
-Silent f y t = (p : ℕ) → y ≤ p → p < t → f p ≡ none
+Silent f y t = (p : ℕ) → y ≤ p → p < t → f p ≡ None
 
 -- what the two searches have to do with each other: `far` is the machine's reach, r that of the solution
 record Agrees (f : Stream) (y far r : ℕ) : Type 0 where

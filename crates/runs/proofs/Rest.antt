@@ -6,7 +6,7 @@
 use mathlib.Core.Path.{◌≡◌, refl, ap}
 use mathlib.Core.Logic.{◌⊎◌, inl, inr}
 use mathlib.Core.Bool.{not, ◌&&◌}
-use mathlib.Core.Option.{none}
+use Rattle.std.specs.Prelude.{None}
 use mathlib.Core.List.{List, [], ◌∷◌}
 use Prim.Native.Nat.{ℕ, zero, suc, ◌≤◌, ◌<◌}
 use native.Mathlib.Omega.{arith}
@@ -34,7 +34,7 @@ each_zip : (P Q R : ℕ → Type 0) → ((a : ℕ) → P a → Q a → R a) → 
 each_zip P Q R f [] h k = tt
 each_zip P Q R f (x ∷ xs) h k = (f x h.0 k.0, each_zip P Q R f xs h.1 k.1)
 
-module _ (S : Streams) (M : State) (inv : Tracks S M) (collected : (s : ℕ) → T (cell_at M s).out → (t : ℕ) → (cell_at M s).next ≤ t → found (cell_at M s).held t ≡ none) where
+module _ (S : Streams) (M : State) (inv : Tracks S M) (collected : (s : ℕ) → T (cell_at M s).out → (t : ℕ) → (cell_at M s).next ≤ t → found (cell_at M s).held t ≡ None) where
   abbrev C : ℕ → Cell
   C i = cell_at M i
 
@@ -52,7 +52,7 @@ module _ (S : Streams) (M : State) (inv : Tracks S M) (collected : (s : ℕ) →
           who : ((r : ℕ) × (r < length M) × T (reads_it s (C r).eqn) × ((C r).bound ≤ e.stamp)) ⊎ (T (C s).out × ((C s).next ≤ e.stamp)) → e.stamp < (C s).bound → ⊥
           who (inl x) b = let a = all x.0 x.1 in let c = x.3 in omega arith
           who (inr x) b =
-              let n : found (e ∷ es) e.stamp ≡ none = rw q at (collected s x.0 e.stamp x.1) in
+              let n : found (e ∷ es) e.stamp ≡ None = rw q at (collected s x.0 e.stamp x.1) in
               let z : ◌≡◌ {A = ℕ} 0 1 = cc (eqb_self e.stamp) in omega arith
 
   module _ (plan : Plan) (planned : (s : ℕ) → (C s).eqn ≡ eqn_at plan s) (arguments : (s : ℕ) → Each (λ a. a < length M) (reads (C s).eqn))

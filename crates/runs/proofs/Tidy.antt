@@ -3,7 +3,7 @@
 -- Both sides are the one state that tracks the solution at the new bounds.
 use mathlib.Core.Path.{◌≡◌, refl, sym, ◌∙◌, ap}
 use mathlib.Core.Bool.{cond}
-use mathlib.Core.Option.{Option, none}
+use Rattle.std.specs.Prelude.{Option, None}
 use Prim.Native.Nat.{ℕ, zero, suc, pred, ◌≤◌, ◌<◌, min, max}
 use native.Mathlib.Omega.{arith}
 use native.Mathlib.Decide.{dec_lt}
@@ -41,9 +41,9 @@ refreshed (delay _ _) o a b =
       prev = o.kept.prev;
       prev_b = o.kept.prev_b;
       since = later o b;
-      value = cond (eqb (later o b) 0) none
-          (or_else (view a (pred (later o b))) (cond (eqb (later o b) o.kept.since) o.kept.value (cond (eqb (later o b) o.bound) o.kept.prior none)));
-      prior = cond (eqb o.bound 0) none (or_else (view a (pred o.bound)) o.kept.prior);
+      value = cond (eqb (later o b) 0) None
+          (or_else (view a (pred (later o b))) (cond (eqb (later o b) o.kept.since) o.kept.value (cond (eqb (later o b) o.bound) o.kept.prior None)));
+      prior = cond (eqb o.bound 0) None (or_else (view a (pred o.bound)) o.kept.prior);
     }
 refreshed (signal c _ _) o a b = with_prev (held_latest a o.bound o.kept.prev) (with_prev_b (held_latest b o.bound o.kept.prev_b) o.kept)
 refreshed (window f k _) o a b = o.kept
@@ -56,7 +56,7 @@ tidied M i =
 
 -- of a stream whose bound goes up: what lay just below the old bound no longer does
 abbrev pub stale : Cell → Cell
-stale c = with_kept (with_prior none c.kept) c
+stale c = with_kept (with_prior None c.kept) c
 
 -- ---- a stream whose bound stays
 
@@ -72,7 +72,7 @@ Near (delay a b) B y = y ≤ suc (B b)
 Near (signal c a b) B y = Unit
 Near (window f k a) B y = Unit
 
-module _ (K L : Streams) (B lo : ℕ → ℕ) (C : ℕ → Cell) (r y : ℕ) (old : (i p : ℕ) → p < B i → K i p ≡ L i p) (over : (i p : ℕ) → B i ≤ p → K i p ≡ none)
+module _ (K L : Streams) (B lo : ℕ → ℕ) (C : ℕ → Cell) (r y : ℕ) (old : (i p : ℕ) → p < B i → K i p ≡ L i p) (over : (i p : ℕ) → B i ≤ p → K i p ≡ None)
     (low : (i : ℕ) → lo i ≤ B i) (shows : (i : ℕ) → Seen (L i) (lo i) (view (C i))) (at : (C r).bound ≡ y) (own : B r ≡ y) where
   latest_old : (i : ℕ) → latest (K i) y ≡ latest (L i) (min y (B i))
   latest_old i =
@@ -96,7 +96,7 @@ module _ (K L : Streams) (B lo : ℕ → ℕ) (C : ℕ → Cell) (r y : ℕ) (ol
       go (yes l) = rw (old i p l) (seen_or (L i) (view (C i)) (lo i) (shows i) p)
       go (no l) = let k = low i in rw (over i p (omega arith), (shows i).from p (omega arith)) (or_none (L i p))
 
-  seen_below : (i z : ℕ) → cond (eqb z 0) none (or_else (view (C i) (pred z)) (below (K i) z)) ≡ below (L i) z
+  seen_below : (i z : ℕ) → cond (eqb z 0) None (or_else (view (C i) (pred z)) (below (K i) z)) ≡ below (L i) z
   seen_below i zero = refl
   seen_below i (suc p) = rw (ne_eqb (suc p) 0 (λ e. omega arith)) (seen_old i p)
 
@@ -122,7 +122,7 @@ module _ (K L : Streams) (B lo : ℕ → ℕ) (C : ℕ → Cell) (r y : ℕ) (ol
         go (no d) = let l = point_le (L b) (L r) y in omega arith
         go (yes d) = let e = past_below (L b) (min y (B b)) y (omega arith) (omega arith) in absurd (n (cc (since_is, ap (λ x. max x (past_latest (L r) y)) e)))
 
-    value_is : cond (eqb (later (C r) (C b)) 0) none (or_else (view (C a) (pred (later (C r) (C b)))) (cond (eqb (later (C r) (C b)) (C r).kept.since) (C r).kept.value (cond (eqb (later (C r) (C b)) (C r).bound) (C r).kept.prior none)))
+    value_is : cond (eqb (later (C r) (C b)) 0) None (or_else (view (C a) (pred (later (C r) (C b)))) (cond (eqb (later (C r) (C b)) (C r).kept.since) (C r).kept.value (cond (eqb (later (C r) (C b)) (C r).bound) (C r).kept.prior None)))
         ≡ below (L a) (point_of (L b) (L r) y)
     value_is = rw (later_is, at) (go (look (eqb z (C r).kept.since)))
       where
@@ -135,7 +135,7 @@ module _ (K L : Streams) (B lo : ℕ → ℕ) (C : ℕ → Cell) (r y : ℕ) (ol
         p : (C r).kept.prior ≡ below (K a) y
         p = ap (λ c. c.prior) k
 
-        go : Is (eqb z (C r).kept.since) → cond (eqb z 0) none (or_else (view (C a) (pred z)) (cond (eqb z (C r).kept.since) (C r).kept.value (cond (eqb z y) (C r).kept.prior none))) ≡ below (L a) z
+        go : Is (eqb z (C r).kept.since) → cond (eqb z 0) None (or_else (view (C a) (pred z)) (cond (eqb z (C r).kept.since) (C r).kept.value (cond (eqb z y) (C r).kept.prior None))) ≡ below (L a) z
         go (yes! j x) = let e = eqb→eq z (C r).kept.since x in rw (j, v, ← e) (seen_below a z)
         go (no! j x) =
             let e = new_point (eqb_ne z (C r).kept.since x) in

@@ -3,7 +3,7 @@
 -- the bound; a delay is at most one ahead of its second argument, all others but last ahead of none. So a window and the counts
 -- are of the solution itself, and indifferent to every other stream's step.
 use mathlib.Core.Path.{◌≡◌, refl, sym, ◌∙◌, ap}
-use mathlib.Core.Option.{none, some}
+use Rattle.std.specs.Prelude.{None, Some}
 use mathlib.Core.List.{List, [], ◌∷◌, ◌++◌, append-nil}
 use Prim.Native.Nat.{ℕ, suc, ◌≤◌, ◌<◌, min}
 use native.Mathlib.Nat.{lt-suc_self}
@@ -32,7 +32,7 @@ use Rattle.runs.proofs.Passed.{passed_of}
 pub cut_yes : (f : Stream) (k p : ℕ) → p < k → cut f k p ≡ f p
 cut_yes f k p l = rw (true_is (ltb p k) (lt→ltb p k l))
 
-pub cut_no : (f : Stream) (k p : ℕ) → k ≤ p → cut f k p ≡ none
+pub cut_no : (f : Stream) (k p : ℕ) → k ≤ p → cut f k p ≡ None
 cut_no f k p l = rw (false_is (ltb p k) (not_T (ltb p k) (λ y. let z = ltb→lt p k y in absurd (omega arith))))
 
 pub cut_latest : (f : Stream) (k t : ℕ) → t ≤ k → latest (cut f k) t ≡ latest f t
@@ -84,8 +84,8 @@ ahead_grows (window f k a) M N y g h = let x = g a in omega arith
 -- ---- what comes in when a bound goes from lo to y: nothing, or one event just below y
 
 pub data New (f : Stream) (lo : ℕ) : ℕ → List Event → Type 0 where
-  quiet : {y : ℕ} → lo ≤ y → ((p : ℕ) → lo ≤ p → p < y → f p ≡ none) → New f lo y []
-  event : {t : ℕ} {v : ℤ} → lo ≤ t → ((p : ℕ) → lo ≤ p → p < t → f p ≡ none) → f t ≡ some v → New f lo (suc t) (ev t v ∷ [])
+  quiet : {y : ℕ} → lo ≤ y → ((p : ℕ) → lo ≤ p → p < y → f p ≡ None) → New f lo y []
+  event : {t : ℕ} {v : ℤ} → lo ≤ t → ((p : ℕ) → lo ≤ p → p < t → f p ≡ None) → f t ≡ Some v → New f lo (suc t) (ev t v ∷ [])
 
 pub new_grows : {f : Stream} {lo y : ℕ} {es : List Event} → New f lo y es → lo ≤ y
 new_grows (quiet l n) = l
@@ -98,18 +98,18 @@ pub new_events : {f : Stream} {lo y : ℕ} {es : List Event} → New f lo y es �
 new_events {f} {lo} {y} (quiet l n) = events_flat f lo y l n ∙ sym (append-nil (events f lo))
 new_events {f} {lo} (event {t} {v} l n e) = events_some f t v e ∙ ap (λ xs. xs ++ ev t v ∷ []) (events_flat f lo t l n)
 
-one_miss : (t p : ℕ) (v : ℤ) → (t ≡ p → ⊥) → found (ev t v ∷ []) p ≡ none
+one_miss : (t p : ℕ) (v : ℤ) → (t ≡ p → ⊥) → found (ev t v ∷ []) p ≡ None
 one_miss t p v n = rw (ne_eqb t p n)
 
 -- new events as a stream
-new_under : {f : Stream} {lo y : ℕ} {es : List Event} → New f lo y es → (p : ℕ) → p < lo → found es p ≡ none
+new_under : {f : Stream} {lo y : ℕ} {es : List Event} → New f lo y es → (p : ℕ) → p < lo → found es p ≡ None
 new_under (quiet l n) p k = refl
 new_under (event {t} {v} l n e) p k = one_miss t p v (λ q. omega arith)
 
 new_from : {f : Stream} {lo y : ℕ} {es : List Event} → New f lo y es → (p : ℕ) → lo ≤ p → found es p ≡ cut f y p
 new_from {f} {lo} {y} (quiet l n) p k = go (dec_lt p y)
   where
-    go : Dec (p < y) → none ≡ cut f y p
+    go : Dec (p < y) → None ≡ cut f y p
     go (yes d) = sym (cut_yes f y p d ∙ n p k d)
     go (no d) = sym (cut_no f y p (omega arith))
 new_from {f} {lo} (event {t} {v} l n e) p k = go (dec_lt p t) (dec_lt t p)
@@ -138,7 +138,7 @@ held_shows f w lo y es n = record {
         rw (found_high 0 lo old (rising_drop w 0 lo (events f lo) (events_rising f lo)) p (omega arith), new_from n p (omega arith))
 
 -- what is known changes only where the event comes in
-pub cut_quiet : (f : Stream) (lo y p : ℕ) → lo ≤ y → ((p : ℕ) → lo ≤ p → p < y → f p ≡ none) → cut f lo p ≡ cut f y p
+pub cut_quiet : (f : Stream) (lo y p : ℕ) → lo ≤ y → ((p : ℕ) → lo ≤ p → p < y → f p ≡ None) → cut f lo p ≡ cut f y p
 cut_quiet f lo y p l n = go (dec_lt p lo) (dec_lt p y)
   where
     go : Dec (p < lo) → Dec (p < y) → cut f lo p ≡ cut f y p
@@ -146,7 +146,7 @@ cut_quiet f lo y p l n = go (dec_lt p lo) (dec_lt p y)
     go (no d) (yes c) = rw (cut_no f lo p (omega arith), cut_yes f y p c) (sym (n p (omega arith) c))
     go (no d) (no c) = rw (cut_no f lo p (omega arith), cut_no f y p (omega arith))
 
-pub cut_event : (f : Stream) (lo t p : ℕ) → lo ≤ t → ((p : ℕ) → lo ≤ p → p < t → f p ≡ none) → (p ≡ t → ⊥) → cut f lo p ≡ cut f (suc t) p
+pub cut_event : (f : Stream) (lo t p : ℕ) → lo ≤ t → ((p : ℕ) → lo ≤ p → p < t → f p ≡ None) → (p ≡ t → ⊥) → cut f lo p ≡ cut f (suc t) p
 cut_event f lo t p l n d = cut_quiet f lo t p l n ∙ go (dec_lt p t)
   where
     go : Dec (p < t) → cut f t p ≡ cut f (suc t) p

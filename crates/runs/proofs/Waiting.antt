@@ -3,7 +3,7 @@
 use mathlib.Core.Path.{◌≡◌, sym, ◌∙◌, ap}
 use mathlib.Core.Logic.{◌⊎◌, inl, inr, ◌↔◌}
 use mathlib.Core.Bool.{cond}
-use mathlib.Core.Option.{Option, none, some}
+use Rattle.std.specs.Prelude.{Option, None, Some}
 use mathlib.Core.List.{List, [], ◌∷◌, ◌++◌, append-nil, Memᴰ}
 use Prim.Native.Nat.{ℕ, zero, suc, ◌≤◌, ◌<◌}
 use native.Mathlib.Omega.{arith}
@@ -52,15 +52,15 @@ drop_between w f zero = drop_nil w
 drop_between w f (suc t) = go (look (leb w t)) (f t) (drop_between w f t)
   where
     go : Is (leb w t) → (o : Option ℤ) → drop_below w (events f t) ≡ between f w t → drop_below w (events f t ++ here t o) ≡ between f w t ++ cond (leb w t) (here t o) []
-    go (yes! q x) none ih = rw (q, append-nil (events f t)) (ih ∙ sym (append-nil (between f w t)))
-    go (yes! q x) (some v) ih = rw q (drop_last w t v (events f t) (leb→le w t x) ∙ ap (λ l. l ++ ev t v ∷ []) ih)
+    go (yes! q x) None ih = rw (q, append-nil (events f t)) (ih ∙ sym (append-nil (between f w t)))
+    go (yes! q x) (Some v) ih = rw q (drop_last w t v (events f t) (leb→le w t x) ∙ ap (λ l. l ++ ev t v ∷ []) ih)
     go (no! q x) o ih =
         let a = nleb→lt w t x in
         rw q (every o ∙ sym (drop_all w 0 t (events f t) (events_rising f t) (omega arith)) ∙ ih ∙ sym (append-nil (between f w t)))
       where
         every : (o : Option ℤ) → drop_below w (events f t ++ here t o) ≡ []
-        every none = rw (append-nil (events f t)) (drop_all w 0 t (events f t) (events_rising f t) (let a = nleb→lt w t x in omega arith))
-        every (some v) =
+        every None = rw (append-nil (events f t)) (drop_all w 0 t (events f t) (events_rising f t) (let a = nleb→lt w t x in omega arith))
+        every (Some v) =
             drop_all w 0 (suc t) (events f t ++ ev t v ∷ []) (rising_one 0 t t v (events f t) (omega arith) (omega arith) (events_rising f t)) (let a = nleb→lt w t x in omega arith)
 
 -- ---- who waits

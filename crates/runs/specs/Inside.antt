@@ -1,13 +1,12 @@
 -- Believe: demand 2 inside the state: what a stream holds, keeps and counts, and where a move takes its bound, each told by the
 -- solution S, the bounds and the marks of collection alone.
-use Rattle.std.specs.Prelude.{ℕ, zero, suc, ◌+◌, ◌≤◌, ◌<◌, max, ◌≡◌, ◌⊎◌, ◌↔◌, Bool, cond, T, leb, ltb, length, ℤ}
-use Rattle.std.proofs.Math.Option.{Option, none}
+use Rattle.std.specs.Prelude.{ℕ, zero, suc, ◌+◌, ◌≤◌, ◌<◌, max, ◌≡◌, ◌⊎◌, ◌↔◌, Bool, cond, T, leb, ltb, length, ℤ, Option, None}
 use mathlib.Core.List.{List, [], ◌++◌, Memᴰ}
 use Rattle.meaning.specs.Plan.{Eqn, input, nil, unit, one, two, last, delay, signal, window}
 use Rattle.meaning.specs.Arguments.{reads}
 use Rattle.meaning.specs.Events.{Event, Stream, Streams, here, events, has, horizon}
 use Rattle.meaning.specs.Table.{latest, latest_of, values, width}
-use Rattle.meaning.specs.Missing.{outside, divisor, count_below}
+use Rattle.meaning.specs.Missing.{Outside, ZeroDivisor, count_below}
 use Rattle.machine.specs.State.{Kept, Passed, State, cell_at, no_kept, room}
 use Rattle.machine.specs.Calls.{move_one, Missing}
 
@@ -34,7 +33,7 @@ pub record HeldAs (f : Stream) (M : State) (s : ℕ) : Type 0 where
 
 -- what is known of a stream: its events below its bound
 abbrev pub cut : Stream → ℕ → Stream
-cut f k p = cond (ltb p k) (f p) none
+cut f k p = cond (ltb p k) (f p) None
 
 abbrev pub known_in : Streams → State → Streams
 known_in S M i = cut (S i) (cell_at M i).bound
@@ -50,13 +49,13 @@ pub data PastLatest (b d : Stream) (y : ℕ) : ℕ → Type 0 where
 
 -- what a stream has one below z
 abbrev pub below : Stream → ℕ → Option ℤ
-below f zero = none
+below f zero = None
 below f (suc p) = f p
 
 -- a delay with bound y keeps its latest known set point, and what is known of a there and just below y
 pub record DelayKeeps (a b d : Stream) (y : ℕ) (k : Kept) : Type 0 where
-  pub prev : k.prev ≡ none
-  pub prev_b : k.prev_b ≡ none
+  pub prev : k.prev ≡ None
+  pub prev_b : k.prev_b ≡ None
   pub since : PastLatest b d y k.since
   pub value : k.value ≡ below a k.since
   pub prior : k.prior ≡ below a y
@@ -64,14 +63,14 @@ pub record DelayKeeps (a b d : Stream) (y : ℕ) (k : Kept) : Type 0 where
 -- a last keeps the value of a's latest known event
 pub record LastKeeps (a : Stream) (y : ℕ) (k : Kept) : Type 0 where
   pub prev : k.prev ≡ latest a y
-  pub others : (k.prev_b ≡ none) × (k.since ≡ 0) × (k.value ≡ none) × (k.prior ≡ none)
+  pub others : (k.prev_b ≡ None) × (k.since ≡ 0) × (k.value ≡ None) × (k.prior ≡ None)
 
 -- a signal form keeps the values that a and b had latest: "The state keeps those latest values." They are those of the
 -- solution, not only of what is known of it: its bound y is never above an argument's.
 pub record SignalKeeps (a b : Stream) (y : ℕ) (k : Kept) : Type 0 where
   pub prev : k.prev ≡ latest a y
   pub prev_b : k.prev_b ≡ latest b y
-  pub others : (k.since ≡ 0) × (k.value ≡ none) × (k.prior ≡ none)
+  pub others : (k.since ≡ 0) × (k.value ≡ None) × (k.prior ≡ None)
 
 -- of the solution S and what is known of it, K, a stream s with this equation and the bound y keeps k
 abbrev pub KeptAs : Eqn → (S K : Streams) → (s y : ℕ) → Kept → Type 0
@@ -109,7 +108,7 @@ PassedAs (window f k a) S y w = WindowKeeps (width k) (S a) y w
 
 -- of the readings rd and the solution S, what is read of a stream s with this equation and the bound y
 abbrev pub missed_as : Eqn → (rd S : Streams) (s y : ℕ) → Missing
-missed_as e rd S s y = record { number = 0; outside = count_below outside e rd S s y; divisors = count_below divisor e rd S s y }
+missed_as e rd S s y = record { number = 0; outside = count_below Outside e rd S s y; divisors = count_below ZeroDivisor e rd S s y }
 
 -- ## Moved
 
@@ -136,10 +135,10 @@ pub record IsReach (e : Eqn) (S : Streams) (Y : ℕ → ℕ) (s r : ℕ) : Type 
 -- where a move of a stream f with bound y and reach r takes the bound
 pub data Goes (f : Stream) (y r : ℕ) (full : Bool) : ℕ → Type 0 where
   -- "With no such event the bound becomes the reach"
-  silent : ((p : ℕ) → y ≤ p → p < r → f p ≡ none) → Goes f y r full (max y r)
+  silent : ((p : ℕ) → y ≤ p → p < r → f p ≡ None) → Goes f y r full (max y r)
   -- "If an event lies at or above y and below the reach, the first one, at t, is added and the bound becomes t + 1."
   -- "A stream that holds 16 events takes no more: the bound then goes to t and the event waits."
-  event : {t : ℕ} → y ≤ t → t < r → ((p : ℕ) → y ≤ p → p < t → f p ≡ none) → T (has (f t)) → Goes f y r full (cond full t (suc t))
+  event : {t : ℕ} → y ≤ t → t < r → ((p : ℕ) → y ≤ p → p < t → f p ≡ None) → T (has (f t)) → Goes f y r full (cond full t (suc t))
 
 pub record MovesAs (S : Streams) (M : State) (s : ℕ) : Type 0 where
   pub reach : ℕ

@@ -8,7 +8,6 @@ ghost use Rattle.operators.specs.Limits.{long_length};
 ghost use Rattle.saved.specs.Saved.{is_short, length_of};
 
 use operators::Plan;
-use valid::Tested;
 
 // One byte more than the longest state has, so that a longer file is seen.
 pub const ROOM: usize = Plan::LONG + 1;
@@ -21,10 +20,7 @@ fn is_short(room: &[u8], n: usize) -> bool
     if Plan::STATE < n {
         return false;
     }
-    match valid::streams(&room[..Plan::STATE]) {
-        Tested::State(_) => true,
-        Tested::NoState => false,
-    }
+    valid::streams(&room[..Plan::STATE]).is_some()
 }
 
 // As how many bytes of the room a file of n bytes, which were read into it, is to be taken for a state.
@@ -36,10 +32,7 @@ pub fn length_of(room: &[u8], n: usize) -> usize
     if is_short(room, n) {
         return Plan::STATE;
     }
-    if n <= Plan::LONG {
-        return Plan::LONG;
-    }
-    n
+    n.max(Plan::LONG)
 }
 
 // Says on the standard error which number refused it.

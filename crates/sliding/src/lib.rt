@@ -13,7 +13,6 @@ ghost use Rattle.sliding.specs.Slide.{width_in, windows_before, place_of, fill_o
 
 use apply::Fold;
 use operators::Plan;
-use windows::Fit;
 
 // The width of a window of k values, cut to 1 to 64.
 pub fn width_of(k: i64) -> usize
@@ -43,16 +42,11 @@ fn place_of(state: &[u8], n: usize, i: usize) -> usize
     ensures { (result ≡ place_of i (decode n state.now)) × (result < window_limit) }
 {
     let mut j = 0;
-    let mut r = i;
-    while 0 < r {
-        r -= 1;
+    for r in (0..i).rev() {
         let row = layout::row_at(state, r);
         j = counted(j, operators::is_window(layout::byte_at(row, layout::OP)));
     }
-    if j < Plan::WINDOWS as usize {
-        return j;
-    }
-    Plan::WINDOWS as usize - 1
+    j.min(Plan::WINDOWS as usize - 1)
 }
 
 // How many values the window of stream i, of width k, keeps.
@@ -61,11 +55,20 @@ fn fill_of(state: &[u8], n: usize, i: usize, k: usize) -> usize
     ensures { (result ≡ fill_of k i (decode n state.now)) × (result ≤ k) }
 {
     let fill = layout::byte_at(layout::row_at(state, i), layout::FLAG) as usize;
-    if fill < k { fill } else { k }
+    fill.min(k)
 }
 
 // What a move of stream i, a window of k values with bound y, finds below hi, where its argument is record a.
-pub fn fit(state: &[u8], n: usize, i: usize, f: Fold, k: usize, a: usize, y: u64, hi: u64) -> Fit
+pub fn fit(
+    state: &[u8],
+    n: usize,
+    i: usize,
+    f: Fold,
+    k: usize,
+    a: usize,
+    y: u64,
+    hi: u64,
+) -> Option<(u32, i64)>
     requires { (n * 256 + area_length ≤ length state.now) × (i < n) × (a < n) × (1 ≤ k) × (k ≤ width_limit) }
     ensures { fitted hi result ≡ fit_row (folding f) k i y hi (held_of (row_at (decode n state.now) a)) (decode n state.now) }
 {

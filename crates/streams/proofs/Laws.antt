@@ -2,7 +2,7 @@
 use Prim.Native.Nat.{ℕ, zero, suc, ◌≤◌, ◌<◌, min}
 use mathlib.Core.Path.{◌≡◌, refl, sym, ap, subst, ◌∙◌}
 use mathlib.Core.Bool.{Bool, true, false, cond, false≢true}
-use mathlib.Core.Option.{none, some}
+use Rattle.std.specs.Prelude.{None, Some}
 use native.Mathlib.Omega.{arith}
 use lib.IntN.{ℤ}
 use mir.Syntax.{w64}
@@ -136,11 +136,11 @@ is_sound s r i =
 pub by : (P : Eqn → Type 0) {e d : Eqn} → e ≡ d → P d → P e
 by P q h = subst P (sym q) h
 
-pub optional_none : (has x : ℕ) → has ≡ 0 → none ≡ optional has x
-optional_none has x e = sym (ap (λ b. cond b none (some (to_z w64 x))) (eq-eqb has 0 e))
+pub optional_none : (has x : ℕ) → has ≡ 0 → None ≡ optional has x
+optional_none has x e = sym (ap (λ b. cond b None (Some (to_z w64 x))) (eq-eqb has 0 e))
 
-pub optional_some : (has x : ℕ) → (has ≡ 0 → ⊥) → some (to_z w64 x) ≡ optional has x
-optional_some has x e = sym (ap (λ b. cond b none (some (to_z w64 x))) (ne_eqb has 0 e))
+pub optional_some : (has x : ℕ) → (has ≡ 0 → ⊥) → Some (to_z w64 x) ≡ optional has x
+optional_some has x e = sym (ap (λ b. cond b None (Some (to_z w64 x))) (ne_eqb has 0 e))
 
 -- ---- a number known by what it is not
 

@@ -5,7 +5,6 @@ use Rattle.meaning.specs.Events.{Event, horizon}
 use Rattle.machine.specs.State.{Cell, Kept, absent, fresh, with_bound, with_held, with_kept, with_since}
 use Rattle.layout.specs.Record.{Raw, dec_raw}
 use Rattle.encoding.specs.Back.{to_cell, held_of}
-use Rattle.queue.specs.Found.{as_option}
 use Rattle.apply.specs.Named.{unary, calculation, binary, folding}
 use Rattle.streams.specs.declared.Op.{Op}
 use Rattle.streams.specs.declared.Op.TheVariants.{In, Nil, Unit, One, Two, Last, Delay, Signal, Window}
@@ -53,7 +52,7 @@ plain (Signal g a b) = signal (calculation g) a b
 plain (Window f k a) = nil
 
 abbrev pub kept_in : code.Kept → Kept
-kept_in k = record { prev = as_option k.prev; prev_b = as_option k.prevb; since = k.since; value = as_option k.value; prior = as_option k.prior }
+kept_in k = record { prev = k.prev; prev_b = k.prevb; since = k.since; value = k.value; prior = k.prior }
 
 -- the equation's own cell, as far as a move looks at it: not its held events, nor what a window keeps
 abbrev pub own_cell : Eqn → ℕ → Kept → Cell

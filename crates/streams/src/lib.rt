@@ -11,13 +11,11 @@ ghost use Rattle.meaning.specs.Arguments.{arg_a, arg_b};
 ghost use Rattle.operators.specs.Operators.{calcs, folds, eqn_of};
 ghost use Rattle.layout.specs.Record.{dec_raw, num, k_f};
 ghost use Rattle.encoding.specs.Back as cells;
-ghost use Rattle.queue.specs.Found.{as_option};
 ghost use Rattle.apply.specs.Named.{unary, calculation, binary, folding};
 ghost use Rattle.streams.specs.Look.{look_of, equation, kept_in, Bounded, Is, Within};
 
 use apply::{Binary, Calc, Fold, Unary};
 use limits::Bound;
-use queue::Found;
 
 // An equation's operator, with just the arguments that it uses.
 #[derive(Clone, Copy)]
@@ -36,11 +34,11 @@ pub enum Op {
 // What a last, a delay or a signal form keeps in its record; prevb is a signal form's latest value of its second argument.
 #[derive(Clone, Copy)]
 pub struct Kept {
-    pub prev: Found,
-    pub prevb: Found,
+    pub prev: Option<i64>,
+    pub prevb: Option<i64>,
     pub since: u64,
-    pub value: Found,
-    pub prior: Found,
+    pub value: Option<i64>,
+    pub prior: Option<i64>,
 }
 
 // A stream, rebuilt from its record: its operator with just the arguments that it uses, and what a move looks at besides.
@@ -126,15 +124,13 @@ pub fn first(op: Op) -> u8
     ensures { result ≡ arg_a (equation op) }
 {
     match op {
-        Op::In => 0,
-        Op::Nil => 0,
-        Op::Unit => 0,
-        Op::One(_, a) => a,
-        Op::Two(_, a, _) => a,
-        Op::Last(a, _) => a,
-        Op::Delay(a, _) => a,
-        Op::Signal(_, a, _) => a,
-        Op::Window(_, _, a) => a,
+        Op::In | Op::Nil | Op::Unit => 0,
+        Op::One(_, a)
+        | Op::Two(_, a, _)
+        | Op::Last(a, _)
+        | Op::Delay(a, _)
+        | Op::Signal(_, a, _)
+        | Op::Window(_, _, a) => a,
     }
 }
 
@@ -143,15 +139,8 @@ pub fn second(op: Op) -> u8
     ensures { result ≡ arg_b (equation op) }
 {
     match op {
-        Op::In => 0,
-        Op::Nil => 0,
-        Op::Unit => 0,
-        Op::One(_, _) => 0,
-        Op::Two(_, _, b) => b,
-        Op::Last(_, b) => b,
-        Op::Delay(_, b) => b,
-        Op::Signal(_, _, b) => b,
-        Op::Window(_, _, _) => 0,
+        Op::In | Op::Nil | Op::Unit | Op::One(_, _) | Op::Window(_, _, _) => 0,
+        Op::Two(_, _, b) | Op::Last(_, b) | Op::Delay(_, b) | Op::Signal(_, _, b) => b,
     }
 }
 
@@ -160,7 +149,7 @@ pub fn bound_of(r: &[u8]) -> u64
     requires { length r.now ≡ 256 }
     ensures { (result ≡ (look_of (dec_raw r.now)).bound) × (result ≤ horizon) }
 {
-    limits::smaller(layout::word_at(r, layout::BOUND), Bound::HORIZON)
+    layout::word_at(r, layout::BOUND).min(Bound::HORIZON)
 }
 
 // The operator of a record: ranges of the stored number choose the group, and only what the group uses is read.
@@ -210,19 +199,19 @@ pub fn operator_at(r: &[u8]) -> Op
 }
 
 // A stored value that may be absent.
-fn optional(has: u64, bits: u64) -> Found
-    ensures { as_option result ≡ cells.optional has bits }
+fn optional(has: u64, bits: u64) -> Option<i64>
+    ensures { result ≡ cells.optional has bits }
 {
     if has == 0 {
-        return Found::Nothing;
+        return None;
     }
-    Found::Value(num::of_bits(bits))
+    Some(num::of_bits(bits))
 }
 
 // The value that a record keeps: whether it is there in byte f, its bits in word w.
-fn value_at(r: &[u8], f: usize, w: usize) -> Found
+fn value_at(r: &[u8], f: usize, w: usize) -> Option<i64>
     requires { (length r.now ≡ 256) × (f < 8) × (w < 7) }
-    ensures { as_option result ≡ cells.optional (num f (dec_raw r.now)) (num (8 + w) (dec_raw r.now)) }
+    ensures { result ≡ cells.optional (num f (dec_raw r.now)) (num (8 + w) (dec_raw r.now)) }
 {
     optional(layout::byte_at(r, f), layout::word_at(r, w))
 }
@@ -232,24 +221,24 @@ fn nothing() -> Kept
     ensures { kept_in result ≡ no_kept }
 {
     Kept {
-        prev: Found::Nothing,
-        prevb: Found::Nothing,
+        prev: None,
+        prevb: None,
         since: 0,
-        value: Found::Nothing,
-        prior: Found::Nothing,
+        value: None,
+        prior: None,
     }
 }
 
 // The latest values of its arguments that a last (one) or a signal form (both) keeps.
-fn latest(prev: Found, prevb: Found) -> Kept
-    ensures { kept_in result ≡ with_prev (as_option prev) (with_prev_b (as_option prevb) no_kept) }
+fn latest(prev: Option<i64>, prevb: Option<i64>) -> Kept
+    ensures { kept_in result ≡ with_prev prev (with_prev_b prevb no_kept) }
 {
     Kept {
-        prev: prev,
-        prevb: prevb,
+        prev,
+        prevb,
         since: 0,
-        value: Found::Nothing,
-        prior: Found::Nothing,
+        value: None,
+        prior: None,
     }
 }
 
@@ -261,18 +250,18 @@ fn kept_at(r: &[u8], op: Op, bound: u64) -> Kept
     match op {
         Op::Last(_, _) => {
             let prev = value_at(r, layout::FLAG, layout::KEPT);
-            latest(prev, Found::Nothing)
+            latest(prev, None)
         }
         Op::Delay(_, _) => {
-            let since = limits::smaller(layout::word_at(r, layout::KEPT), bound);
+            let since = layout::word_at(r, layout::KEPT).min(bound);
             let value = value_at(r, layout::FLAG, layout::VALUE);
             let prior = value_at(r, layout::PRIOR_FLAG, layout::PRIOR);
             Kept {
-                prev: Found::Nothing,
-                prevb: Found::Nothing,
-                since: since,
-                value: value,
-                prior: prior,
+                prev: None,
+                prevb: None,
+                since,
+                value,
+                prior,
             }
         }
         Op::Signal(_, _, _) => {
@@ -280,12 +269,9 @@ fn kept_at(r: &[u8], op: Op, bound: u64) -> Kept
             let prevb = value_at(r, layout::PRIOR_FLAG, layout::VALUE);
             latest(prev, prevb)
         }
-        Op::In => nothing(),
-        Op::Nil => nothing(),
-        Op::Unit => nothing(),
-        Op::One(_, _) => nothing(),
-        Op::Two(_, _, _) => nothing(),
-        Op::Window(_, _, _) => nothing(),
+        Op::In | Op::Nil | Op::Unit | Op::One(_, _) | Op::Two(_, _, _) | Op::Window(_, _, _) => {
+            nothing()
+        }
     }
 }
 
@@ -295,11 +281,7 @@ pub fn complete(r: &[u8], op: Op, bound: u64) -> Stream
     ensures { Is result (dec_raw r.now) }
 {
     let kept = kept_at(r, op, bound);
-    Stream {
-        op: op,
-        bound: bound,
-        kept: kept,
-    }
+    Stream { op, bound, kept }
 }
 
 // The stream of a record.
@@ -321,7 +303,7 @@ pub fn beside(s: Stream, a: &[u8], b: &[u8]) -> Look
     let bbound = bound_of(b);
     Look {
         stream: s,
-        abound: abound,
-        bbound: bbound,
+        abound,
+        bbound,
     }
 }

@@ -5,10 +5,10 @@ use mathlib.Core.List.{List, [], ◌∷◌}
 use native.Mathlib.Omega.{arith}
 use lib.ListN.{length}
 use Rattle.lines.specs.Form.{skip}
-use Rattle.text.specs.declared.Head.TheVariants as Head
+use Rattle.std.specs.Prelude.{Ok}
 use Rattle.text.specs.Grammar.{plan_line, head_after, head}
 
-pub no_bytes : (cap : ℕ) (s : List ℕ) → length s ≡ 0 → head cap s ≡ Head.Streams 0 0
+pub no_bytes : (cap : ℕ) (s : List ℕ) → length s ≡ 0 → head cap s ≡ Ok (0, 0)
 unfolding head
 no_bytes cap [] e = refl
 no_bytes cap (b ∷ s) e = absurd (omega arith)

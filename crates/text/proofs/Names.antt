@@ -2,19 +2,19 @@
 use Prim.Native.Nat.{ℕ, zero, suc, ◌+◌, ◌*◌, ◌-◌, ◌^◌, ◌<◌, ◌≤◌}
 use mathlib.Core.Path.{◌≡◌, refl, sym, ap, ◌∙◌}
 use mathlib.Core.List.{List, [], ◌∷◌, map}
-use mathlib.Core.Bool.{Bool, true, false, cond, ◌&&◌, and-false}
+use mathlib.Core.Bool.{Bool, true, false, cond, ◌&&◌}
 use native.Mathlib.Nat.{mul-add, mul_assoc, mul-zero, pow-suc, pow-le-pow_right, mul-le-mul_left}
 use native.Mathlib.Omega.{arith}
 use Rattle.operators.proofs.Tests.{left, right}
 use lib.Dec.{eqb, leb, ltb, lit<}
 use lib.ListN.{length, get_or, drop, get_or-eq_default}
-use borrow.Author.Tests.{le-leb, lt-leb, eq-eqb, ne_eqb, eqb-true, eqb-false, leb-true, ltb-true}
-use Rattle.lines.specs.declared.Word.TheVariants.{Past, Absent}
-use Rattle.text.specs.declared.Name.{Name}
+use borrow.Author.Tests.{le-leb, eq-eqb, ne_eqb, eqb-true, eqb-false, leb-true, ltb-true}
+use Rattle.std.specs.Prelude.{Some, None, Ok, Err}
+use Rattle.refusal.specs.declared.Refusal.TheVariants.{TextForm, TextOperator}
 use Rattle.text.specs.declared.Packed.{Packed}
 use Rattle.lines.specs.Form.{skip, ending}
 use Rattle.text.specs.Grammar.{letter, name_at, same_name, place, names, number_named, known, named}
-use Rattle.text.specs.Lookup.{pack, packed_at, place_packed, number_packed}
+use Rattle.text.specs.Lookup.{pack, packed_at, place_packed, number_packed, unless_zero}
 
 -- ## The loop over the letters
 
@@ -47,19 +47,13 @@ module _ (s : List ℕ) (p code weight n : ℕ) where
       let b : p ≡ p + length {A = ℕ} [] = omega arith in
       sym (rw e (λ i. record { code = sym a i; next = sym b i }))
 
-  stop : 0 < n → letter (get_or s p 0) ≡ false → packed_to code p ≡ packed_from code weight p (name_at s p n)
-  stop h e = done (name_turn s p n h ∙ rw e)
+  pub name_stop : 0 < n → letter (get_or s p 0) ≡ false → packed_to code p ≡ packed_from code weight p (name_at s p n)
+  name_stop h e = done (name_turn s p n h ∙ rw e)
 
   pub name_past : 0 < n → length s ≤ p → packed_to code p ≡ packed_from code weight p (name_at s p n)
-  name_past h l = stop h (ap letter (get_or-eq_default s 0 {n = p} l))
+  name_past h l = name_stop h (ap letter (get_or-eq_default s 0 {n = p} l))
 
   module _ (h : 0 < n) (c : ℕ) (e : c ≡ get_or s p 0) where
-    pub name_low : c < 97 → packed_to code p ≡ packed_from code weight p (name_at s p n)
-    name_low l = stop h (rw (lt-leb 97 (get_or s p 0) (omega arith)))
-
-    pub name_high : 122 < c → packed_to code p ≡ packed_from code weight p (name_at s p n)
-    name_high l = stop h (ap (λ (b : Bool). leb 97 (get_or s p 0) && b) (lt-leb (get_or s p 0) 122 (omega arith)) ∙ and-false (leb 97 (get_or s p 0)))
-
     pub name_go : 97 ≤ c → c ≤ 122 → (m : ℕ) → m ≡ n - 1 → packed_from (code + weight * c) (weight * 256) (p + 1) (name_at s (p + 1) m) ≡ packed_from code weight p (name_at s p n)
     name_go l k m q =
         let w : name_at s p n ≡ c ∷ name_at s (p + 1) m = name_turn s p n h ∙ rw (le-leb 97 (get_or s p 0) (omega arith), le-leb (get_or s p 0) 122 (omega arith), q, e) in
@@ -158,7 +152,7 @@ pub number_packed_lem : (w : List ℕ) → Letters w → number_packed (pack w) 
 unfolding number_packed number_named
 number_packed_lem w t = place_packed_lem w t names (all_letters_of names refl) 0
 
-empty : (s : List ℕ) (p : ℕ) (w : List ℕ) → length w ≡ 0 → named s p w ≡ Name.Fault
+empty : (s : List ℕ) (p : ℕ) (w : List ℕ) → length w ≡ 0 → named s p w ≡ Err TextForm
 unfolding named
 empty s p [] h = refl
 empty s p (c ∷ w) h = absurd (omega arith)
@@ -169,26 +163,30 @@ full s p [] h = absurd (h refl)
 full s p (c ∷ w) h = refl
 
 -- the op line's name as the code reads it
-module _ (s : List ℕ) (p end code : ℕ) (r : packed_to code end ≡ packed_at s p) where
-  code_is : code ≡ pack (name_at s p 5)
+module _ (s : List ℕ) (p : ℕ) (r : Packed) (e : r ≡ packed_at s p) where
+  code_is : r.code ≡ pack (name_at s p 5)
   unfolding packed_at
-  code_is = ap (λ (x : Packed). x.code) r
+  code_is = ap (λ (x : Packed). x.code) e
 
-  end_is : end ≡ p + length (name_at s p 5)
+  end_is : r.next ≡ p + length (name_at s p 5)
   unfolding packed_at
-  end_is = ap (λ (x : Packed). x.next) r
+  end_is = ap (λ (x : Packed). x.next) e
 
-  pub no_name : end ≡ p → named s p (name_at s p 5) ≡ Name.Fault
-  no_name e = empty s p (name_at s p 5) (omega (arith, end_is))
+  pub no_name : r.next ≡ p → named s p (name_at s p 5) ≡ Err TextForm
+  no_name h = empty s p (name_at s p 5) (omega (arith, end_is))
 
-  pub a_name : (end ≡ p → ⊥) → named s p (name_at s p 5) ≡ known (number_packed code) (skip s end ending)
-  a_name e = rw (code_is, end_is, number_packed_lem (name_at s p 5) (name_letters s p 5)) (full s p (name_at s p 5) (λ h. e (omega (arith, end_is))))
+  pub a_name : (r.next ≡ p → ⊥) → named s p (name_at s p 5) ≡ known (number_packed r.code) (skip s r.next ending)
+  a_name h = rw (code_is, end_is, number_packed_lem (name_at s p 5) (name_letters s p 5)) (full s p (name_at s p 5) (λ k. h (omega (arith, end_is))))
 
-pub an_operator : (n p : ℕ) → (n ≡ 0 → ⊥) → Name.Operator n p ≡ known n (Past p)
-an_operator zero p h = absurd (h refl)
-an_operator (suc n) p h = refl
+pub an_operator : (n o p : ℕ) → unless_zero n ≡ Some o → known n (Some p) ≡ Ok (o, p)
+an_operator zero o p h = cc
+an_operator (suc n) o p h = cc
 
-pub not_ended : (n : ℕ) → Name.Fault ≡ known n Absent
+pub unknown : (n p : ℕ) → unless_zero n ≡ None → known n (Some p) ≡ Err TextOperator
+unknown zero p h = refl
+unknown (suc n) p h = cc
+
+pub not_ended : (n : ℕ) → known n None ≡ Err TextForm
 not_ended zero = refl
 not_ended (suc n) = refl
 

@@ -1,15 +1,11 @@
 -- Believe: the grammar of plan text, over the form of its lines.
-use Rattle.std.specs.Prelude.{ℕ, zero, suc, ◌+◌, Bool, true, false, cond, ◌&&◌, List, [], ◌∷◌, map, eqb, leb, length, get_or}
+use Rattle.std.specs.Prelude.{ℕ, zero, suc, ◌+◌, Bool, true, false, cond, ◌&&◌, List, [], ◌∷◌, map, eqb, leb, length, get_or, Option, Some, None, Result, Ok, Err}
 use Rattle.operators.specs.Operators.{operators}
 use Rattle.operators.specs.Limits.{count_fits}
-use Rattle.lines.specs.declared.Word.{Word}
-use Rattle.lines.specs.declared.Word.TheVariants.{Past, Absent}
-use Rattle.lines.specs.declared.Numeral.{Numeral}
-use Rattle.lines.specs.declared.Numeral.TheVariants.{Number, Fault}
 use Rattle.lines.specs.Form.{ending, skip, field, value_line, out_line}
-use Rattle.text.specs.declared.Name.{Name}
-use Rattle.text.specs.declared.Lines.{Lines}
-use Rattle.text.specs.declared.Head.{Head}
+use Rattle.refusal.specs.declared.Refusal.{Refusal}
+use Rattle.refusal.specs.declared.Refusal.TheVariants.{TextForm, TextStreams, TextOperator}
+use Rattle.text.specs.declared.Fields.{Fields}
 
 -- ## Keys, each with its `=`
 
@@ -62,58 +58,57 @@ names = map (λ o. o.name) operators
 unfoldable pub number_named : List ℕ → ℕ
 number_named w = place w names 0
 
-abbrev pub known : ℕ → Word → Name
-known n Absent = Name.Fault
-known zero (Past p) = Name.Unknown
-known (suc n) (Past p) = Name.Operator (suc n) p
+abbrev pub known : ℕ → Option ℕ → Result (ℕ × ℕ) Refusal
+known n None = Err TextForm
+known zero (Some p) = Err TextOperator
+known (suc n) (Some p) = Ok (suc n, p)
 
 -- "a name of one to five small letters that is no operator (any other fault of an op line is 2)"
-unfoldable pub named : List ℕ → ℕ → List ℕ → Name
-named s p [] = Name.Fault
+unfoldable pub named : List ℕ → ℕ → List ℕ → Result (ℕ × ℕ) Refusal
+named s p [] = Err TextForm
 named s p (c ∷ w) = known (number_named (c ∷ w)) (skip s (p + length (c ∷ w)) ending)
 
-abbrev pub name_after : List ℕ → Word → Name
-name_after s (Past p) = named s p (name_at s p 5)
-name_after s Absent = Name.Fault
+abbrev pub name_after : List ℕ → Option ℕ → Result (ℕ × ℕ) Refusal
+name_after s (Some p) = named s p (name_at s p 5)
+name_after s None = Err TextForm
 
-unfoldable pub op_line : List ℕ → ℕ → Name
+unfoldable pub op_line : List ℕ → ℕ → Result (ℕ × ℕ) Refusal
 op_line s at = name_after s (skip s at op_key)
 
 -- ## A stream's five lines: op, a, b, k, out
 
 -- the next line, if this one has its form; "2 wrong key, form, missing line"
-abbrev pub next : Numeral → (ℕ → ℕ → Lines) → Lines
-next (Number v p) f = f v p
-next Fault f = Lines.Refused 2
+abbrev pub next : Option (ℕ × ℕ) → (ℕ → ℕ → Result Fields Refusal) → Result Fields Refusal
+next (Some (v, p)) f = f v p
+next None f = Err TextForm
 
-unfoldable pub fields_after : List ℕ → ℕ → ℕ → Lines
+unfoldable pub fields_after : List ℕ → ℕ → ℕ → Result Fields Refusal
 fields_after s op at =
     next (field s at first_key 3) (λ a p.
     next (field s p second_key 3) (λ b q.
     next (value_line s q) (λ k t.
     next (out_line s t) (λ out end.
-    Lines.Stream (record { op = op; a = a; b = b; k = k; out = out; next = end })))))
+    Ok (record { op = op; a = a; b = b; k = k; out = out; next = end })))))
 
-abbrev pub stream_after : List ℕ → Name → Lines
-stream_after s (Name.Operator op p) = fields_after s op p
-stream_after s Name.Unknown = Lines.Refused 4
-stream_after s Name.Fault = Lines.Refused 2
+abbrev pub stream_after : List ℕ → Result (ℕ × ℕ) Refusal → Result Fields Refusal
+stream_after s (Ok (op, p)) = fields_after s op p
+stream_after s (Err r) = Err r
 
-unfoldable pub stream : List ℕ → ℕ → Lines
+unfoldable pub stream : List ℕ → ℕ → Result Fields Refusal
 stream s at = stream_after s (op_line s at)
 
 -- ## The first two lines: `plan=1`, `streams=N`
 
 -- 3 streams 0 or above the capacity: "Load gives 3 where the count is above the limit of the buffer lent"
-abbrev pub counts : ℕ → Numeral → Head
-counts cap (Number n p) = cond (count_fits cap n) (Head.Streams n p) (Head.Refused 3)
-counts cap Fault = Head.Refused 2
+abbrev pub counts : ℕ → Option (ℕ × ℕ) → Result (ℕ × ℕ) Refusal
+counts cap (Some (n, p)) = cond (count_fits cap n) (Ok (n, p)) (Err TextStreams)
+counts cap None = Err TextForm
 
-abbrev pub head_after : ℕ → List ℕ → Word → Head
-head_after cap s (Past p) = counts cap (field s p streams_key 3)
-head_after cap s Absent = Head.Refused 2
+abbrev pub head_after : ℕ → List ℕ → Option ℕ → Result (ℕ × ℕ) Refusal
+head_after cap s (Some p) = counts cap (field s p streams_key 3)
+head_after cap s None = Err TextForm
 
 -- of a text that may announce so many streams; "An empty plan text now means a plan of no streams"
-unfoldable pub head : ℕ → List ℕ → Head
-head cap [] = Head.Streams 0 0
+unfoldable pub head : ℕ → List ℕ → Result (ℕ × ℕ) Refusal
+head cap [] = Ok (0, 0)
 head cap (b ∷ s) = head_after cap (b ∷ s) (skip (b ∷ s) 0 plan_line)

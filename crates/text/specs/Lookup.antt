@@ -1,5 +1,5 @@
 -- How: a name looked up: its bytes as one number, the first the lowest.
-use Rattle.std.specs.Prelude.{ℕ, ◌+◌, ◌*◌, cond, List, [], ◌∷◌, map, eqb, length}
+use Rattle.std.specs.Prelude.{ℕ, zero, suc, ◌+◌, ◌*◌, cond, List, [], ◌∷◌, map, eqb, length, Option, Some, None}
 use Rattle.text.specs.declared.Packed.{Packed}
 use Rattle.text.specs.Grammar.{name_at, names}
 
@@ -20,3 +20,11 @@ place_packed x (y ∷ l) n = cond (eqb x y) n (place_packed x l (n + 1))
 
 unfoldable pub number_packed : ℕ → ℕ
 number_packed x = place_packed x (map pack names) 0
+
+-- none if it is 0
+abbrev pub unless_zero : ℕ → Option ℕ
+unless_zero zero = None
+unless_zero (suc n) = Some (suc n)
+
+abbrev pub operator_packed : ℕ → Option ℕ
+operator_packed x = unless_zero (number_packed x)

@@ -1,21 +1,12 @@
 // Plan text: the op line, a stream's five lines and the head, read in place at a position of the lent text.
 #![tactic(auto)]
 
-ghost use Rattle.std.specs.Prelude.{◌≡◌};
+ghost use Rattle.std.specs.Prelude.{◌≡◌, Some};
 ghost use Rattle.text.specs.Grammar.{op_line, fields_after, stream, counts, head};
-ghost use Rattle.text.specs.Lookup.{packed_at, number_packed};
-ghost use Rattle.lines.specs.declared.Numeral.TheVariants.{Number};
+ghost use Rattle.text.specs.Lookup.{packed_at, operator_packed};
 
-use lines::{Numeral, Word};
 use operators::Plan;
-
-// What reading an op line finds: the stored number and the position past the line, an unknown name, or a fault of its form.
-#[derive(Clone, Copy)]
-pub enum Name {
-    Operator(u8, usize),
-    Unknown,
-    Fault,
-}
+use refusal::Refusal;
 
 // A stream as its five lines give it: the stored number of its operator, a, b, k in two's complement, out, and the
 // position past its lines.
@@ -29,20 +20,8 @@ pub struct Fields {
     pub next: usize,
 }
 
-// What reading a stream's lines finds: the stream, or the number of the refusal.
-#[derive(Clone, Copy)]
-pub enum Lines {
-    Stream(Fields),
-    Refused(u32),
-}
-
-// What reading the first two lines finds: how many streams follow, and the position of the first; or the refusal. A text of no
-// bytes has no streams.
-#[derive(Clone, Copy)]
-pub enum Head {
-    Streams(usize, usize),
-    Refused(u32),
-}
+// The longest name of an operator has so many letters.
+const LETTERS: usize = 5;
 
 // Letters passed: their bytes as one number, the first the lowest, and the position past them.
 #[derive(Clone, Copy)]
@@ -58,104 +37,87 @@ fn letters(text: &[u8], at: usize) -> Packed
     let mut code: u64 = 0;
     let mut weight: u64 = 1;
     let mut p = at;
-    let mut i: usize = 0;
-    while i < 5 {
+    for _ in 0..LETTERS {
         if text.len() <= p {
             return Packed { code, next: p };
         }
-        let c = le::wide(text[p]);
-        if c < 97 {
+        let c = text[p];
+        if !c.is_ascii_lowercase() {
             return Packed { code, next: p };
         }
-        if 122 < c {
-            return Packed { code, next: p };
-        }
-        code = code + weight * c;
-        weight = weight * 256;
+        code += weight * u64::from(c);
+        weight *= 256;
         p += 1;
-        i += 1;
     }
     Packed { code, next: p }
 }
 
-// The stored number of the operator whose name has these letters, the first the lowest; 0 if there is none.
-fn operator(code: u64) -> u8
-    ensures { result ≡ number_packed code }
+// The stored number of the operator whose name has these letters, the first the lowest.
+#[tactic(auto, unfolding(crate::specs::Lookup::number_packed, crate::specs::Lookup::place_packed, crate::specs::Lookup::pack))]
+fn operator(code: u64) -> Option<u8>
+    ensures { result ≡ operator_packed code }
 {
     match code {
-        0x6E69 => 1, // in
-        0x6C_696E => 2, // nil
-        0x7469_6E75 => 3, // unit
-        0x656D_6974 => 4, // time
-        0x74_6573 => 5, // set
-        0x7375_6C70 => 6, // plus
-        0x67_656E => 7, // neg
-        0x64_6461 => 8, // add
-        0x62_7573 => 9, // sub
-        0x6C_756D => 10, // mul
-        0x76_6964 => 11, // div
-        0x6D_6572 => 12, // rem
-        0x746C => 13, // lt
-        0x656C => 14, // le
-        0x7165 => 15, // eq
-        0x7065_656B => 16, // keep
-        0x65_6772_656D => 17, // merge
-        0x7473_616C => 18, // last
-        0x79_616C_6564 => 19, // delay
-        0x6464_6173 => 20, // sadd
-        0x6275_7373 => 21, // ssub
-        0x6C75_6D73 => 22, // smul
-        0x7669_6473 => 23, // sdiv
-        0x6D65_7273 => 24, // srem
-        0x74_6C73 => 25, // slt
-        0x65_6C73 => 26, // sle
-        0x71_6573 => 27, // seq
-        0x6D75_7377 => 28, // wsum
-        0x6E69_6D77 => 29, // wmin
-        0x7861_6D77 => 30, // wmax
-        _ => 0,
+        0x6E69 => Some(1), // in
+        0x6C_696E => Some(2), // nil
+        0x7469_6E75 => Some(3), // unit
+        0x656D_6974 => Some(4), // time
+        0x74_6573 => Some(5), // set
+        0x7375_6C70 => Some(6), // plus
+        0x67_656E => Some(7), // neg
+        0x64_6461 => Some(8), // add
+        0x62_7573 => Some(9), // sub
+        0x6C_756D => Some(10), // mul
+        0x76_6964 => Some(11), // div
+        0x6D_6572 => Some(12), // rem
+        0x746C => Some(13), // lt
+        0x656C => Some(14), // le
+        0x7165 => Some(15), // eq
+        0x7065_656B => Some(16), // keep
+        0x65_6772_656D => Some(17), // merge
+        0x7473_616C => Some(18), // last
+        0x79_616C_6564 => Some(19), // delay
+        0x6464_6173 => Some(20), // sadd
+        0x6275_7373 => Some(21), // ssub
+        0x6C75_6D73 => Some(22), // smul
+        0x7669_6473 => Some(23), // sdiv
+        0x6D65_7273 => Some(24), // srem
+        0x74_6C73 => Some(25), // slt
+        0x65_6C73 => Some(26), // sle
+        0x71_6573 => Some(27), // seq
+        0x6D75_7377 => Some(28), // wsum
+        0x6E69_6D77 => Some(29), // wmin
+        0x7861_6D77 => Some(30), // wmax
+        _ => None,
     }
 }
 
-// The op line.
-pub fn op_line(text: &[u8], at: usize) -> Name
+// The op line: the stored number of its operator, and the position past it.
+#[tactic(auto, using(crate::proofs::Names::no_name, crate::proofs::Names::a_name, crate::proofs::Names::not_ended, crate::proofs::Names::unknown, crate::proofs::Names::an_operator), unfolding(crate::specs::Grammar::op_line))]
+pub fn op_line(text: &[u8], at: usize) -> Result<(u8, usize), Refusal>
     ensures { result ≡ op_line text.now at }
 {
-    let Word::Past(p) = lines::skip(text, at, b"op=") else {
-        return Name::Fault;
-    };
+    let p = lines::skip(text, at, b"op=").ok_or(Refusal::TextForm)?;
     let name = letters(text, p);
     let end = name.next;
     if end == p {
-        return Name::Fault;
+        return Err(Refusal::TextForm);
     }
-    let Word::Past(q) = lines::skip(text, end, b"\n") else {
-        return Name::Fault;
-    };
-    let op = operator(name.code);
-    if op == 0 {
-        return Name::Unknown;
-    }
-    Name::Operator(op, q)
+    let q = lines::skip(text, end, b"\n").ok_or(Refusal::TextForm)?;
+    let op = operator(name.code).ok_or(Refusal::TextOperator)?;
+    Ok((op, q))
 }
 
 // The lines a, b, k and out, after the op line.
-fn field_lines(text: &[u8], op: u8, at: usize) -> Lines
+#[tactic(auto, unfolding(crate::specs::Grammar::fields_after))]
+fn field_lines(text: &[u8], op: u8, at: usize) -> Result<Fields, Refusal>
     ensures { result ≡ fields_after text.now op at }
 {
-    let Numeral::Number(a, p) = lines::field(text, at, b"a=", 3) else {
-        return Lines::Refused(2);
-    };
-    let Numeral::Number(b, q) = lines::field(text, p, b"b=", 3) else {
-        return Lines::Refused(2);
-    };
-    let Numeral::Number(k, t) = lines::value_line(text, q) else {
-        return Lines::Refused(2);
-    };
-    let Numeral::Number(out, next) = lines::out_line(text, t) else {
-        return Lines::Refused(2);
-    };
-    Lines::Stream(Fields {
+    let (a, p) = lines::field(text, at, b"a=", 3).ok_or(Refusal::TextForm)?;
+    let (b, q) = lines::field(text, p, b"b=", 3).ok_or(Refusal::TextForm)?;
+    let (k, t) = lines::value_line(text, q).ok_or(Refusal::TextForm)?;
+    let (out, next) = lines::out_line(text, t).ok_or(Refusal::TextForm)?;
+    Ok(Fields {
         op,
         a,
         b,
@@ -166,39 +128,35 @@ fn field_lines(text: &[u8], op: u8, at: usize) -> Lines
 }
 
 // A stream's five lines.
-pub fn read_stream(text: &[u8], at: usize) -> Lines
+#[tactic(auto, unfolding(crate::specs::Grammar::stream))]
+pub fn read_stream(text: &[u8], at: usize) -> Result<Fields, Refusal>
     ensures { result ≡ stream text.now at }
 {
-    match op_line(text, at) {
-        Name::Operator(op, p) => field_lines(text, op, p),
-        Name::Unknown => Lines::Refused(4),
-        Name::Fault => Lines::Refused(2),
-    }
+    let (op, p) = op_line(text, at)?;
+    field_lines(text, op, p)
 }
 
 // A count of streams, whose line ends before a position.
-fn count(n: u64, most: usize, at: usize) -> Head
-    ensures { result ≡ counts most (Number n at) }
+fn count(n: u64, most: usize, at: usize) -> Result<(usize, usize), Refusal>
+    ensures { result ≡ counts most (Some (n, at)) }
 {
     let streams = n as usize;
     if !Plan::new(streams).fits(most) {
-        return Head::Refused(3);
+        return Err(Refusal::TextStreams);
     }
-    Head::Streams(streams, at)
+    Ok((streams, at))
 }
 
-// The first two lines, of a text that may announce so many streams.
-pub fn read_head(text: &[u8], most: usize) -> Head
+// The first two lines, of a text that may announce so many streams: how many follow, and the position of the first. A text of no
+// bytes has no streams.
+#[tactic(auto, using(crate::proofs::Heads::no_bytes, crate::proofs::Heads::some_bytes))]
+pub fn read_head(text: &[u8], most: usize) -> Result<(usize, usize), Refusal>
     ensures { result ≡ head most text.now }
 {
-    if text.len() == 0 {
-        return Head::Streams(0, 0);
+    if text.is_empty() {
+        return Ok((0, 0));
     }
-    let Word::Past(p) = lines::skip(text, 0, b"plan=1\n") else {
-        return Head::Refused(2);
-    };
-    match lines::field(text, p, b"streams=", 3) {
-        Numeral::Number(n, q) => count(n, most, q),
-        Numeral::Fault => Head::Refused(2),
-    }
+    let p = lines::skip(text, 0, b"plan=1\n").ok_or(Refusal::TextForm)?;
+    let (n, q) = lines::field(text, p, b"streams=", 3).ok_or(Refusal::TextForm)?;
+    count(n, most, q)
 }

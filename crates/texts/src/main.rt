@@ -12,14 +12,10 @@ fn find(table: &[u8], b: u8, from: usize) -> usize
     requires { from ≤ length table.now }
     ensures { (from ≤ result) × (result ≤ length table.now) }
 {
-    let mut i = from;
-    while i < table.len() {
-        if table[i] == b {
-            return i;
-        }
-        i += 1;
+    match table[from..].iter().position(|&x| x == b) {
+        Some(i) => from + i,
+        None => table.len(),
     }
-    i
 }
 
 // Runs one case whose label starts at a position, and answers where the next case starts.
@@ -33,7 +29,7 @@ fn one(rt: &impl Print, table: &[u8], from: usize) -> usize
     }
     let start = line + 1;
     let next = find(table, b'#', start);
-    let number = plan::number(&table[start..next], Plan::MOST);
+    let number = refusal::code(plan::check(&table[start..next], Plan::MOST));
     let _ = print!(rt; "{number} ");
     let _ = rt.write_all(&table[from..start]);
     next

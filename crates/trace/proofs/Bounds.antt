@@ -1,6 +1,6 @@
 -- How large a number that was read is, and how far its digits go.
 use Prim.Native.Nat.{ℕ, zero, suc, ◌+◌, ◌*◌, ◌-◌, ◌^◌, ◌<◌, ◌≤◌}
-use mathlib.Core.Path.{◌≡◌, refl}
+use mathlib.Core.Path.{◌≡◌, refl, ap}
 use mathlib.Core.Bool.{Bool, true, false, cond}
 use mathlib.Core.List.{List, [], ◌∷◌}
 use native.Mathlib.Nat.{pow-le-pow_right}
@@ -8,9 +8,7 @@ use native.Mathlib.Omega.{arith}
 use lib.Dec.{leb, eqb, lit<}
 use lib.ListN.{get_or}
 use borrow.Author.Tests.{leb-true}
-use Rattle.lines.specs.declared.Word.{Word}
-use Rattle.lines.specs.declared.Word.TheVariants.{Past, Absent}
-use Rattle.lines.specs.declared.Numeral.TheVariants.{Number, Fault}
+use Rattle.std.specs.Prelude.{Option, Some, None}
 use Rattle.lines.specs.declared.Scanned.{Scanned}
 use Rattle.lines.specs.Form.{stands, skip, digit, scanned, scan, counted, or_zero, whole}
 use Rattle.lines.proofs.Turns.{grows}
@@ -43,12 +41,12 @@ scan_near s (suc n) at v = by (digit (get_or s at 0)) (scan_near s n (at + 1) (v
     by false h = omega arith
 
 -- a word found ends its length on
-pub skip_near : (s w : List ℕ) (at p : ℕ) → skip s at w ≡ Past p → p ≡ at + lib.ListN.length w
+pub skip_near : (s w : List ℕ) (at p : ℕ) → skip s at w ≡ Some p → p ≡ at + lib.ListN.length w
 unfolding skip
 skip_near s [] at p e = let z : at ≡ p = cc in omega arith
 skip_near s (c ∷ w) at p e = by (stands s at c) e (λ q. skip_near s w (at + 1) p q)
   where
-    by : (b : Bool) → cond b (skip s (at + 1) w) Absent ≡ Past p → (skip s (at + 1) w ≡ Past p → p ≡ at + 1 + lib.ListN.length w) → p ≡ at + suc (lib.ListN.length w)
+    by : (b : Bool) → cond b (skip s (at + 1) w) None ≡ Some p → (skip s (at + 1) w ≡ Some p → p ≡ at + 1 + lib.ListN.length w) → p ≡ at + suc (lib.ListN.length w)
     by true q ih = omega (arith, ih q)
     by false q ih = let z : ◌≡◌ {A = ℕ} 0 1 = cc in absurd (omega arith)
 
@@ -57,25 +55,40 @@ pub record Small (at max v p : ℕ) : Type 0 where
   pub below : v < 10 ^ max
   pub near : p ≤ at + max
 
-counted_small : (at max v p : ℕ) (r : Scanned) → r.value < 10 ^ max → r.next ≤ at + max → counted at r ≡ Number v p → Small at max v p
+-- what is found, taken apart
+abbrev first_or : {A : Type 0} → A → Option (A × ℕ) → A
+first_or d (Some (x, p)) = x
+first_or d None = d
+
+abbrev second_of : {A : Type 0} → Option (A × ℕ) → ℕ
+second_of (Some (x, p)) = p
+second_of None = 0
+
+pub same_first : {A : Type 0} {x y : A} {p q : ℕ} → ◌≡◌ {A = Option (A × ℕ)} (Some (x, p)) (Some (y, q)) → x ≡ y
+same_first {A} {x} e = ap (λ (o : Option (A × ℕ)). first_or x o) e
+
+pub same_second : {A : Type 0} {x y : A} {p q : ℕ} → ◌≡◌ {A = Option (A × ℕ)} (Some (x, p)) (Some (y, q)) → p ≡ q
+same_second {A} e = ap (λ (o : Option (A × ℕ)). second_of o) e
+
+counted_small : (at max v p : ℕ) (r : Scanned) → r.value < 10 ^ max → r.next ≤ at + max → counted at r ≡ Some (v, p) → Small at max v p
 counted_small at max v p r h k e = by (eqb r.next at) e
   where
-    by : (b : Bool) → cond b Fault (Number r.value r.next) ≡ Number v p → Small at max v p
+    by : (b : Bool) → cond {A = Option (ℕ × ℕ)} b None (Some (r.value, r.next)) ≡ Some (v, p) → Small at max v p
     by true q = let z : ◌≡◌ {A = ℕ} 0 1 = cc in absurd (omega arith)
     by false q =
-        let x : r.value ≡ v = cc in
-        let y : r.next ≡ p = cc in
+        let x : r.value ≡ v = same_first q in
+        let y : r.next ≡ p = same_second q in
         record { below = omega arith; near = omega arith }
 
-pub whole_small : (s : List ℕ) (at max v p : ℕ) → 0 < max → whole s at max ≡ Number v p → Small at max v p
+pub whole_small : (s : List ℕ) (at max v p : ℕ) → 0 < max → whole s at max ≡ Some (v, p) → Small at max v p
 unfolding whole
 whole_small s at max v p m e = by (skip s at (48 ∷ [])) refl e
   where
-    by : (x : Word) → skip s at (48 ∷ []) ≡ x → or_zero x (counted at (scan s at 0 max)) ≡ Number v p → Small at max v p
-    by (Past q) k h =
-        let x : 0 ≡ v = cc in
-        let y : q ≡ p = cc in
+    by : (x : Option ℕ) → skip s at (48 ∷ []) ≡ x → or_zero x (counted at (scan s at 0 max)) ≡ Some (v, p) → Small at max v p
+    by (Some q) k h =
+        let x : 0 ≡ v = same_first h in
+        let y : q ≡ p = same_second h in
         record { below = omega (arith, pow-le-pow_right {n = 10} (lit< tt) {i = 0} {j = max} (omega arith)); near = omega (arith, skip_near s (48 ∷ []) at q k) }
-    by Absent k h =
+    by None k h =
         let z : 0 + max ≡ max = omega arith in
         counted_small at max v p (scan s at 0 max) (rw z at (scan_below s max at 0 0 (lit< tt))) (scan_near s max at 0) h

@@ -28,18 +28,6 @@ pass p b x y e n q =
     let f : p ≡ true = sym e ∙ not-false b n in
     rw f q
 
-pub stop_eq : (m n : ℕ) (x : Bool) → (m ≡ n → ⊥) → false ≡ (eqb m n && x)
-stop_eq m n x h = rw (ne_eqb m n h)
-
-pub pass_eq : (m n : ℕ) (x y : Bool) → m ≡ n → y ≡ x → y ≡ (eqb m n && x)
-pass_eq m n x y h q = rw (eq-eqb m n h) q
-
-pub stop_le : (m n : ℕ) (x : Bool) → n < m → false ≡ (leb m n && x)
-stop_le m n x h = rw (lt-leb m n h)
-
-pub pass_le : (m n : ℕ) (x y : Bool) → m ≤ n → y ≡ x → y ≡ (leb m n && x)
-pass_le m n x y h q = rw (le-leb m n h) q
-
 -- what both sides of a conjunction say
 pub left : (p x : Bool) → (p && x) ≡ true → p ≡ true
 left true x e = refl
@@ -54,30 +42,12 @@ right false x e = absurd (never e)
 
 -- ---- the counts of missing events
 
--- every operator may have counts of 0
-pub counts_none : (r : Raw) → num counts_f r ≡ 0 → true ≡ counts_ok r
-unfolding counts_ok
-counts_none r e = rw e (go (lacks_at (num op_f r)) (eqb (num bound_f r) 0))
-  where
-    go : (b z : Bool) → true ≡ cond b (cond z true true) true
-    go true true = refl
-    go true false = refl
-    go false z = refl
-
 -- others only a stream with a bound above 0, whose operator counts
 pub counts_fresh : (r : Raw) → (num counts_f r ≡ 0 → ⊥) → num bound_f r ≡ 0 → false ≡ counts_ok r
 unfolding counts_ok
 counts_fresh r h e = rw (ne_eqb (num counts_f r) 0 h, e) (go (lacks_at (num op_f r)))
   where
     go : (b : Bool) → false ≡ cond b false false
-    go true = refl
-    go false = refl
-
-pub counts_some : (r : Raw) → (num counts_f r ≡ 0 → ⊥) → (num bound_f r ≡ 0 → ⊥) → lacks_at (num op_f r) ≡ counts_ok r
-unfolding counts_ok
-counts_some r h k = rw (ne_eqb (num counts_f r) 0 h, ne_eqb (num bound_f r) 0 k) (go (lacks_at (num op_f r)))
-  where
-    go : (b : Bool) → b ≡ cond b true false
     go true = refl
     go false = refl
 
@@ -102,15 +72,6 @@ risen_turn top low n i l h k =
 
 -- ---- the newest held event
 
-pub own_none : (since : ℕ) (r : Raw) → num count_f r ≡ 0 → true ≡ own_ok since r
-unfolding own_ok
-own_none since r e = rw (eq-eqb (num count_f r) 0 e)
-
--- n and t as the code read them
-pub own_some : (since n t : ℕ) (r : Raw) → n ≡ num count_f r → (n ≡ 0 → ⊥) → t ≡ (slot_at (n - 1) r).stamp → ltb t since ≡ own_ok since r
-unfolding own_ok
-own_some since n t r e h q = rw (q, sym e, ne_eqb n 0 h)
-
 -- ---- rows
 
 rows_more : (f : List ℕ → Bool) (m : ℕ) (s : List ℕ) → all_rows f (suc m) s ≡ (f (take 256 s) && all_rows f m (drop 256 s))
@@ -129,12 +90,6 @@ rows_turn f n i s h =
     let m : i * 256 + 256 ≡ (i + 1) * 256 = omega arith in
     ap (λ (j : ℕ). all_rows f j (drop (i * 256) s)) e ∙ rows_more f (n - (i + 1)) (drop (i * 256) s)
     ∙ ap (λ (l : List ℕ). f (take 256 (drop (i * 256) s)) && all_rows f (n - (i + 1)) l) (drop-drop 256 (i * 256) s ∙ ap (λ (j : ℕ). drop j s) m)
-
-pub sizes_count : (r : Raw) → sizes_ok r ≡ true → num count_f r ≤ room
-unfolding sizes_ok
-sizes_count r e =
-    let rest : Bool = leb (num bound_f r) horizon && (next_ok (num out_f r) (num next_f r) (num bound_f r) && (eqb (num small_f r) 0 && counts_ok r)) in
-    leb-true (num count_f r) room (left (leb (num count_f r) room) rest e)
 
 -- ---- how many records have an operator
 

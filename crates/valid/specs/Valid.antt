@@ -1,5 +1,5 @@
 -- How: what number 15 tests, reason by reason.
-use Rattle.std.specs.Prelude.{ℕ, zero, suc, ◌+◌, ◌-◌, ◌*◌, List, [], ◌∷◌, Bool, true, false, cond, ◌&&◌, length, get_or, take, drop, replicate, ltb, eqb, leb}
+use Rattle.std.specs.Prelude.{ℕ, zero, suc, ◌+◌, ◌-◌, ◌*◌, List, [], ◌∷◌, Option, None, Some, Bool, true, false, cond, ◌&&◌, length, get_or, take, drop, replicate, ltb, eqb, leb}
 use Rattle.std.proofs.lemmas.List.Edits.{sets}
 use Rattle.cycle.specs.Graph.{graph_length, entry_of, cleared}
 use Rattle.le.specs.Bytes.{part, all_zero}
@@ -14,7 +14,6 @@ use Rattle.operators.specs.Limits.{window_limit, capacity}
 use Rattle.layout.specs.Record.{Slot, Raw, num, slot_at, dec_raw, op_f, a_f, b_f, out_f, count_f, flag_f, prior_flag_f, small_f, k_f, bound_f, next_f, kept_f, value_f, prior_f, counts_f}
 use Rattle.layout.specs.Windows.{window_length, area_length, window_start}
 use Rattle.encoding.specs.Back.{area_of, state_of}
-use Rattle.valid.specs.declared.Tested.{Tested}
 
 -- nothing where there is nothing to keep it for
 abbrev pub none_if : ℕ → ℕ → Bool
@@ -163,9 +162,9 @@ valid s =
     && acyclic (capacity (length s)) (plan_in (count s) s)))
 
 -- what the test finds, as the code answers it
-unfoldable pub tested : List ℕ → Tested
+unfoldable pub tested : List ℕ → Option ℕ
 unfolding valid
-tested s = cond (valid s) (Tested.State (count s)) Tested.NoState
+tested s = cond (valid s) (Some (count s)) None
 
 -- ---- the cycle test's graph, as the code fills it
 

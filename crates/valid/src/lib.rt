@@ -13,73 +13,54 @@ use cycle::GRAPH;
 use limits::{Bound, Queue};
 use operators::{Group, Plan};
 
+#[tactic(auto, unfolding(crate::specs::Valid::plan_ok))]
 fn plan_ok(r: &[u8], n: u64) -> bool
     requires { length r.now ≡ 256 }
     ensures { result ≡ plan_ok n (dec_raw r.now) }
 {
     let op = layout::byte_at(r, layout::OP);
-    if !operators::is_present(operators::group_of(op)) {
-        return false;
-    }
     let a = layout::byte_at(r, layout::A);
     let b = layout::byte_at(r, layout::B);
     let k = layout::word_at(r, layout::K);
     let out = layout::byte_at(r, layout::OUT);
-    if !operators::fields_ok(n, op, a, b, k, out) {
-        return false;
-    }
-    operators::width_ok(op, k)
+    operators::is_present(operators::group_of(op))
+        && operators::fields_ok(n, op, a, b, k, out)
+        && operators::width_ok(op, k)
 }
 
 fn next_ok(out: u64, next: u64, bound: u64) -> bool
     ensures { result ≡ next_ok out next bound }
 {
-    if out == 0 {
-        return next == 0;
-    }
-    next <= bound
+    if out == 0 { next == 0 } else { next <= bound }
 }
 
 // Whether the counts of missing events are as they may be. Most are 0, which every operator may have.
+#[tactic(auto, unfolding(crate::specs::Valid::counts_ok))]
 fn counts_ok(r: &[u8]) -> bool
     requires { length r.now ≡ 256 }
     ensures { result ≡ counts_ok (dec_raw r.now) }
 {
     let counts = layout::word_at(r, layout::COUNTS);
-    if counts == 0 {
-        return true;
-    }
-    let bound = layout::word_at(r, layout::BOUND);
-    if bound == 0 {
-        return false;
-    }
-    operators::can_lack(layout::byte_at(r, layout::OP))
+    counts == 0
+        || (layout::word_at(r, layout::BOUND) != 0
+            && operators::can_lack(layout::byte_at(r, layout::OP)))
 }
 
+#[tactic(auto, unfolding(crate::specs::Valid::sizes_ok))]
 fn sizes_ok(r: &[u8]) -> bool
     requires { length r.now ≡ 256 }
     ensures { result ≡ sizes_ok (dec_raw r.now) }
 {
-    let count = layout::byte_at(r, layout::COUNT);
-    if !Queue::new(count).fits() {
-        return false;
-    }
     let bound = layout::word_at(r, layout::BOUND);
-    if !Bound::new(bound).fits() {
-        return false;
-    }
-    if !next_ok(
-        layout::byte_at(r, layout::OUT),
-        layout::word_at(r, layout::NEXT),
-        bound,
-    ) {
-        return false;
-    }
-    let small = layout::byte_at(r, layout::SMALL);
-    if small != 0 {
-        return false;
-    }
-    counts_ok(r)
+    Queue::new(layout::byte_at(r, layout::COUNT)).fits()
+        && Bound::new(bound).fits()
+        && next_ok(
+            layout::byte_at(r, layout::OUT),
+            layout::word_at(r, layout::NEXT),
+            bound,
+        )
+        && layout::byte_at(r, layout::SMALL) == 0
+        && counts_ok(r)
 }
 
 // Whether the first n stamps rise and stay below top.
@@ -88,14 +69,12 @@ fn rises(r: &[u8], n: usize, top: u64) -> bool
     ensures { result ≡ risen top 0 n (dec_raw r.now).slots }
 {
     let mut low: u64 = 0;
-    let mut i = 0;
-    while i < n {
+    for i in 0..n {
         let t = layout::stamp_at(r, i);
         if t < low {
             return false;
         }
         low = t + 1;
-        i += 1;
     }
     low <= top
 }
@@ -103,99 +82,69 @@ fn rises(r: &[u8], n: usize, top: u64) -> bool
 fn flag_ok(has: u64, x: u64) -> bool
     ensures { result ≡ flag_ok has x }
 {
-    if has == 0 {
-        return x == 0;
-    }
-    has == 1
+    if has == 0 { x == 0 } else { has == 1 }
 }
 
 fn none_if(a: u64, has: u64) -> bool
     ensures { result ≡ none_if a has }
 {
-    if a == 0 {
-        return has == 0;
-    }
-    true
+    a != 0 || has == 0
 }
 
+#[tactic(auto, unfolding(crate::specs::Valid::none_ok))]
 fn none_ok(r: &[u8]) -> bool
     requires { length r.now ≡ 256 }
     ensures { result ≡ none_ok (dec_raw r.now) }
 {
-    let flag = layout::byte_at(r, layout::FLAG);
-    if flag != 0 {
-        return false;
-    }
-    let prior_flag = layout::byte_at(r, layout::PRIOR_FLAG);
-    if prior_flag != 0 {
-        return false;
-    }
-    let kept = layout::word_at(r, layout::KEPT);
-    if kept != 0 {
-        return false;
-    }
-    let value = layout::word_at(r, layout::VALUE);
-    if value != 0 {
-        return false;
-    }
-    layout::word_at(r, layout::PRIOR) == 0
+    layout::byte_at(r, layout::FLAG) == 0
+        && layout::byte_at(r, layout::PRIOR_FLAG) == 0
+        && layout::word_at(r, layout::KEPT) == 0
+        && layout::word_at(r, layout::VALUE) == 0
+        && layout::word_at(r, layout::PRIOR) == 0
 }
 
 // Whether the value of an argument's latest event is as it may be: that it is there in byte f, its bits in word w.
+#[tactic(auto, unfolding(crate::specs::Valid::latest_ok))]
 fn latest_ok(r: &[u8], f: usize, w: usize) -> bool
     requires { (length r.now ≡ 256) × (f < 8) × (w < 7) }
     ensures { result ≡ latest_ok f (8 + w) (dec_raw r.now) }
 {
     let has = layout::byte_at(r, f);
-    if !flag_ok(has, layout::word_at(r, w)) {
-        return false;
-    }
-    none_if(layout::word_at(r, layout::BOUND), has)
+    flag_ok(has, layout::word_at(r, w)) && none_if(layout::word_at(r, layout::BOUND), has)
 }
 
+#[tactic(auto, unfolding(crate::specs::Valid::last_ok))]
 fn last_ok(r: &[u8]) -> bool
     requires { length r.now ≡ 256 }
     ensures { result ≡ last_ok (dec_raw r.now) }
 {
-    if !latest_ok(r, layout::FLAG, layout::KEPT) {
-        return false;
-    }
-    let prior_flag = layout::byte_at(r, layout::PRIOR_FLAG);
-    if prior_flag != 0 {
-        return false;
-    }
-    let value = layout::word_at(r, layout::VALUE);
-    if value != 0 {
-        return false;
-    }
-    layout::word_at(r, layout::PRIOR) == 0
+    latest_ok(r, layout::FLAG, layout::KEPT)
+        && layout::byte_at(r, layout::PRIOR_FLAG) == 0
+        && layout::word_at(r, layout::VALUE) == 0
+        && layout::word_at(r, layout::PRIOR) == 0
 }
 
+#[tactic(auto, unfolding(crate::specs::Valid::signal_ok))]
 fn signal_ok(r: &[u8]) -> bool
     requires { length r.now ≡ 256 }
     ensures { result ≡ signal_ok (dec_raw r.now) }
 {
-    if !latest_ok(r, layout::FLAG, layout::KEPT) {
-        return false;
-    }
-    if !latest_ok(r, layout::PRIOR_FLAG, layout::VALUE) {
-        return false;
-    }
-    layout::word_at(r, layout::PRIOR) == 0
+    latest_ok(r, layout::FLAG, layout::KEPT)
+        && latest_ok(r, layout::PRIOR_FLAG, layout::VALUE)
+        && layout::word_at(r, layout::PRIOR) == 0
 }
 
 // Whether a delay's newest held event, a set point, lies below since.
+#[tactic(auto, unfolding(crate::specs::Valid::own_ok))]
 fn own_ok(r: &[u8], since: u64) -> bool
     requires { (length r.now ≡ 256) × (num count_f (dec_raw r.now) ≤ room) }
     ensures { result ≡ own_ok since (dec_raw r.now) }
 {
     let count = layout::byte_at(r, layout::COUNT) as usize;
-    if count == 0 {
-        return true;
-    }
-    layout::stamp_at(r, count - 1) < since
+    count == 0 || layout::stamp_at(r, count - 1) < since
 }
 
+#[tactic(auto, unfolding(crate::specs::Valid::delay_ok))]
 fn delay_ok(r: &[u8]) -> bool
     requires { (length r.now ≡ 256) × (num count_f (dec_raw r.now) ≤ room) }
     ensures { result ≡ delay_ok (dec_raw r.now) }
@@ -204,49 +153,27 @@ fn delay_ok(r: &[u8]) -> bool
     let prior_flag = layout::byte_at(r, layout::PRIOR_FLAG);
     let since = layout::word_at(r, layout::KEPT);
     let bound = layout::word_at(r, layout::BOUND);
-    if !flag_ok(flag, layout::word_at(r, layout::VALUE)) {
-        return false;
-    }
-    if !flag_ok(prior_flag, layout::word_at(r, layout::PRIOR)) {
-        return false;
-    }
-    if !none_if(since, flag) {
-        return false;
-    }
-    if !none_if(bound, prior_flag) {
-        return false;
-    }
-    if !own_ok(r, since) {
-        return false;
-    }
-    since <= bound
+    flag_ok(flag, layout::word_at(r, layout::VALUE))
+        && flag_ok(prior_flag, layout::word_at(r, layout::PRIOR))
+        && none_if(since, flag)
+        && none_if(bound, prior_flag)
+        && own_ok(r, since)
+        && since <= bound
 }
 
 // Whether a window keeps at most as many values as its width, and none with bound 0.
+#[tactic(auto, unfolding(crate::specs::Valid::window_ok))]
 fn window_ok(r: &[u8]) -> bool
     requires { length r.now ≡ 256 }
     ensures { result ≡ window_ok (dec_raw r.now) }
 {
     let fill = layout::byte_at(r, layout::FLAG);
-    if layout::word_at(r, layout::K) < fill {
-        return false;
-    }
-    if !none_if(layout::word_at(r, layout::BOUND), fill) {
-        return false;
-    }
-    let prior_flag = layout::byte_at(r, layout::PRIOR_FLAG);
-    if prior_flag != 0 {
-        return false;
-    }
-    let kept = layout::word_at(r, layout::KEPT);
-    if kept != 0 {
-        return false;
-    }
-    let value = layout::word_at(r, layout::VALUE);
-    if value != 0 {
-        return false;
-    }
-    layout::word_at(r, layout::PRIOR) == 0
+    fill <= layout::word_at(r, layout::K)
+        && none_if(layout::word_at(r, layout::BOUND), fill)
+        && layout::byte_at(r, layout::PRIOR_FLAG) == 0
+        && layout::word_at(r, layout::KEPT) == 0
+        && layout::word_at(r, layout::VALUE) == 0
+        && layout::word_at(r, layout::PRIOR) == 0
 }
 
 fn kept_ok(r: &[u8]) -> bool
@@ -263,24 +190,17 @@ fn kept_ok(r: &[u8]) -> bool
     }
 }
 
+#[tactic(auto, unfolding(crate::specs::Valid::row_ok))]
 fn row_ok(r: &[u8], n: u64) -> bool
     requires { length r.now ≡ 256 }
     ensures { result ≡ row_ok n r.now }
 {
-    if !plan_ok(r, n) {
-        return false;
-    }
-    if !sizes_ok(r) {
-        return false;
-    }
     let count = layout::byte_at(r, layout::COUNT) as usize;
-    if !rises(r, count, layout::word_at(r, layout::BOUND)) {
-        return false;
-    }
-    if !kept_ok(r) {
-        return false;
-    }
-    le::zeros(r, layout::HEAD + count * layout::SLOT)
+    plan_ok(r, n)
+        && sizes_ok(r)
+        && rises(r, count, layout::word_at(r, layout::BOUND))
+        && kept_ok(r)
+        && le::zeros(r, layout::HEAD + count * layout::SLOT)
 }
 
 // Whether the first n records pass.
@@ -288,12 +208,10 @@ fn rows_ok(state: &[u8], n: usize) -> bool
     requires { n * 256 ≤ length state.now }
     ensures { result ≡ all_rows (row_ok n) n state.now }
 {
-    let mut i = 0;
-    while i < n {
+    for i in 0..n {
         if !row_ok(layout::row_at(state, i), n as u64) {
             return false;
         }
-        i += 1;
     }
     true // also of no records
 }
@@ -303,12 +221,10 @@ fn streams_in(state: &[u8], most: usize) -> usize
     requires { most * 256 ≤ length state.now }
     ensures { (result ≡ streams_in most state.now) × (result ≤ most) }
 {
-    let mut i = 0;
-    while i < most {
+    for i in 0..most {
         if state[i * layout::RECORD] == 0 {
             return i;
         }
-        i += 1;
     }
     most
 }
@@ -356,30 +272,26 @@ fn windows_ok(state: &[u8], n: usize) -> bool
     ensures { result ≡ windows_ok n state.now }
 {
     let mut j = 0;
-    let mut i = 0;
-    while i < n {
+    for i in 0..n {
         let row = layout::row_at(state, i);
         let w = operators::is_window(layout::byte_at(row, layout::OP));
         if !window_clear(state, i, j, w) {
             return false;
         }
         j = counted(j, w);
-        i += 1;
     }
     le::zeros(state, state.len() - layout::AREA + j * layout::WINDOW)
 }
 
 // Whether what lies behind the first n records is as it may be: zeros, then the windows.
+#[tactic(auto, unfolding(crate::specs::Valid::tail_ok))]
 fn tail_ok(state: &[u8], n: usize) -> bool
     requires { n * 256 + area_length ≤ length state.now }
     ensures { result ≡ tail_ok n state.now }
 {
     let at = n * layout::RECORD;
     let end = state.len() - layout::AREA;
-    if !le::zeros(&state[at..end], 0) {
-        return false;
-    }
-    windows_ok(state, n)
+    le::zeros(&state[at..end], 0) && windows_ok(state, n)
 }
 
 // The undelayed arguments of the first n records, three bytes for each.
@@ -387,11 +299,9 @@ fn fill_graph(state: &[u8], n: usize, graph: &mut [u8])
     requires { (n * 256 ≤ length state.now) × (3 * n ≤ length graph.old) }
     ensures { graph.new ≡ noted n state.now graph.old }
 {
-    let mut i = 0;
-    while i < n {
+    for i in 0..n {
         let at = i * layout::RECORD;
         cycle::note(graph, i, state[at], state[at + 1], state[at + 2]);
-        i += 1;
     }
 }
 
@@ -405,30 +315,23 @@ fn clear(state: &[u8], n: usize, most: usize) -> bool
     cycle::clear(&mut graph, n as u8, most as u8)
 }
 
-// What the test of number 15 finds: a state of this many streams, or no state.
-#[derive(Clone, Copy)]
-pub enum Tested {
-    State(usize),
-    NoState,
-}
-
-// Tests whether bytes are a state.
-pub fn streams(state: &[u8]) -> Tested
+// How many streams the state of these bytes has, or `None` where the test of number 15 finds that they are no state.
+pub fn streams(state: &[u8]) -> Option<usize>
     ensures { result ≡ tested state.now }
 {
     let most = Plan::capacity(state.len());
     if most == 0 {
-        return Tested::NoState;
+        return None;
     }
     let n = streams_in(state, most);
     if !rows_ok(state, n) {
-        return Tested::NoState;
+        return None;
     }
     if !tail_ok(state, n) {
-        return Tested::NoState;
+        return None;
     }
     if !clear(state, n, most) {
-        return Tested::NoState;
+        return None;
     }
-    Tested::State(n)
+    Some(n)
 }

@@ -7,10 +7,11 @@ use operators::Plan;
 // One byte more than a text may have, so that a longer one is seen.
 const ROOM: usize = Plan::TEXT + 1;
 
-fn tell(rt: &impl Print, fault: Fault) {
-    let number = fault.number;
-    let line = fault.line;
-    let stream = fault.stream;
+fn tell(rt: &impl Print, fault: Option<Fault>) {
+    let (number, line, stream) = match fault {
+        Some(f) => (f.number, f.line, f.stream),
+        None => (0, 0, 0),
+    };
     let _ = println!(rt; "number={number} line={line} stream={stream}");
 }
 

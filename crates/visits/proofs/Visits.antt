@@ -1,7 +1,7 @@
 -- The count of visits, of document 01's example: with a visit at 3 and one at 5 every solution counts 0 at 0, 1 at 3 and 2 at 5.
 use Prim.Native.Nat.{ℕ, zero, suc, ◌<◌, ◌≤◌}
 use mathlib.Core.Path.{◌≡◌, refl, ap, ap₂, ◌∙◌}
-use mathlib.Core.Option.{Option, none, some}
+use Rattle.std.specs.Prelude.{Option, None, Some}
 use mathlib.Core.List.{List, [], ◌∷◌}
 use native.Mathlib.Omega.{arith}
 use lib.IntN.{ℤ, pos}
@@ -36,32 +36,32 @@ module _ (rd S : Streams) (solves : Solves (declared_plan streams) rd S horizon)
       solves.each 5 t l ∙ ap₂ or_else e4 e2
 
   -- no visit, no count
-  none_at : (t : ℕ) → suc t < horizon → found visits (suc t) ≡ none → S 5 (suc t) ≡ none
+  none_at : (t : ℕ) → suc t < horizon → found visits (suc t) ≡ None → S 5 (suc t) ≡ None
   unfolding one_at last_at unit_at
   none_at t l e = counted (suc t) l ∙ rw e
 
-  at_0 : S 5 0 ≡ some (pos 0)
+  at_0 : S 5 0 ≡ Some (pos 0)
   unfolding one_at last_at unit_at
   at_0 = counted 0 (omega arith)
 
-  at_1 : S 5 1 ≡ none
+  at_1 : S 5 1 ≡ None
   at_1 = none_at 0 (omega arith) refl
 
-  at_2 : S 5 2 ≡ none
+  at_2 : S 5 2 ≡ None
   at_2 = none_at 1 (omega arith) refl
 
-  at_3 : S 5 3 ≡ some (pos 1)
+  at_3 : S 5 3 ≡ Some (pos 1)
   unfolding one_at last_at unit_at latest value_of added
   at_3 = counted 3 (omega arith) ∙ rw (at_2, at_1, at_0)
 
-  at_4 : S 5 4 ≡ none
+  at_4 : S 5 4 ≡ None
   at_4 = none_at 3 (omega arith) refl
 
-  at_5 : S 5 5 ≡ some (pos 2)
+  at_5 : S 5 5 ≡ Some (pos 2)
   unfolding one_at last_at unit_at latest value_of added
   at_5 = counted 5 (omega arith) ∙ rw (at_4, at_3)
 
-  later : (t : ℕ) → 6 ≤ t → t < horizon → S 5 t ≡ none
+  later : (t : ℕ) → 6 ≤ t → t < horizon → S 5 t ≡ None
   later zero h l = absurd (omega arith)
   later (suc t) h l = none_at t l (rw (ne_eqb 3 (suc t) (λ e. omega arith), ne_eqb 5 (suc t) (λ e. omega arith)))
 

@@ -2,12 +2,13 @@
 #![tactic(auto)]
 
 ghost use Rattle.std.specs.Prelude.{◌≡◌, ◌≤◌, length};
+ghost use Rattle.refusal.specs.Numbers.{code_of};
 ghost use Rattle.layout.specs.Windows.{area_length};
 ghost use Rattle.widen.specs.Spread.{spread};
 ghost use Rattle.widen.specs.Widen.{widen_reply};
 
 use operators::Plan;
-use valid::Tested;
+use refusal::Refusal;
 
 // Copies the records of a state, clears what lies behind them up to the windows of the longer one, and copies the windows there.
 fn copy(from: &[u8], to: &mut [u8])
@@ -21,22 +22,19 @@ fn copy(from: &[u8], to: &mut [u8])
     decimal::put_word(to, windows, &from[end..]);
 }
 
-// Copies a state into a longer buffer; 15 if there is no state of the shorter length, or no buffer of the longer.
-pub fn widen(from: &[u8], to: &mut [u8]) -> u32
-    ensures number { result ≡ (widen_reply from.now to.old).number }
+// Copies a state into a longer buffer; refused if there is no state of the shorter length, or no buffer of the longer.
+pub fn widen(from: &[u8], to: &mut [u8]) -> Result<(), Refusal>
+    ensures number { code_of result ≡ (widen_reply from.now to.old).number }
     ensures buffer { to.new ≡ (widen_reply from.now to.old).buffer }
 {
-    if from.len() != Plan::STATE {
-        return 15;
-    }
-    if to.len() != Plan::LONG {
-        return 15;
+    if from.len() != Plan::STATE || to.len() != Plan::LONG {
+        return Err(Refusal::BadState);
     }
     match valid::streams(from) {
-        Tested::State(_) => {
+        Some(_) => {
             copy(from, to);
-            0
+            Ok(())
         }
-        Tested::NoState => 15,
+        None => Err(Refusal::BadState),
     }
 }

@@ -1,9 +1,9 @@
 -- The least and the greatest of values by the raised ones: one law for both, by the Bool of the code (true: the greatest).
-use Prim.Native.Nat.{ℕ, ◌+◌, ◌-◌, ◌^◌, ◌<◌, ◌≤◌, min, max}
+use Prim.Native.Nat.{ℕ, ◌+◌, ◌-◌, ◌^◌, ◌<◌, ◌≤◌}
 use mathlib.Core.Path.{◌≡◌, refl, sym, ap, ◌∙◌}
 use mathlib.Core.Bool.{Bool, true, false, cond}
 use mathlib.Core.List.{List, [], ◌∷◌, ◌++◌, map, map-append}
-use mathlib.Core.Option.{some}
+use Rattle.std.specs.Prelude.{Some}
 use native.Mathlib.Omega.{arith}
 use native.Mathlib.Decide.{dec_le}
 use lib.IntN.{ℤ}
@@ -31,12 +31,6 @@ extreme false x xs = least_of x xs
 abbrev start : Bool → ℕ
 start true = 0
 start false = 2 ^ 64 - 1
-
-pub better_greater : (g : Bool) (b u : ℕ) → g ≡ true → better g b u ≡ max b u
-better_greater g b u e = rw e
-
-pub better_lesser : (g : Bool) (b u : ℕ) → g ≡ false → better g b u ≡ min b u
-better_lesser g b u e = rw e
 
 -- ---- the loops
 
@@ -93,25 +87,25 @@ better_start : (g : Bool) (u : ℕ) → u < 2 ^ 64 → better g (start g) u ≡ 
 better_start true u h = omega arith
 better_start false u h = omega arith
 
-best_folded : (g : Bool) (x : ℤ) (xs : List ℤ) → some (extreme g x xs) ≡ value_of (folded (fold_by g) (x ∷ xs))
+best_folded : (g : Bool) (x : ℤ) (xs : List ℤ) → Some (extreme g x xs) ≡ value_of (folded (fold_by g) (x ∷ xs))
 unfolding folded value_of
 best_folded true x xs = refl
 best_folded false x xs = refl
 
-best_all : (g : Bool) (ws : List ℕ) → 0 < length ws → Words ws → some (to_z w64 (raised (best_of g (start g) (map raised ws)))) ≡ value_of (folded (fold_by g) (map (to_z w64) ws))
+best_all : (g : Bool) (ws : List ℕ) → 0 < length ws → Words ws → Some (to_z w64 (raised (best_of g (start g) (map raised ws)))) ≡ value_of (folded (fold_by g) (map (to_z w64) ws))
 unfolding best_of
 best_all g [] h a = absurd (omega arith)
 best_all g (w ∷ ws) h a =
-    ap (λ (b : ℕ). some (to_z w64 (raised (best_of g b (map raised ws))))) (better_start g (raised w) (raised_small w a.0))
-    ∙ ap some (best_is g w ws a.0 a.1) ∙ best_folded g (to_z w64 w) (map (to_z w64) ws)
+    ap (λ (b : ℕ). Some (to_z w64 (raised (best_of g b (map raised ws))))) (better_start g (raised w) (raised_small w a.0))
+    ∙ ap Some (best_is g w ws a.0 a.1) ∙ best_folded g (to_z w64 w) (map (to_z w64) ws)
 
 -- ---- the words of two lists
 
 pub best_fold : (g : Bool) (xs ys : List ℕ) → Words xs → Words ys → 0 < length ys → (b r : ℕ) → b ≡ best_of g (start g) (map raised xs) → r ≡ best_of g b (map raised ys)
-    → some (to_z w64 (raised r)) ≡ value_of (folded (fold_by g) (map (to_z w64) xs ++ map (to_z w64) ys))
+    → Some (to_z w64 (raised r)) ≡ value_of (folded (fold_by g) (map (to_z w64) xs ++ map (to_z w64) ys))
 best_fold g xs ys a b l m r em er =
     let all : r ≡ best_of g (start g) (map raised (xs ++ ys)) =
     er ∙ ap (λ (z : ℕ). best_of g z (map raised ys)) em ∙ best_append g (start g) (map raised xs) (map raised ys) ∙ ap (best_of g (start g)) (sym (map-append raised xs ys)) in
     let some_more : 0 < length (xs ++ ys) = rw (length-append xs ys) (omega arith) in
-    ap (λ (z : ℕ). some (to_z w64 (raised z))) all ∙ best_all g (xs ++ ys) some_more (words_append xs ys a b)
+    ap (λ (z : ℕ). Some (to_z w64 (raised z))) all ∙ best_all g (xs ++ ys) some_more (words_append xs ys a b)
     ∙ ap (λ (z : List ℤ). value_of (folded (fold_by g) z)) (map-append (to_z w64) xs ys)

@@ -2,7 +2,7 @@
 use Prim.Native.Nat.{ℕ, zero, suc, ◌+◌, ◌<◌, ◌≤◌, min}
 use mathlib.Core.Path.{◌≡◌, refl, sym, ap, ap₂, ◌∙◌}
 use mathlib.Core.Bool.{Bool, true, false, cond}
-use mathlib.Core.Option.{Option, none, some}
+use Rattle.std.specs.Prelude.{Option, None, Some}
 use mathlib.Core.List.{List, [], ◌∷◌, ◌++◌, map, map-append, append_assoc, append-nil}
 use native.Mathlib.Omega.{arith}
 use lib.Dec.{ltb}
@@ -99,8 +99,8 @@ module _ (f : Fold) (k hi first i n : ℕ) (w : List ℤ) (r : Raw) (low : first
     here : fits_at t o (first_fit f k hi (grown first (i + 1) w r) (events_in (i + 1) n r.slots)) ≡ first_fit f k hi (grown first i w r) (events_in i n r.slots)
     here = sym (turn ∙ ap (λ (b : Bool). cond b (fits_at t (value_of (folded f (latest_of k (grown first (i + 1) w r)))) (first_fit f k hi (grown first (i + 1) w r) (events_in (i + 1) n r.slots))) (silent hi)) (lt-ltb t hi q) ∙ ap (λ (x : Option ℤ). fits_at t x (first_fit f k hi (grown first (i + 1) w r) (events_in (i + 1) n r.slots))) (sym e))
 
-    pub fit_hit : (v : ℤ) → o ≡ some v → event t v ≡ first_fit f k hi (grown first i w r) (events_in i n r.slots)
+    pub fit_hit : (v : ℤ) → o ≡ Some v → event t v ≡ first_fit f k hi (grown first i w r) (events_in i n r.slots)
     fit_hit v s = ap (λ (x : Option ℤ). fits_at t x (first_fit f k hi (grown first (i + 1) w r) (events_in (i + 1) n r.slots))) (sym s) ∙ here
 
-    pub fit_miss : o ≡ none → first_fit f k hi (grown first (i + 1) w r) (events_in (i + 1) n r.slots) ≡ first_fit f k hi (grown first i w r) (events_in i n r.slots)
+    pub fit_miss : o ≡ None → first_fit f k hi (grown first (i + 1) w r) (events_in (i + 1) n r.slots) ≡ first_fit f k hi (grown first i w r) (events_in i n r.slots)
     fit_miss s = ap (λ (x : Option ℤ). fits_at t x (first_fit f k hi (grown first (i + 1) w r) (events_in (i + 1) n r.slots))) (sym s) ∙ here

@@ -3,7 +3,7 @@ use Prim.Native.Nat.{ℕ, zero, suc, ◌+◌, ◌-◌, ◌*◌, ◌/◌, ◌%◌
 use mathlib.Core.Path.{◌≡◌, refl, sym, ap, ap₂, ◌∙◌}
 use mathlib.Core.Bool.{true}
 use mathlib.Core.List.{List, [], ◌∷◌, ◌++◌, map, map-append}
-use mathlib.Core.Option.{none, some}
+use Rattle.std.specs.Prelude.{None, Some, Ok}
 use native.Mathlib.Omega.{arith}
 use native.Mathlib.Decide.{dec_lt}
 use lib.IntN.{ℤ, pos, negsuc, neg_ℤ, ◌+ℤ◌, ◌-ℤ◌, +ℤ_assoc, +ℤ_comm, +ℤ_idr, +ℤ_invr, neg_ℤ-+ℤ}
@@ -13,7 +13,6 @@ use mir.Syntax.{w64}
 use mir.Val.{to_z}
 use mir.Facts.{to_z_pos}
 use borrow.Author.Tests.{lt-ltb}
-use Rattle.num.specs.declared.Answer.TheVariants.{Value}
 use Rattle.num.specs.Arithmetic.{fit}
 use Rattle.num.proofs.Arith.{less, fit_pos, fit_neg, too_big, too_big_plain}
 use Rattle.num.proofs.Signed.{to_z_high}
@@ -106,29 +105,29 @@ summed_all ws i n h₀ h a =
 -- ---- the one test of a sum of n values
 
 -- every word stands for a value
-fit_word : (b : ℕ) → b < 2 ^ 64 → fit (to_z w64 b) ≡ Value (to_z w64 b)
+fit_word : (b : ℕ) → b < 2 ^ 64 → fit (to_z w64 b) ≡ Ok (to_z w64 b)
 fit_word b h = go (dec_lt b (2 ^ 63))
   where
-    go : Dec (b < 2 ^ 63) → fit (to_z w64 b) ≡ Value (to_z w64 b)
+    go : Dec (b < 2 ^ 63) → fit (to_z w64 b) ≡ Ok (to_z w64 b)
     go (yes l) = rw (to_z_pos w64 l) (fit_pos b l)
     go (no l) = rw (to_z_high b (omega arith)) (fit_neg (2 ^ 64 - suc b) (omega arith))
 
 module _ (n low high : ℕ) (p : 1 ≤ n) where
   -- below the range, above it, and in it
-  pub total_under : high + low / 2 ^ 32 < (n - 1) * 2 ^ 31 → none ≡ value_of (fit (total_of n low high))
+  pub total_under : high + low / 2 ^ 32 < (n - 1) * 2 ^ 31 → None ≡ value_of (fit (total_of n low high))
   unfolding value_of
   total_under h =
       let s : ℕ = high * 2 ^ 32 + low in
       rw (sub_neg s (n * 2 ^ 63) (omega arith), too_big true (suc (n * 2 ^ 63 - suc s)) (omega arith))
 
-  pub total_over : (n - 1) * 2 ^ 31 + 2 ^ 32 ≤ high + low / 2 ^ 32 → none ≡ value_of (fit (total_of n low high))
+  pub total_over : (n - 1) * 2 ^ 31 + 2 ^ 32 ≤ high + low / 2 ^ 32 → None ≡ value_of (fit (total_of n low high))
   unfolding value_of
   total_over h =
       let s : ℕ = high * 2 ^ 32 + low in
       rw (less s (n * 2 ^ 63) (omega arith), too_big_plain (s - n * 2 ^ 63) (omega arith))
 
   pub total_in : (top : ℕ) → top ≡ high + low / 2 ^ 32 - (n - 1) * 2 ^ 31 → (n - 1) * 2 ^ 31 ≤ high + low / 2 ^ 32 → top < 2 ^ 32
-      → some (to_z w64 (raised (top * 2 ^ 32 + low % 2 ^ 32))) ≡ value_of (fit (total_of n low high))
+      → Some (to_z w64 (raised (top * 2 ^ 32 + low % 2 ^ 32))) ≡ value_of (fit (total_of n low high))
   unfolding value_of
   total_in top e h k =
       let v : ℕ = top * 2 ^ 32 + low % 2 ^ 32 in

@@ -3,7 +3,7 @@ use Prim.Native.Nat.{ℕ, suc, ◌+◌, ◌<◌, ◌≤◌}
 use native.Mathlib.Omega.{arith}
 use mathlib.Core.Path.{◌≡◌, sym, ap, ap₂, ◌∙◌}
 use mathlib.Core.Bool.{Bool, true, false, cond}
-use mathlib.Core.Option.{Option}
+use Rattle.std.specs.Prelude.{Option, None}
 use mathlib.Core.List.{List}
 use lib.Dec.{ltb}
 use lib.IntN.{ℤ}
@@ -14,14 +14,11 @@ use Rattle.meaning.specs.Events.{has}
 use Rattle.meaning.specs.Table.{latest_of, folded, value_of}
 use Rattle.machine.specs.Counting.{sum_tally}
 use Rattle.layout.specs.Record.{Slot, Raw, slot_at}
-use Rattle.queue.specs.declared.Found.{Found}
-use Rattle.queue.specs.declared.Found.TheVariants.{Nothing}
-use Rattle.queue.specs.Found.{as_option}
 use Rattle.windows.specs.Window.{slot_words}
 use Rattle.windows.proofs.Fits.{events_in, events_more, events_none, grown, now_is}
 
 -- one more where there is no value
-pub lack_more : (c : ℕ) {v : Found} → v ≡ Nothing → c + 1 ≡ cond (has (as_option v)) c (suc c)
+pub lack_more : (c : ℕ) {v : Option ℤ} → v ≡ None → c + 1 ≡ cond (has v) c (suc c)
 lack_more c e = rw e (omega arith)
 
 -- the count so far, and the rest of it

@@ -1,13 +1,11 @@
 -- How: what a window's bytes and the slots of a record hold, their values raised, and the folds over them.
-use Rattle.std.specs.Prelude.{ℕ, ◌+◌, ◌-◌, ◌*◌, ◌/◌, ◌%◌, ◌^◌, min, max, Bool, true, false, cond, List, [], ◌∷◌, map, ltb, ℤ, pos, ◌-ℤ◌, take}
+use Rattle.std.specs.Prelude.{ℕ, ◌+◌, ◌-◌, ◌*◌, ◌/◌, ◌%◌, ◌^◌, min, max, Bool, true, false, cond, List, [], ◌∷◌, map, ltb, ℤ, Option, None, Some, pos, ◌-ℤ◌, take}
 use Rattle.std.proofs.Math.Seq.{slice}
 use Rattle.std.specs.Int.{w64}
 use Rattle.std.proofs.Common.{to_z}
 use Rattle.machine.specs.Reach as machine
 use Rattle.layout.specs.Record.{Slot, Raw}
 use Rattle.layout.specs.Windows.{dec_window}
-use Rattle.windows.specs.declared.Fit.{Fit}
-use Rattle.windows.specs.declared.Fit.TheVariants.{At, Nothing}
 
 -- ---- what is there
 
@@ -58,6 +56,6 @@ best_of g b (u ∷ us) = best_of g (better g b u) us
 -- ---- where a window first gives a value
 
 -- what the code answers, as the machine's answer, where nothing is found below hi
-abbrev pub fitted : ℕ → Fit → machine.Next
-fitted hi (At t v) = machine.event t v
-fitted hi Nothing = machine.silent hi
+abbrev pub fitted : ℕ → Option (ℕ × ℤ) → machine.Next
+fitted hi (Some (t, v)) = machine.event t v
+fitted hi None = machine.silent hi

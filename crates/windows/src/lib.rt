@@ -17,19 +17,10 @@ ghost use Rattle.layout.specs.Record.{dec_raw};
 ghost use Rattle.layout.specs.Windows.{window_length, enc_window, dec_window};
 ghost use Rattle.encoding.specs.Back.{held_of};
 ghost use Rattle.encoding.specs.View.{words_of};
-ghost use Rattle.queue.specs.Found.{as_option};
 ghost use Rattle.apply.specs.Named.{folding};
 ghost use Rattle.windows.specs.Window.{kept, values_in, slot_words, raised, heights, lows, highs, better, best_of, total_of, fitted};
 
 use apply::Fold;
-use queue::Found;
-
-// Where a window first gives a value: this one, at this stamp; or nowhere.
-#[derive(Clone, Copy)]
-pub enum Fit {
-    At(u32, i64),
-    Nothing,
-}
 
 // The sums of the lower and of the upper halves of raised values.
 #[derive(Clone, Copy)]
@@ -71,10 +62,8 @@ fn sum_words(w: &[u8], i: usize, n: usize) -> Halves
     ensures { (result.low ≡ lows (heights i n (dec_window w.now))) × (result.high ≡ highs (heights i n (dec_window w.now))) × (result.low ≤ (n - i) * 2 ^ 32) × (result.high ≤ (n - i) * 2 ^ 32) }
 {
     let mut h = Halves { low: 0, high: 0 };
-    let mut j = i;
-    while j < n {
+    for j in i..n {
         h = add(h, raise(layout::window_word(w, j)));
-        j += 1;
     }
     h
 }
@@ -85,42 +74,34 @@ fn sum_slots(a: &[u8], i: usize, n: usize, h: Halves) -> Halves
     ensures { (result.low ≡ h.low + lows (heights i n (slot_words (dec_raw a.now)))) × (result.high ≡ h.high + highs (heights i n (slot_words (dec_raw a.now)))) × (result.low < 2 ^ 62) × (result.high < 2 ^ 62) }
 {
     let mut s = h;
-    let mut j = i;
-    while j < n {
+    for j in i..n {
         s = add(s, raise(layout::value_at(a, j)));
-        j += 1;
     }
     s
 }
 
 // The sum of n values, one test for its range: none if it is outside.
-fn total(h: Halves, n: u64) -> Found
+fn total(h: Halves, n: u64) -> Option<i64>
     requires { (h.low < 2 ^ 62) × (h.high < 2 ^ 62) × (1 ≤ n) × (n ≤ width_limit + room) }
-    ensures { as_option result ≡ value_of (fit (total_of n h.low h.high)) }
+    ensures { result ≡ value_of (fit (total_of n h.low h.high)) }
 {
     let high = h.high + h.low / BASE;
     let below = (n - 1) * (HALF / BASE);
     if high < below {
-        return Found::Nothing;
+        return None;
     }
     let top = high - below;
     if BASE <= top {
-        return Found::Nothing;
+        return None;
     }
-    Found::Value(num::of_bits(raise(top * BASE + h.low % BASE)))
+    Some(num::of_bits(raise(top * BASE + h.low % BASE)))
 }
 
 // The greater or the lesser of two.
 fn better_of(greater: bool, b: u64, u: u64) -> u64
     ensures { result ≡ better greater b u }
 {
-    if b < u {
-        if greater { u } else { b }
-    } else if greater {
-        b
-    } else {
-        u
-    }
+    if greater { b.max(u) } else { b.min(u) }
 }
 
 // The best of b and the words from i on, of the first n.
@@ -129,10 +110,8 @@ fn best_word(greater: bool, w: &[u8], i: usize, n: usize, b: u64) -> u64
     ensures { result ≡ best_of greater b (heights i n (dec_window w.now)) }
 {
     let mut best = b;
-    let mut j = i;
-    while j < n {
+    for j in i..n {
         best = better_of(greater, best, raise(layout::window_word(w, j)));
-        j += 1;
     }
     best
 }
@@ -143,18 +122,16 @@ fn best_slot(greater: bool, a: &[u8], i: usize, n: usize, b: u64) -> u64
     ensures { result ≡ best_of greater b (heights i n (slot_words (dec_raw a.now))) }
 {
     let mut best = b;
-    let mut j = i;
-    while j < n {
+    for j in i..n {
         best = better_of(greater, best, raise(layout::value_at(a, j)));
-        j += 1;
     }
     best
 }
 
 // What a window tells of its words from i on, of the first n, and of the values in the slots of a from p on, of the first q.
-fn fold_of(f: Fold, w: &[u8], i: usize, n: usize, a: &[u8], p: usize, q: usize) -> Found
+fn fold_of(f: Fold, w: &[u8], i: usize, n: usize, a: &[u8], p: usize, q: usize) -> Option<i64>
     requires { (length w.now ≡ window_length) × (i ≤ n) × (n ≤ width_limit) × (length a.now ≡ 256) × (p < q) × (q ≤ room) }
-    ensures { as_option result ≡ value_of (folded (folding f) (values_in i n (dec_window w.now) ++ values_in p q (slot_words (dec_raw a.now)))) }
+    ensures { result ≡ value_of (folded (folding f) (values_in i n (dec_window w.now) ++ values_in p q (slot_words (dec_raw a.now)))) }
 {
     match f {
         Fold::Sum => {
@@ -164,19 +141,19 @@ fn fold_of(f: Fold, w: &[u8], i: usize, n: usize, a: &[u8], p: usize, q: usize) 
         }
         Fold::Least => {
             let b = best_word(false, w, i, n, u64::MAX);
-            Found::Value(num::of_bits(raise(best_slot(false, a, p, q, b))))
+            Some(num::of_bits(raise(best_slot(false, a, p, q, b))))
         }
         Fold::Greatest => {
             let b = best_word(true, w, i, n, 0);
-            Found::Value(num::of_bits(raise(best_slot(true, a, p, q, b))))
+            Some(num::of_bits(raise(best_slot(true, a, p, q, b))))
         }
     }
 }
 
 // What a window of k values that keeps n of them tells once the values in the slots of a from p on, of the first q, are in it.
-fn value(f: Fold, k: usize, w: &[u8], n: usize, a: &[u8], p: usize, q: usize) -> Found
+fn value(f: Fold, k: usize, w: &[u8], n: usize, a: &[u8], p: usize, q: usize) -> Option<i64>
     requires { (1 ≤ k) × (length w.now ≡ window_length) × (n ≤ width_limit) × (length a.now ≡ 256) × (p < q) × (q ≤ room) }
-    ensures { as_option result ≡ value_of (folded (folding f) (latest_of k (kept n w.now ++ values_in p q (slot_words (dec_raw a.now))))) }
+    ensures { result ≡ value_of (folded (folding f) (latest_of k (kept n w.now ++ values_in p q (slot_words (dec_raw a.now))))) }
 {
     let all = n + (q - p);
     if all <= k {
@@ -190,35 +167,33 @@ fn value(f: Fold, k: usize, w: &[u8], n: usize, a: &[u8], p: usize, q: usize) ->
 }
 
 // The first held event of a, from stamp y on and below hi, at which a window of k values that keeps n of them gives a value.
-pub fn find(f: Fold, k: usize, w: &[u8], n: usize, a: &[u8], y: u64, hi: u64) -> Fit
+pub fn find(f: Fold, k: usize, w: &[u8], n: usize, a: &[u8], y: u64, hi: u64) -> Option<(u32, i64)>
     requires { (1 ≤ k) × (length w.now ≡ window_length) × (n ≤ width_limit) × (length a.now ≡ 256) }
     ensures { fitted hi result ≡ first_fit (folding f) k hi (kept n w.now) (drop_below y (held_of (dec_raw a.now))) }
 {
     let count = queue::count(a);
     let first = queue::first_from(a, count, y);
-    let mut i = first;
-    while i < count {
+    for i in first..count {
         let stamp = layout::stamp_at(a, i);
         if hi <= stamp {
-            return Fit::Nothing;
+            return None;
         }
-        i += 1;
-        let x = value(f, k, w, n, a, first, i);
-        if let Found::Value(v) = x {
-            return Fit::At(stamp as u32, v);
+        let x = value(f, k, w, n, a, first, i + 1);
+        if let Some(v) = x {
+            return Some((stamp as u32, v));
         }
     }
-    Fit::Nothing
+    None
 }
 
 // One more, if there is no value.
-fn lacking(c: usize, v: Found) -> usize
+fn lacking(c: usize, v: Option<i64>) -> usize
     requires { c < room }
-    ensures { (result ≡ cond (has (as_option v)) c (suc c)) × (result ≤ c + 1) }
+    ensures { (result ≡ cond (has v) c (suc c)) × (result ≤ c + 1) }
 {
     match v {
-        Found::Value(_) => c,
-        Found::Nothing => c + 1,
+        Some(_) => c,
+        None => c + 1,
     }
 }
 
@@ -230,14 +205,12 @@ pub fn missing(k: usize, w: &[u8], n: usize, a: &[u8], y: u64, x: u64) -> usize
     let count = queue::count(a);
     let first = queue::first_from(a, count, y);
     let mut c = 0;
-    let mut i = first;
-    while i < count {
+    for i in first..count {
         let stamp = layout::stamp_at(a, i);
         if x <= stamp {
             return c;
         }
-        i += 1;
-        let v = value(Fold::Sum, k, w, n, a, first, i);
+        let v = value(Fold::Sum, k, w, n, a, first, i + 1);
         c = lacking(c, v);
     }
     c
@@ -263,15 +236,13 @@ pub fn gather(a: &[u8], y: u64, x: u64, v: &mut [u64]) -> usize
 {
     let count = queue::count(a);
     let first = queue::first_from(a, count, y);
-    let mut i = first;
-    while i < count {
+    for i in first..count {
         if x <= layout::stamp_at(a, i) {
             return i - first;
         }
         v[i - first] = layout::value_at(a, i);
-        i += 1;
     }
-    i - first
+    count - first
 }
 
 // The first c words of v into a window of k values that keeps n of them. Answers how many it keeps then.
@@ -280,11 +251,9 @@ pub fn slide(w: &mut [u8], k: usize, n: usize, v: &[u64], c: usize) -> usize
     ensures slid { w.new ≡ enc_window (words_of (latest_of k (kept n w.old ++ map (to_z w64) (take c v.now))) ++ drop result (dec_window w.old)) }
     ensures many { (result ≡ length (latest_of k (kept n w.old ++ map (to_z w64) (take c v.now)))) × (result ≤ k) }
 {
-    let mut i = 0;
     let mut m = n;
-    while i < c {
+    for i in 0..c {
         m = push(w, k, m, v[i]);
-        i += 1;
     }
     m
 }

@@ -1,7 +1,8 @@
 // The plan of a state written as text into a lent buffer: line by line, and how long it is.
 #![tactic(auto)]
 
-ghost use Rattle.std.specs.Prelude.{◌≡◌, ◌+◌, ◌*◌, ◌≤◌, eqb, length};
+ghost use Rattle.std.specs.Prelude.{◌≡◌, ◌+◌, ◌*◌, ◌≤◌, eqb, length, IfOk};
+ghost use Rattle.refusal.specs.Numbers.{code_of};
 ghost use Rattle.std.proofs.lemmas.List.Edits.{sets};
 ghost use Rattle.std.specs.Int.{w64};
 ghost use Rattle.std.proofs.Common.{to_z};
@@ -15,6 +16,8 @@ ghost use Rattle.render.specs.Render.{line, bit_text, opening};
 ghost use Rattle.roundtrip.specs.In.{IsState};
 ghost use Rattle.writing.specs.Text.{text_in, given};
 ghost use Rattle.writing.specs.Rows.{row_text, rows_text, text_of};
+
+use refusal::Refusal;
 
 // How many bytes the five lines of a stream have beside its name and its numbers: the keys, the ends, and out.
 const LINES: usize = 19;
@@ -92,10 +95,8 @@ fn put_streams(state: &[u8], n: usize, out: &mut [u8], at: usize) -> usize
     ensures { Put out.old at (rows_text (decode n state.now).rows) result out.new }
 {
     let mut p = at;
-    let mut i = 0;
-    while i < n {
+    for i in 0..n {
         p = put_stream(layout::row_at(state, i), out, p);
-        i += 1;
     }
     p
 }
@@ -106,10 +107,8 @@ fn streams_length(state: &[u8], n: usize) -> usize
     ensures { result ≡ length (rows_text (decode n state.now).rows) }
 {
     let mut sum: usize = 0;
-    let mut i = 0;
-    while i < n {
+    for i in 0..n {
         sum += stream_length(layout::row_at(state, i));
-        i += 1;
     }
     sum
 }
@@ -153,20 +152,18 @@ fn put_text(state: &[u8], n: usize, out: &mut [u8])
     put_streams(state, n, out, p);
 }
 
-// Writes the plan of a state of n streams as text, unless the buffer is too short for it. `length` says how long the text is; it is
-// worked out before the first byte is written.
-pub fn write(state: &[u8], n: usize, text: &mut [u8], length: &mut u64) -> u32
+// Writes the plan of a state of n streams as text, unless the buffer is too short for it; how long the text is. That is worked out
+// before the first byte is written.
+pub fn write(state: &[u8], n: usize, text: &mut [u8]) -> Result<usize, Refusal>
     requires { IsState state.now n }
-    ensures number { result ≡ (given (text_in state.now) text.old).number }
-    ensures length { length.new ≡ (given (text_in state.now) text.old).length }
+    ensures number { code_of result ≡ (given (text_in state.now) text.old).number }
+    ensures length { IfOk result (λ size. size ≡ (given (text_in state.now) text.old).length) }
     ensures buffer { text.new ≡ (given (text_in state.now) text.old).buffer }
 {
     let size = text_length(state, n);
     if text.len() < size {
-        *length = 0;
-        return 19;
+        return Err(Refusal::TextRoom);
     }
     put_text(state, n, text);
-    *length = size as u64;
-    0
+    Ok(size)
 }

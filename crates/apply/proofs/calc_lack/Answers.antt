@@ -1,17 +1,18 @@
 use mathlib.Core.Path.{◌∙◌, ap, ap₂}
-use Rattle.queue.specs.Found.{as_option}
+use Rattle.std.specs.Result.{result_err}
+use native.Mathlib.Omega.{arith}
 use Rattle.meaning.specs.Table.{calculated}
-use Rattle.meaning.specs.Missing.{lacks}
 use Rattle.apply.specs.Named.{calculation}
+use Rattle.apply.specs.Lack.{lack_for}
 use Rattle.apply.proofs.Rows
 use Rattle.apply.proofs.Lacks as law
 use Rattle.apply.proofs.calc_lack.Goals as goal
 
-pub returns-in_default : goal.returns-in_default
-returns-in_default c = λ q. law.calc_first q (calculation c.args.g) (as_option c.args.x) (as_option c.args.y) (ap as_option c.in_default.is)
+pub returns-in_err-v : goal.returns-in_err-v
+returns-in_err-v c = λ q. ap (lack_for q) c.from_residual.ensures ∙ law.calc_first q (calculation c.args.g) c.args.x c.args.y c.in_err-v.was
 
-pub returns-in_default-y : goal.returns-in_default-y
-returns-in_default-y c = λ q. law.calc_second q (calculation c.args.g) c.in-Value.v (as_option c.args.x) (as_option c.args.y) (ap as_option c.in-Value.is) (ap as_option c.in_default-y.is)
+pub returns-in_err-w : goal.returns-in_err-w
+returns-in_err-w c = λ q. ap (lack_for q) c.from_residual-in_err-w.ensures ∙ law.calc_second q (calculation c.args.g) c.in_ok-v.v c.args.x c.args.y c.in_ok-v.was c.in_err-w.was
 
 pub returns : goal.returns
-returns c = let v = c.in-Value.v in let w = c.in-Value-y.w in let g = calculation c.args.g in λ q. c.lack_of.ensures q ∙ ap (lacks q) (c.calculate.ensures ∙ ap₂ (calculated g) (Rows.back v c.in-Value.known_told-1-own.given.0.1) (Rows.back w c.in-Value-y.known_told-in-Value-y-1-own.given.0.1)) ∙ law.calc_both q g v w (as_option c.args.x) (as_option c.args.y) (ap as_option c.in-Value.is) (ap as_option c.in-Value-y.is)
+returns c = let v = c.in_ok-v.v in let w = c.in_ok-w.w in let g = calculation c.args.g in λ q. ap (lack_for q) (c.err.ensures.value ∙ ap result_err (c.calculate.ensures ∙ ap₂ (calculated g) (Rows.back v (omega arith)) (Rows.back w (omega arith)))) ∙ law.err_is q (calculated g v w) ∙ law.calc_both q g v w c.args.x c.args.y c.in_ok-v.was c.in_ok-w.was

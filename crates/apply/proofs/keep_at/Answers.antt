@@ -1,21 +1,21 @@
-use mathlib.Core.Path.{refl, sym, ap, ◌∙◌}
-use mathlib.Core.Option.{some}
-use Rattle.num.specs.Arithmetic.{is_zero}
+use mathlib.Core.Path.{refl, ap, ◌∙◌}
+use Rattle.std.specs.Prelude.{Some}
+use native.Mathlib.Omega.{arith}
 use Rattle.meaning.specs.Table.{two_at}
 use Rattle.meaning.specs.Plan as plan
 use Rattle.apply.proofs.Rows
 use Rattle.apply.proofs.keep_at.Goals as goal
 
-pub returns-in_default : goal.returns-in_default
+pub returns-in_err-v : goal.returns-in_err-v
 unfolding two_at
-returns-in_default c = Rows.two_arm plan.keep c.in_default.is (refl {a = c.args.y})
+returns-in_err-v c = c.from_residual.ensures ∙ Rows.two_arm plan.keep c.in_err-v.was (refl {a = c.args.y})
 
-pub returns-in_default-y : goal.returns-in_default-y
+pub returns-in_err-w : goal.returns-in_err-w
 unfolding two_at
-returns-in_default-y c = Rows.two_arm plan.keep c.in-Value.is c.in_default-y.is
+returns-in_err-w c = c.from_residual-in_err-w.ensures ∙ Rows.two_arm plan.keep c.in_ok-v.was c.in_err-w.was
 
-pub returns-then-is_zero : goal.returns-then-is_zero
-returns-then-is_zero c = let v = c.in-Value.v in let ev = Rows.back v c.in-Value.known_told-1-own.given.0.1 in let w = c.in-Value-y.w in let ew = Rows.back w c.in-Value-y.known_told-in-Value-y-1-own.given.0.1 in Rows.keep_none v w (ap is_zero (sym ew) ∙ sym c.is_zero.ensures ∙ c.if-is_zero.true) ∙ Rows.two_arm plan.keep c.in-Value.is c.in-Value-y.is
+pub returns-then-w-eq0 : goal.returns-then-w-eq0
+returns-then-w-eq0 c = Rows.keep_none c.in_ok-v.v c.in_ok-w.w (omega arith) c.if-w-eq0.true ∙ Rows.two_arm plan.keep c.in_ok-v.was c.in_ok-w.was
 
 pub returns : goal.returns
-returns c = let v = c.in-Value.v in let ev = Rows.back v c.in-Value.known_told-1-own.given.0.1 in let w = c.in-Value-y.w in let ew = Rows.back w c.in-Value-y.known_told-in-Value-y-1-own.given.0.1 in ap some ev ∙ Rows.keep_some v w (ap is_zero (sym ew) ∙ sym c.is_zero.ensures ∙ c.if-is_zero.false) ∙ Rows.two_arm plan.keep c.in-Value.is c.in-Value-y.is
+returns c = ap Some (Rows.back c.in_ok-v.v (omega arith)) ∙ Rows.keep_some c.in_ok-v.v c.in_ok-w.w (omega arith) c.if-w-eq0.false ∙ Rows.two_arm plan.keep c.in_ok-v.was c.in_ok-w.was

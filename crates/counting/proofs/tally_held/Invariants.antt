@@ -1,8 +1,7 @@
 -- `counting::tally_held` meets its contract.
 use mathlib.Core.Path.{◌≡◌}
-use Prim.Native.Nat.{◌+◌, ◌-◌, ◌≤◌}
+use Prim.Native.Nat.{◌+◌, ◌≤◌}
 use Rattle.meaning.specs.Missing.{Reason}
-use Rattle.machine.specs.State.{room}
 use Rattle.machine.specs.Step.{drop_below}
 use Rattle.machine.specs.Windows.{take_below}
 use Rattle.machine.specs.Counting.{tally_of}
@@ -13,7 +12,4 @@ use Rattle.counting.specs.Tally.{count_in, asked_in}
 use Rattle.counting.proofs.tally_held.Given as goal
 
 abbrev pub invariant-loop-i : goal.invariant-loop-i
-invariant-loop-i l = (l.first ≤ l.i) × (l.i ≤ l.n) × (l.n ≤ room) × (l.c.outside + l.first ≤ l.i) × (l.c.divisors + l.first ≤ l.i) × ((q : Reason) → count_in q l.c + tally_of (asked_in q l.second l.op l.k l.a l.b) (take_below l.x (events_in l.i l.n (dec_raw l.held).slots)) ≡ tally_of (asked_in q l.second l.op l.k l.a l.b) (take_below l.x (drop_below l.y (held_of (dec_raw l.held)))))
-
-abbrev pub decreases-loop-i : goal.decreases-loop-i
-decreases-loop-i l = l.n - l.i
+invariant-loop-i l = (l.c.outside + l.first ≤ l.i) × (l.c.divisors + l.first ≤ l.i) × ((q : Reason) → count_in q l.c + tally_of (asked_in q l.second l.op l.k l.a l.b) (take_below l.x (events_in l.i l.n (dec_raw l.held).slots)) ≡ tally_of (asked_in q l.second l.op l.k l.a l.b) (take_below l.x (drop_below l.y (held_of (dec_raw l.held)))))

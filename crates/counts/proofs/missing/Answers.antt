@@ -8,7 +8,7 @@ use Rattle.counts.proofs.Cases as law
 use Rattle.counts.proofs.missing.Goals as goal
 
 pub returns-then-n-i : goal.returns-then-n-i
-returns-then-n-i c = let e = sym (law.missing_none c.args.state.now c.args.n c.requires c.args.stream c.if-n-i.true) in record { number = ap (λ (m : Missing). m.number) e; outside = ap (λ (m : Missing). m.outside) e; zero = ap (λ (m : Missing). m.divisors) e }
+returns-then-n-i c = let e = sym (law.missing_none c.args.state.now c.args.n c.requires c.args.stream c.if-n-i.true) in record { number = ap (λ (m : Missing). m.number) e; outside = tt; zero = tt }
 
 pub row_at-requires : goal.row_at-requires
 row_at-requires c = let r = room_for c.args.state.now (λ j. omega (arith, c.shared_slice_known-1.given j)) c.args.n c.requires in omega arith

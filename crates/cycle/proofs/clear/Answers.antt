@@ -9,12 +9,6 @@ use Rattle.cycle.proofs.clear.Goals as goal
 pub loop-i-init : goal.loop-i-init
 loop-i-init c = (omega arith, refl)
 
-pub overflow_sub-i : goal.overflow_sub-i
-overflow_sub-i c = omega arith
-
-pub loop-i-smaller-then-found : goal.loop-i-smaller-then-found
-loop-i-smaller-then-found c = omega arith
-
 pub loop-i-preserved-then-found : goal.loop-i-preserved-then-found
 loop-i-preserved-then-found c = (omega arith, going c.args.depth c.loop-i.i (c.loop-i.i - 1) c.loop-i.graph true c.loop-i.graph (omega arith) refl (found_clear c.args.depth (c.loop-i.i - 1) c.loop-i.graph (sym c.found.ensures ∙ c.if-found.true)) refl ∙ c.loop-i.invariant.1)
 
@@ -23,9 +17,6 @@ follow-requires c = omega arith
 
 pub returns-then-not-follow : goal.returns-then-not-follow
 returns-then-not-follow c = blocked c.args.depth c.loop-i.i (c.loop-i.i - 1) c.loop-i.graph c.follow.result c.follow.new.graph (omega arith) refl c.follow.ensures c.if-not-follow.true-raw ∙ c.loop-i.invariant.1
-
-pub loop-i-smaller : goal.loop-i-smaller
-loop-i-smaller c = omega arith
 
 pub loop-i-preserved : goal.loop-i-preserved
 loop-i-preserved c = (omega arith, going c.args.depth c.loop-i.i (c.loop-i.i - 1) c.loop-i.graph c.follow.result c.follow.new.graph (omega arith) refl c.follow.ensures c.if-not-follow.false-raw ∙ c.loop-i.invariant.1)

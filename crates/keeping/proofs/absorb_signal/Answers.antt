@@ -1,6 +1,5 @@
 -- `keeping::absorb_signal` meets its contract.
-use Rattle.queue.specs.Found.{as_option}
 use Rattle.keeping.proofs.absorb_signal.Goals as goal
 
 pub returns : goal.returns
-returns c = λ g es. let k = c.args.k in let e = c.held_latest-prev.ensures in let d = c.held_latest-prevb.ensures in λ i. record { prev = e i; prev_b = d i; since = k.since; value = as_option k.value; prior = as_option k.prior }
+returns c = λ g es. let k = c.args.k in let e = c.held_latest-prev.ensures in let d = c.held_latest-prevb.ensures in λ i. record { prev = e i; prev_b = d i; since = k.since; value = k.value; prior = k.prior }

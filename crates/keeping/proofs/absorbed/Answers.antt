@@ -1,5 +1,6 @@
 -- `keeping::absorbed` meets its contract.
-use mathlib.Core.Path.{sym, ap, ◌∙◌}
+use mathlib.Core.Logic.{inl, inr}
+use mathlib.Core.Path.{◌≡◌, sym, ap, ◌∙◌}
 use Rattle.meaning.specs.Plan.{add, last, delay, signal}
 use Rattle.layout.specs.Record.{dec_raw}
 use Rattle.encoding.specs.Back.{to_cell}
@@ -9,21 +10,6 @@ use Rattle.keeping.specs.Keep.{moved_of}
 use Rattle.machine.specs.Step as machine
 use Rattle.keeping.proofs.Laws as law
 use Rattle.keeping.proofs.absorbed.Goals as goal
-
-pub returns-in-In : goal.returns-in-In
-returns-in-In c = let x = c.args in let o = moved_of x.k x.y x.o.now in let A = look_of (dec_raw x.a.now) in let B = look_of (dec_raw x.b.now) in ap (λ (p : Op). machine.absorb (equation p) o A B) (sym c.in-In.is)
-
-pub returns-in-Nil : goal.returns-in-Nil
-returns-in-Nil c = let x = c.args in let o = moved_of x.k x.y x.o.now in let A = look_of (dec_raw x.a.now) in let B = look_of (dec_raw x.b.now) in ap (λ (p : Op). machine.absorb (equation p) o A B) (sym c.in-Nil.is)
-
-pub returns-in-Unit : goal.returns-in-Unit
-returns-in-Unit c = let x = c.args in let o = moved_of x.k x.y x.o.now in let A = look_of (dec_raw x.a.now) in let B = look_of (dec_raw x.b.now) in ap (λ (p : Op). machine.absorb (equation p) o A B) (sym c.in-Unit.is)
-
-pub returns-in-One : goal.returns-in-One
-returns-in-One c = let x = c.args in let o = moved_of x.k x.y x.o.now in let A = look_of (dec_raw x.a.now) in let B = look_of (dec_raw x.b.now) in ap (λ (p : Op). machine.absorb (equation p) o A B) (sym c.in-One.is)
-
-pub returns-in-Two : goal.returns-in-Two
-returns-in-Two c = let x = c.args in let o = moved_of x.k x.y x.o.now in let A = look_of (dec_raw x.a.now) in let B = look_of (dec_raw x.b.now) in ap (λ (p : Op). machine.absorb (equation p) o A B) (sym c.in-Two.is)
 
 pub returns-in-Last : goal.returns-in-Last
 unfolding look_of to_cell
@@ -37,5 +23,5 @@ pub returns-in-Signal : goal.returns-in-Signal
 unfolding look_of to_cell
 returns-in-Signal c = let x = c.args in let o = moved_of x.k x.y x.o.now in let A = look_of (dec_raw x.a.now) in let B = look_of (dec_raw x.b.now) in c.absorb_signal.ensures add o.held ∙ law.absorb_near (signal add 0 0) o A B 0 0 ∙ ap (λ (p : Op). machine.absorb (equation p) o A B) (sym c.in-Signal.is)
 
-pub returns-in-Window : goal.returns-in-Window
-returns-in-Window c = let x = c.args in let o = moved_of x.k x.y x.o.now in let A = look_of (dec_raw x.a.now) in let B = look_of (dec_raw x.b.now) in ap (λ (p : Op). machine.absorb (equation p) o A B) (sym c.in-Window.is)
+pub returns-in-In : goal.returns-in-In
+returns-in-In c = let x = c.args in let o = moved_of x.k x.y x.o.now in let A = look_of (dec_raw x.a.now) in let B = look_of (dec_raw x.b.now) in let f = λ (q : Op) (e : x.op ≡ q). ap (λ (p : Op). machine.absorb (equation p) o A B) (sym e) in elim c.in-In.is [ inl e ↦ f _ e | inr (inl e) ↦ f _ e | inr (inr (inl e)) ↦ f _ e | inr (inr (inr (inl e))) ↦ f _ e.2 | inr (inr (inr (inr (inl e)))) ↦ f _ e.3 | inr (inr (inr (inr (inr e)))) ↦ f _ e.3 ]

@@ -1,31 +1,11 @@
-use Prim.Native.Nat.{◌+◌, ◌-◌}
-use mathlib.Core.Path.{refl, ◌∙◌}
+-- `le::clear` meets its contract.
+use Prim.Native.Nat.{ℕ, ◌+◌, ◌-◌}
 use native.Mathlib.Omega.{arith}
-use native.Mathlib.Nat.{add-zero, sub-zero}
-use lib.ListN.{length-set}
-use Rattle.le.proofs.Laws.{clear_turn, clear_done}
+use mathlib.Core.Path.{ap, ◌∙◌}
+use lib.ListN.{replicate, length-replicate}
+use Rattle.std.proofs.Common.{rules}
+use Rattle.le.proofs.Laws.{put_part}
 use Rattle.le.proofs.clear.Goals as goal
 
-pub loop-i-init : goal.loop-i-init
-loop-i-init c = (omega arith, refl, simp (add-zero, sub-zero))
-
-pub overflow_add-s : goal.overflow_add-s
-overflow_add-s c = omega arith
-
-pub bounds-s-at : goal.bounds-s-at
-bounds-s-at c = omega arith
-
-pub overflow_add-i : goal.overflow_add-i
-overflow_add-i c = omega arith
-
-pub loop-i-smaller : goal.loop-i-smaller
-loop-i-smaller c = omega arith
-
-pub loop-i-preserved : goal.loop-i-preserved
-loop-i-preserved c = (omega arith, simp length-set (omega arith), clear_turn _ _ _ _ c.loop-i-test.true ∙ c.loop-i.invariant.2)
-
 pub returns : goal.returns
-returns c =
-    let l = c.loop-i in
-    let a = c.args in
-    clear_done _ _ (a.at + l.i) (a.n - l.i) (omega arith) l.invariant.2
+returns c = put_part c.args.s.now c.fill.new.self (replicate c.args.n 0) c.args.at (c.args.at + c.args.n - c.args.at) (c.fill.ensures.after (search rules) ∙ ap (λ (k : ℕ). replicate k 0) (omega arith)) (length-replicate c.args.n 0 ∙ omega arith) (omega arith)

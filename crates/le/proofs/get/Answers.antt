@@ -8,28 +8,16 @@ loop-i-init c =
     let a = c.args in
     (omega arith, get_none a.s.now (a.at + a.n) (a.n - a.n) (omega arith))
 
-pub overflow_sub-i : goal.overflow_sub-i
-overflow_sub-i c = omega arith
-
 pub overflow_mul-r : goal.overflow_mul-r
 overflow_mul-r c =
     let a = c.args in
     omega (arith, part_lt a.s.now (a.at + c.loop-i.i) (a.n - c.loop-i.i) (λ j. omega (arith, c.shared_slice_known-1.given j)) (omega arith))
-
-pub overflow_add-at : goal.overflow_add-at
-overflow_add-at c = omega arith
-
-pub bounds-s-at : goal.bounds-s-at
-bounds-s-at c = omega arith
 
 pub overflow_add-r : goal.overflow_add-r
 overflow_add-r c =
     let l = c in
     let a = l.args in
     omega (arith, part_lt a.s.now (a.at + l.loop-i.i) (a.n - l.loop-i.i) (λ j. omega (arith, l.shared_slice_known-1.given j)) (omega arith))
-
-pub loop-i-smaller : goal.loop-i-smaller
-loop-i-smaller c = omega arith
 
 pub loop-i-preserved : goal.loop-i-preserved
 loop-i-preserved c =

@@ -7,6 +7,3 @@ use Rattle.le.proofs.put.Given as goal
 
 abbrev pub invariant-loop-i : goal.invariant-loop-i
 invariant-loop-i l = (l.i ≤ l.n) × (length l.s ≡ length l.initial.s) × (sets l.s (l.at + l.i) (enc (l.n - l.i) l.w) ≡ sets l.initial.s l.at (enc l.n l.v))
-
-abbrev pub decreases-loop-i : goal.decreases-loop-i
-decreases-loop-i l = l.n - l.i

@@ -1,20 +1,12 @@
-use mathlib.Core.Path.{refl, sym, ◌∙◌}
-use lib.ListN.{get_or}
-use native.Mathlib.Omega.{arith}
-use Rattle.le.proofs.AllZero
+-- `le::zeros_singly` meets its contract.
+use Rattle.std.proofs.Common.{rules, length-drop, take_all}
+use Rattle.std.proofs.lemmas.Iterator.{cases_from_all, YieldsList-from_slice}
+use borrow.Author.Tests.{tests}
+use mathlib.Core.Path.{◌≡◌, ◌∙◌}
+use lib.ListN.{drop, length}
+use Prim.Native.Nat.{◌-◌}
+use Rattle.le.proofs.AllZero.{zero_all}
 use Rattle.le.proofs.zeros_singly.Goals as goal
 
-pub loop-i-init : goal.loop-i-init
-loop-i-init c = (omega arith, omega arith, refl)
-
-pub returns-then-s-i-ne0 : goal.returns-then-s-i-ne0
-returns-then-s-i-ne0 c = AllZero.zero_not c.args.s.now c.loop-i.i 1 (get_or c.args.s.now c.loop-i.i 0) (sym (AllZero.zero_one c.args.s.now c.loop-i.i (omega arith))) c.if-s-i-ne0.true ∙ c.loop-i.invariant.2
-
-pub loop-i-smaller : goal.loop-i-smaller
-loop-i-smaller c = omega arith
-
-pub loop-i-preserved : goal.loop-i-preserved
-loop-i-preserved c = (omega arith, omega arith, AllZero.zero_turn c.args.s.now c.loop-i.i 1 (get_or c.args.s.now c.loop-i.i 0) (sym (AllZero.zero_one c.args.s.now c.loop-i.i (omega arith))) c.if-s-i-ne0.false ∙ c.loop-i.invariant.2)
-
 pub returns : goal.returns
-returns c = sym (AllZero.zero_end c.args.s.now c.loop-i.i (omega arith)) ∙ c.loop-i.invariant.2
+returns c = zero_all c.all.result (drop c.args.at c.args.s.now) (cases_from_all _ _ _ (λ x. x ≡ 0) (λ x. x ≡ 0 → ⊥) c.all.ensures.ran (YieldsList-from_slice (drop c.args.at c.args.s.now) (c.iter.ensures.rest ∙ take_all (length c.args.s.now - c.args.at) (drop c.args.at c.args.s.now) (search (rules, length-drop)))) (λ x q k. search (rules, tests)) (λ x q k. search (rules, tests)))

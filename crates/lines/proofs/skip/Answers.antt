@@ -1,35 +1,19 @@
 -- `lines::skip` meets its contract.
-use mathlib.Core.Path.{refl, ◌∙◌}
+use mathlib.Core.Path.{◌∙◌}
 use Rattle.lines.proofs.Turns.{skip_past, skip_other, skip_go, skip_end}
 use native.Mathlib.Omega.{arith}
+use Rattle.lines.proofs.skip.Goals.{then-text-p-via-then-text-p, then-text-p-via-else-text-p+then-text-p-2}
 use Rattle.lines.proofs.skip.Goals as goal
 
-pub loop-i-init : goal.loop-i-init
-loop-i-init c = (omega arith, refl)
-
 pub returns-then-text-p : goal.returns-then-text-p
-returns-then-text-p c = skip_past c.args.text.now c.loop-i.p c.args.word.now c.loop-i.i (omega arith) (omega arith) ∙ c.loop-i.invariant.1
+returns-then-text-p c =
+    elim c.then-text-p.branch [
+      | then-text-p-via-then-text-p w ↦ skip_past c.args.text.now c.loop-c.p c.args.word.now c.loop-c.c-index c.loop-c-test.true w.if-text-p.true ∙ c.loop-c.invariant
+      | then-text-p-via-else-text-p+then-text-p-2 w ↦ skip_other c.args.text.now c.loop-c.p c.args.word.now c.loop-c.c-index c.loop-c-test.true w.if-text-p.false w.if-text-p-2.true ∙ c.loop-c.invariant
+    ]
 
-pub bounds-text-p : goal.bounds-text-p
-bounds-text-p c = omega arith
-
-pub bounds-word-i : goal.bounds-word-i
-bounds-word-i c = omega arith
-
-pub returns-then-text-p-2 : goal.returns-then-text-p-2
-returns-then-text-p-2 c = skip_other c.args.text.now c.loop-i.p c.args.word.now c.loop-i.i (omega arith) (omega arith) c.if-text-p-2.true ∙ c.loop-i.invariant.1
-
-pub overflow_add-p : goal.overflow_add-p
-overflow_add-p c = omega arith
-
-pub overflow_add-i : goal.overflow_add-i
-overflow_add-i c = omega arith
-
-pub loop-i-smaller : goal.loop-i-smaller
-loop-i-smaller c = omega arith
-
-pub loop-i-preserved : goal.loop-i-preserved
-loop-i-preserved c = (omega arith, skip_go c.args.text.now c.loop-i.p c.args.word.now c.loop-i.i (omega arith) (omega arith) c.if-text-p-2.false ∙ c.loop-i.invariant.1)
+pub loop-c-preserved : goal.loop-c-preserved
+loop-c-preserved c = skip_go c.args.text.now c.loop-c.p c.args.word.now c.loop-c.c-index c.loop-c-test.true c.if-text-p.false c.if-text-p-2.false ∙ c.loop-c.invariant
 
 pub returns : goal.returns
-returns c = skip_end c.args.text.now c.loop-i.p c.args.word.now c.loop-i.i (omega arith) ∙ c.loop-i.invariant.1
+returns c = skip_end c.args.text.now c.loop-c.p c.args.word.now c.loop-c.c-index (omega arith) ∙ c.loop-c.invariant

@@ -12,37 +12,16 @@ use Rattle.load.proofs.Passes
 use Rattle.load.proofs.write.Goals as goal
 
 pub loop-i-init : goal.loop-i-init
-loop-i-init c = (omega arith, refl, (λ j. omega (arith, c.slice_known-1.given j)), simp sub-zero)
-
-pub overflow_mul-start : goal.overflow_mul-start
-overflow_mul-start c = omega arith
-
-pub overflow_add-end : goal.overflow_add-end
-overflow_add-end c = omega arith
-
-pub slice_bounds-store-count : goal.slice_bounds-store-count
-slice_bounds-store-count c = omega arith
-
-pub slice_bounds-store-start : goal.slice_bounds-store-start
-slice_bounds-store-start c = omega arith
-
-pub slice_bounds-store-end : goal.slice_bounds-store-end
-slice_bounds-store-end c = omega arith
+loop-i-init c = (refl, (λ j. omega (arith, c.type_inv.state j)), simp sub-zero)
 
 pub store-requires : goal.store-requires
 store-requires c = let a = c.args in let l = c.loop-i in let k = l.i * 256 + 256 - l.i * 256 in row_len a.n l.state l.i (omega arith) (omega arith)
 
-pub overflow_add-i : goal.overflow_add-i
-overflow_add-i c = omega arith
-
-pub loop-i-smaller : goal.loop-i-smaller
-loop-i-smaller c = omega arith
-
 pub loop-i-preserved : goal.loop-i-preserved
-loop-i-preserved c = let a = c.args in let l = c.loop-i in let k = l.i * 256 + 256 - l.i * 256 in let q = c.store.new.r in let f = c.in-Stream.f in let e = c.read_stream.ensures in let lq : length q ≡ 256 = ap length c.store.ensures ∙ raw_len (stored f (dec_raw (mid_of (l.i * 256) k l.state))) in (omega arith, same_len_mid (l.i * 256) k l.state q (lq ∙ sym (row_len a.n l.state l.i (omega arith) (omega arith))) ∙ l.invariant.1, (λ j. omega (arith, c.slice_known-in-Stream-1.given j)), ap (encode a.n) (Passes.write_turn a.n a.text.now l.state q l.p l.i k f (omega arith) (omega arith) (omega arith) (omega arith) l.invariant.2 (omega arith) (sym e ∙ c.in-Stream.is) c.store.ensures) ∙ l.invariant.3)
+loop-i-preserved c = let a = c.args in let l = c.loop-i in let k = l.i * 256 + 256 - l.i * 256 in let q = c.store.new.r in let f = c.in-Ok.f in let lq : length q ≡ 256 = ap length c.store.ensures ∙ raw_len (stored f (dec_raw (mid_of (l.i * 256) k l.state))) in (same_len_mid (l.i * 256) k l.state q (lq ∙ sym (row_len a.n l.state l.i (omega arith) (omega arith))) ∙ l.invariant.0, (λ j. omega (arith, c.type_inv.state j)), ap (encode a.n) (Passes.write_turn a.n a.text.now l.state q l.p l.i k f (omega arith) (omega arith) (omega arith) (omega arith) l.invariant.1 (omega arith) (sym c.in-Ok.ensures) c.store.ensures) ∙ l.invariant.2)
 
-pub returns-in-Refused : goal.returns-in-Refused
-returns-in-Refused c = let a = c.args in let l = c.loop-i in sym (encode_decode a.n l.state (omega (arith, l.invariant.1)) l.invariant.2) ∙ ap (encode a.n) (sym (Passes.write_halt a.text.now l.p (a.n - l.i) l.i c.in-Refused.field-0 (decode a.n l.state) (omega arith) (sym c.read_stream.ensures ∙ c.in-Refused.is))) ∙ l.invariant.3
+pub returns-in_default : goal.returns-in_default
+returns-in_default c = let a = c.args in let l = c.loop-i in sym (encode_decode a.n l.state (omega (arith, l.invariant.0)) l.invariant.1) ∙ ap (encode a.n) (sym (Passes.write_halt a.text.now l.p (a.n - l.i) l.i c.in_default.field-0 (decode a.n l.state) (omega arith) (sym c.in_default.ensures))) ∙ l.invariant.2
 
 pub returns : goal.returns
-returns c = let a = c.args in let l = c.loop-i in sym (encode_decode a.n l.state (omega (arith, l.invariant.1)) l.invariant.2) ∙ ap (encode a.n) (sym (Passes.write_end a.text.now l.p (a.n - l.i) l.i (decode a.n l.state) (omega arith))) ∙ l.invariant.3
+returns c = let a = c.args in let l = c.loop-i in sym (encode_decode a.n l.state (omega (arith, l.invariant.0)) l.invariant.1) ∙ ap (encode a.n) (sym (Passes.write_end a.text.now l.p (a.n - l.i) l.i (decode a.n l.state) (omega arith))) ∙ l.invariant.2

@@ -1,7 +1,6 @@
 -- `marks::pass` meets its contract.
-use mathlib.Core.Path.{refl, sym, ◌∙◌, subst}
+use mathlib.Core.Path.{refl, ◌∙◌}
 use native.Mathlib.Nat.{sub-zero}
-use Rattle.marks.specs.Marks.{Grown}
 use Rattle.marks.proofs.Grown.{grown_none, grown_both, passed_go, passed_end}
 use native.Mathlib.Omega.{arith}
 use Rattle.marks.proofs.pass.Goals as goal
@@ -12,14 +11,8 @@ loop-i-init c = (omega arith, (simp sub-zero, (grown_none c.args.marks.now, refl
 pub turn-more-requires : goal.turn-more-requires
 turn-more-requires c = omega arith
 
-pub overflow_add-i : goal.overflow_add-i
-overflow_add-i c = omega arith
-
-pub loop-i-smaller : goal.loop-i-smaller
-loop-i-smaller c = omega arith
-
 pub loop-i-preserved : goal.loop-i-preserved
-loop-i-preserved c = (omega arith, (passed_go c.args.graph.now c.args.n c.loop-i.i c.loop-i.marks (omega arith) c.turn-more.new.marks c.turn-more.ensures.marks_after ∙ c.loop-i.invariant.1.0, (subst (Grown c.args.marks.now c.turn-more.new.marks) (sym c.either-new.ensures) (grown_both c.loop-i.new c.turn-more.result c.loop-i.invariant.1.1.0 c.turn-more.ensures.grown), c.turn-more.auto.marks ∙ c.loop-i.invariant.1.1.1)))
+loop-i-preserved c = (omega arith, (passed_go c.args.graph.now c.args.n c.loop-i.i c.loop-i.marks (omega arith) c.turn-more.new.marks c.turn-more.ensures.marks_after ∙ c.loop-i.invariant.1.0, (grown_both c.loop-i.new c.turn-more.result c.loop-i.invariant.1.1.0 c.turn-more.ensures.grown, c.turn-more.auto.marks ∙ c.loop-i.invariant.1.1.1)))
 
 pub returns : goal.returns
 returns c = record { marks_after = passed_end c.args.graph.now c.args.n c.loop-i.i c.loop-i.marks (omega arith) ∙ c.loop-i.invariant.1.0; grown = c.loop-i.invariant.1.1.0 }

@@ -1,11 +1,11 @@
+-- `num::add` meets its contract.
 use mathlib.Core.Path.{ap, ap₂, ◌∙◌}
 use mir.Facts.{to_z-of_z}
 use lib.IntN.{◌+ℤ◌}
 use Rattle.num.specs.Arithmetic.{fit, added}
+use Rattle.num.proofs.Arith.{checked}
 use Rattle.num.proofs.add.Goals as goal
 
 pub returns : goal.returns
 unfolding added
-returns c =
-    let a = c in
-    c.sum.ensures ∙ ap fit (ap₂ ◌+ℤ◌ (c.split.ensures.0 ∙ to_z-of_z a.ranges.a) (c.split-2.ensures.0 ∙ to_z-of_z a.ranges.b))
+returns c = c.ok_or.ensures.value ∙ checked c.checked_add.result _ c.checked_add.ensures ∙ ap fit (ap₂ ◌+ℤ◌ (to_z-of_z c.ranges.a) (to_z-of_z c.ranges.b))

@@ -5,14 +5,14 @@ use Rattle.operators.proofs.Laws.{lacks_range}
 use native.Mathlib.Omega.{arith}
 use Rattle.operators.proofs.can_lack.Goals as goal
 
-pub returns-in-28 : goal.returns-in-28
-returns-in-28 c = let n = c.args.number in let e : n ≡ 28 = omega arith in sym (lacks_range n ∙ rw e)
-
 pub returns-in-6-to-12 : goal.returns-in-6-to-12
-returns-in-6-to-12 c = let n = c.args.number in sym (lacks_range n ∙ rw (le-leb 6 n (omega arith), le-leb n 12 (omega arith)))
+returns-in-6-to-12 c = let n = c.args.number in let e : n ≡ 28 = omega arith in sym (lacks_range n ∙ rw e)
 
-pub returns-in-20-to-24 : goal.returns-in-20-to-24
-returns-in-20-to-24 c =
+pub returns-in-6-to-12-2 : goal.returns-in-6-to-12-2
+returns-in-6-to-12-2 c = let n = c.args.number in sym (lacks_range n ∙ rw (le-leb 6 n (omega arith), le-leb n 12 (omega arith)))
+
+pub returns-in-6-to-12-3 : goal.returns-in-6-to-12-3
+returns-in-6-to-12-3 c =
     let n = c.args.number in
     sym (lacks_range n ∙ rw (lt-leb n 12 (omega arith), le-leb 6 n (omega arith), le-leb 20 n (omega arith), le-leb n 24 (omega arith)))
 

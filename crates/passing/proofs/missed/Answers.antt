@@ -16,8 +16,6 @@ use Rattle.sliding.specs.Slide.{width_in, missing_row}
 use Rattle.passing.specs.Pass.{arg_in, summed_for, missed_raw}
 use native.Mathlib.Omega.{arith}
 use Rattle.passing.proofs.Counts as law
-use Rattle.streams.proofs.first.Reads as first_reads
-use Rattle.streams.proofs.second.Reads as second_reads
 use Rattle.passing.proofs.missed.Goals as goal
 
 pub returns-in-Window : goal.returns-in-Window

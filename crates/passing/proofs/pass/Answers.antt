@@ -1,7 +1,6 @@
 -- `passing::pass` meets its contract.
 use Rattle.streams.specs.Look.{equation, kept_in}
 use native.Mathlib.Omega.{arith}
-use Rattle.passing.proofs.Counts as law
 use Rattle.passing.proofs.Steps
 use Rattle.passing.proofs.pass.Goals as goal
 

@@ -1,6 +1,6 @@
-use Prim.Native.Nat.{◌-◌, ◌≤◌, ◌<◌}
+use Prim.Native.Nat.{◌≤◌, ◌<◌}
 use mathlib.Core.Path.{◌≡◌, sym, ◌∙◌}
-use mathlib.Core.Bool.{true, false}
+use mathlib.Core.Bool.{false}
 use native.Mathlib.Nat.{zero-add, sub-zero}
 use lib.ListN.{get_or}
 use Rattle.layout.specs.Record.{no_slot, dec_raw, decode}
@@ -36,12 +36,6 @@ uncollected-requires c = c.row_at-r.ensures.1
 
 pub returns-then-uncollected : goal.returns-then-uncollected
 returns-then-uncollected c = let a = c.args in let l = c.loop-j in let p = a.state.now in let q = c.row_at-r.result.now in let sl = (dec_raw q).slots in let w = waited a.n p q a.i in let m = c.count-m.result in let few = c.count-m.ensures.1 in let many = slots_many q in let t = c.stamp_at-t.result in let ht = c.stamp_at-t.ensures.1 in let e : t ≡ (get_or sl l.j no_slot).stamp = c.stamp_at-t.ensures.0 in let low : w ≤ t = Tests.waits_collected (least_row a.i (decode a.n p).rows) t (dec_raw q) (sym c.uncollected.ensures ∙ c.if-uncollected.true) in (Tests.free_is a.n p q a.i (omega arith) c.row_at-r.ensures.0 m l.j c.count-m.ensures.0 (Drops.below_stop w m l.j sl (omega arith) (omega arith) l.invariant.1 (omega arith)), let x = Tests.held_is a.n p q a.i (omega arith) c.row_at-r.ensures.0 m c.count-m.ensures.0 in omega arith)
-
-pub overflow_add-j : goal.overflow_add-j
-overflow_add-j c = omega arith
-
-pub loop-j-smaller : goal.loop-j-smaller
-loop-j-smaller c = omega arith
 
 pub loop-j-preserved : goal.loop-j-preserved
 loop-j-preserved c = let a = c.args in let l = c.loop-j in let p = a.state.now in let q = c.row_at-r.result.now in let sl = (dec_raw q).slots in let w = waited a.n p q a.i in let m = c.count-m.result in let few = c.count-m.ensures.1 in let many = slots_many q in let t = c.stamp_at-t.result in let ht = c.stamp_at-t.ensures.1 in let e : t ≡ (get_or sl l.j no_slot).stamp = c.stamp_at-t.ensures.0 in let high : t < w = Tests.nobody_waits (least_row a.i (decode a.n p).rows) t (dec_raw q) (Tests.no_reader a.n p a.i t (omega arith) (λ x. absurd (is_true false (sym c.if-some_waits.false ∙ c.some_waits.ensures.all x)))) (sym c.uncollected.ensures ∙ c.if-uncollected.false) in (omega arith, Drops.below_go w m l.j sl (omega arith) (omega arith) l.invariant.1 (omega arith))

@@ -8,6 +8,3 @@ use Rattle.plain.proofs.free.Given as goal
 
 abbrev pub invariant-loop-j : goal.invariant-loop-j
 invariant-loop-j l = (l.j ≤ l.m) × (l.j + below (waited l.n l.state l.r l.i) (l.m - l.j) (drop l.j (dec_raw l.r).slots) ≡ below (waited l.n l.state l.r l.i) l.m (dec_raw l.r).slots)
-
-abbrev pub decreases-loop-j : goal.decreases-loop-j
-decreases-loop-j l = l.m - l.j

@@ -1,6 +1,5 @@
 use Rattle.meaning.proofs.Tests.{is_true}
 use mathlib.Core.Bool.{false}
-use Prim.Native.Nat.{◌-◌}
 use mathlib.Core.Path.{refl, sym, ◌∙◌}
 use native.Mathlib.Omega.{arith}
 use Rattle.plain.proofs.Tests
@@ -17,12 +16,6 @@ waits-requires c = c.row_at.ensures.1
 
 pub returns-then-waits : goal.returns-then-waits
 returns-then-waits c = let a = c.args in let l = c.loop-i in let q = c.row_at.result.now in let x = Tests.one_waits a.s a.t a.n a.state.now q l.i (omega arith) c.row_at.ensures.0 (sym c.waits.ensures ∙ c.if-waits.true) in record { one = (λ e. x); all = λ y. refl }
-
-pub overflow_add-i : goal.overflow_add-i
-overflow_add-i c = omega arith
-
-pub loop-i-smaller : goal.loop-i-smaller
-loop-i-smaller c = omega arith
 
 pub loop-i-preserved : goal.loop-i-preserved
 loop-i-preserved c = let a = c.args in let l = c.loop-i in let q = c.row_at.result.now in (omega arith, Tests.none_more a.s a.t a.n a.state.now q l.i (omega arith) c.row_at.ensures.0 l.invariant.1 (sym c.waits.ensures ∙ c.if-waits.false))

@@ -1,6 +1,5 @@
 -- `plan::note_stream` meets its contract.
 use mathlib.Core.Path.{sym, ◌∙◌}
-use borrow.Author.Tests.{not-true, not-false}
 use Rattle.plan.proofs.Pass.{noted_kept, noted_broken}
 use lib.Dec.{lit<}
 use Rattle.operators.proofs.Rules.{arg_small, first_ok, second_ok}
@@ -9,13 +8,13 @@ use native.Mathlib.Omega.{arith}
 use Rattle.plan.proofs.note_stream.Goals as goal
 
 pub returns-then-not-keeps : goal.returns-then-not-keeps
-returns-then-not-keeps c = record { value = sym (sym c.keeps.ensures ∙ not-true c.keeps.result c.if-not-keeps.true-raw); graph_after = noted_broken c.args.n c.args.i c.args.f c.args.graph.now (sym c.keeps.ensures ∙ not-true c.keeps.result c.if-not-keeps.true-raw) }
+returns-then-not-keeps c = record { value = sym (sym c.keeps.ensures ∙ c.if-not-keeps.true); graph_after = noted_broken c.args.n c.args.i c.args.f c.args.graph.now (sym c.keeps.ensures ∙ c.if-not-keeps.true) }
 
 pub overflow_cast-f : goal.overflow_cast-f
-overflow_cast-f c = omega (arith, arg_small (uses_a c.args.f.op) c.args.n c.args.f.a (first_ok c.args.n c.args.f.op c.args.f.a c.args.f.b c.args.f.k c.args.f.out (sym c.keeps.ensures ∙ not-false c.keeps.result c.if-not-keeps.false-raw)) 256 (lit< tt) (omega arith))
+overflow_cast-f c = omega (arith, arg_small (uses_a c.args.f.op) c.args.n c.args.f.a (first_ok c.args.n c.args.f.op c.args.f.a c.args.f.b c.args.f.k c.args.f.out (sym c.keeps.ensures ∙ c.if-not-keeps.false)) 256 (lit< tt) (omega arith))
 
 pub overflow_cast-f-2 : goal.overflow_cast-f-2
-overflow_cast-f-2 c = omega (arith, arg_small (uses_b c.args.f.op) c.args.n c.args.f.b (second_ok c.args.n c.args.f.op c.args.f.a c.args.f.b c.args.f.k c.args.f.out (sym c.keeps.ensures ∙ not-false c.keeps.result c.if-not-keeps.false-raw)) 256 (lit< tt) (omega arith))
+overflow_cast-f-2 c = omega (arith, arg_small (uses_b c.args.f.op) c.args.n c.args.f.b (second_ok c.args.n c.args.f.op c.args.f.a c.args.f.b c.args.f.k c.args.f.out (sym c.keeps.ensures ∙ c.if-not-keeps.false)) 256 (lit< tt) (omega arith))
 
 pub returns : goal.returns
-returns c = record { value = sym (sym c.keeps.ensures ∙ not-false c.keeps.result c.if-not-keeps.false-raw); graph_after = c.note.ensures ∙ noted_kept c.args.n c.args.i c.args.f c.args.graph.now (sym c.keeps.ensures ∙ not-false c.keeps.result c.if-not-keeps.false-raw) }
+returns c = record { value = sym (sym c.keeps.ensures ∙ c.if-not-keeps.false); graph_after = c.note.ensures ∙ noted_kept c.args.n c.args.i c.args.f c.args.graph.now (sym c.keeps.ensures ∙ c.if-not-keeps.false) }

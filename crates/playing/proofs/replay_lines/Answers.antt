@@ -6,7 +6,7 @@ use Rattle.chunks.proofs.Held.{window_next}
 use Rattle.playing.proofs.Hand.{between_none, between_more, between_bad}
 use native.Mathlib.Omega.{arith}
 use Rattle.playing.proofs.replay_lines.Goals as goal
-use Rattle.playing.proofs.replay_lines.Goals.{then-text-from-lt-LINE+else-not-last, else-text-from-lt-LINE}
+use Rattle.playing.proofs.replay_lines.Goals.{else-text-from-lt-LINE-via-then-text-from-lt-LINE+else-not-last, else-text-from-lt-LINE-via-else-text-from-lt-LINE}
 
 pub loop-from-init : goal.loop-from-init
 loop-from-init g c = (omega arith, refl, between_none c.args.n c.args.text.now c.args.at c.args.last c.args.first c.args.state.now (omega arith))
@@ -23,17 +23,17 @@ returns-then-not-last g c = (c.loop-from.invariant.0, λ q. absurd (true≢false
 pub replay_line-requires : goal.replay_line-requires
 replay_line-requires g c = let e = c.loop-from.invariant.1 in let h = c.requires.0 in omega arith
 
-pub shape_of-state-in_default : goal.shape_of-state-in_default
-shape_of-state-in_default g c = c.replay_line.auto.state ∙ c.loop-from.invariant.1
+pub shape_of-state-in_err-next : goal.shape_of-state-in_err-next
+shape_of-state-in_err-next g c = c.replay_line.auto.state ∙ c.loop-from.invariant.1
 
-pub returns-in_default : goal.returns-in_default
-returns-in_default g c = between_bad c.loop-from-test.true (elim c.if-text-from-lt-LINE.branch [ then-text-from-lt-LINE+else-not-last w ↦ inr (w.if-not-last.false) | else-text-from-lt-LINE w ↦ inl (let z = w.if-text-from-lt-LINE in omega arith) ]) c.loop-from.invariant.2 (sym c.replay_line.ensures.found ∙ c.in_default.is) (rw c.in_default.is at c.replay_line.ensures.follows)
+pub returns-in_err-next : goal.returns-in_err-next
+returns-in_err-next g c = rw c.from_residual.ensures (between_bad c.loop-from-test.true (elim c.else-text-from-lt-LINE.branch [ else-text-from-lt-LINE-via-then-text-from-lt-LINE+else-not-last w ↦ inr (w.if-not-last.false) | else-text-from-lt-LINE-via-else-text-from-lt-LINE w ↦ inl (let z = w.if-text-from-lt-LINE in omega arith) ]) c.loop-from.invariant.2 (sym c.in_err-next.ensures.found) c.in_err-next.ensures.follows)
 
 pub loop-from-smaller : goal.loop-from-smaller
-loop-from-smaller g c = let w = window_next c.args.text.now c.loop-from.from c.loop-from.invariant.0 c.in-Read.field-0 c.in-Read.next (sym c.replay_line.ensures.found ∙ c.in-Read.is) in let a = w.0 in let b = w.1 in omega arith
+loop-from-smaller g c = let w = window_next c.args.text.now c.loop-from.from c.loop-from.invariant.0 c.in_ok-next.field-0-0 c.in_ok-next.next (sym c.in_ok-next.ensures.found) in let a = w.0 in let b = w.1 in omega arith
 
 pub loop-from-preserved : goal.loop-from-preserved
-loop-from-preserved g c = let w = window_next c.args.text.now c.loop-from.from c.loop-from.invariant.0 c.in-Read.field-0 c.in-Read.next (sym c.replay_line.ensures.found ∙ c.in-Read.is) in (w.1, c.replay_line.auto.state ∙ c.loop-from.invariant.1, between_more c.loop-from.invariant.0 (elim c.if-text-from-lt-LINE.branch [ then-text-from-lt-LINE+else-not-last w ↦ inr (w.if-not-last.false) | else-text-from-lt-LINE w ↦ inl (let z = w.if-text-from-lt-LINE in omega arith) ]) c.loop-from.invariant.2 c.in-Read.field-0 c.in-Read.next (sym c.replay_line.ensures.found ∙ c.in-Read.is) w.1 c.next_line-line.ensures (rw c.in-Read.is at c.replay_line.ensures.follows))
+loop-from-preserved g c = let w = window_next c.args.text.now c.loop-from.from c.loop-from.invariant.0 c.in_ok-next.field-0-0 c.in_ok-next.next (sym c.in_ok-next.ensures.found) in (w.1, c.replay_line.auto.state ∙ c.loop-from.invariant.1, between_more c.loop-from.invariant.0 (elim c.else-text-from-lt-LINE.branch [ else-text-from-lt-LINE-via-then-text-from-lt-LINE+else-not-last w ↦ inr (w.if-not-last.false) | else-text-from-lt-LINE-via-else-text-from-lt-LINE w ↦ inl (let z = w.if-text-from-lt-LINE in omega arith) ]) c.loop-from.invariant.2 c.in_ok-next.field-0-0 c.in_ok-next.next (sym c.in_ok-next.ensures.found) w.1 c.next_line-line.ensures c.in_ok-next.ensures.follows)
 
 pub shape_of-state : goal.shape_of-state
 shape_of-state g c = c.loop-from.invariant.1

@@ -1,6 +1,6 @@
 -- `playing::replay_trace` meets its contract.
 use mathlib.Core.Path.{refl, sym, ◌∙◌}
-use Rattle.playing.specs.declared.Left.TheVariants.{Part}
+use Rattle.std.specs.Prelude.{Some}
 use Rattle.playing.specs.Hand.{hand, Advances}
 use Rattle.playing.proofs.Hand.{onward_none, onward_then, onward_trailed, ended_trailed}
 use native.Mathlib.Omega.{arith}
@@ -29,7 +29,7 @@ pub loop-reads-smaller : goal.loop-reads-smaller
 loop-reads-smaller g c = omega arith
 
 pub loop-reads-preserved : goal.loop-reads-preserved
-loop-reads-preserved g c = let a : Advances c.args.n c.loop-reads.line (hand c.loop-reads.buffer c.loop-reads.from c.loop-reads.end) c.loop-reads.state (Part c.in-Part.p c.in-Part.e c.in-Part.l) c.advance.new.buffer c.advance.new.state = (rw c.in-Part.is at c.advance.ensures) in (a.0, a.1, c.loop-reads.invariant.2 ∙ sym c.advance.auto.buffer, c.advance.auto.state ∙ c.loop-reads.invariant.3, onward_then c.loop-reads.invariant.4 a.2)
+loop-reads-preserved g c = let a : Advances c.args.n c.loop-reads.left.line (hand c.loop-reads.buffer c.loop-reads.left.from c.loop-reads.left.end) c.loop-reads.state (Some c.in-Some.next) c.advance.new.buffer c.advance.new.state = (rw c.in-Some.is at c.advance.ensures) in (a.0, a.1, c.loop-reads.invariant.2 ∙ sym c.advance.auto.buffer, c.advance.auto.state ∙ c.loop-reads.invariant.3, onward_then c.loop-reads.invariant.4 a.2)
 
 pub shape_of-state : goal.shape_of-state
 shape_of-state g c = c.loop-reads.invariant.3

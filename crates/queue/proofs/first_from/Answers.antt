@@ -6,22 +6,13 @@ use Rattle.queue.proofs.Drops
 use Rattle.queue.proofs.first_from.Goals as goal
 
 pub loop-i-init : goal.loop-i-init
-loop-i-init c = (omega arith, simp (zero-add, sub-zero))
-
-pub stamp_at-requires : goal.stamp_at-requires
-stamp_at-requires c = (omega arith, omega arith)
+loop-i-init c = simp (zero-add, sub-zero)
 
 pub returns-then-w-stamp_at : goal.returns-then-w-stamp_at
-returns-then-w-stamp_at c = let a = c.args in let l = c.loop-i in let sl = (dec_raw a.r.now).slots in let many = slots_many a.r.now in (Drops.below_stop a.w a.n l.i sl (omega arith) (omega arith) l.invariant.1 (omega arith), omega arith)
-
-pub overflow_add-i : goal.overflow_add-i
-overflow_add-i c = omega arith
-
-pub loop-i-smaller : goal.loop-i-smaller
-loop-i-smaller c = omega arith
+returns-then-w-stamp_at c = let a = c.args in let l = c.loop-i in let sl = (dec_raw a.r.now).slots in let many = slots_many a.r.now in (Drops.below_stop a.w a.n l.i sl (omega arith) (omega arith) l.invariant (omega arith), omega arith)
 
 pub loop-i-preserved : goal.loop-i-preserved
-loop-i-preserved c = let a = c.args in let l = c.loop-i in let sl = (dec_raw a.r.now).slots in let many = slots_many a.r.now in (omega arith, Drops.below_go a.w a.n l.i sl (omega arith) (omega arith) l.invariant.1 (omega arith))
+loop-i-preserved c = let a = c.args in let l = c.loop-i in let sl = (dec_raw a.r.now).slots in let many = slots_many a.r.now in Drops.below_go a.w a.n l.i sl (omega arith) (omega arith) l.invariant (omega arith)
 
 pub returns : goal.returns
-returns c = let a = c.args in let l = c.loop-i in let sl = (dec_raw a.r.now).slots in let many = slots_many a.r.now in (Drops.below_end a.w a.n l.i sl (omega arith) l.invariant.1, omega arith)
+returns c = let a = c.args in let l = c.loop-i in let sl = (dec_raw a.r.now).slots in let many = slots_many a.r.now in (Drops.below_end a.w a.n l.i sl (omega arith) l.invariant, omega arith)

@@ -1,4 +1,4 @@
-use Prim.Native.Nat.{◌+◌, ◌-◌, ◌≤◌}
+use Prim.Native.Nat.{◌+◌, ◌-◌}
 use mathlib.Core.Path.{◌≡◌}
 use lib.ListN.{drop}
 use Rattle.layout.specs.Record.{dec_raw}
@@ -6,7 +6,4 @@ use Rattle.queue.specs.Queue.{below}
 use Rattle.queue.proofs.first_from.Given as goal
 
 abbrev pub invariant-loop-i : goal.invariant-loop-i
-invariant-loop-i l = (l.i ≤ l.n) × (l.i + below l.w (l.n - l.i) (drop l.i (dec_raw l.r).slots) ≡ below l.w l.n (dec_raw l.r).slots)
-
-abbrev pub decreases-loop-i : goal.decreases-loop-i
-decreases-loop-i l = l.n - l.i
+invariant-loop-i l = (l.i + below l.w (l.n - l.i) (drop l.i (dec_raw l.r).slots) ≡ below l.w l.n (dec_raw l.r).slots)

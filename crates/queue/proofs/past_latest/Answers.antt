@@ -5,7 +5,7 @@ use Rattle.layout.proofs.Slots.{slots_many}
 use Rattle.meaning.specs.Events.{Event, found}
 use mathlib.Core.List.{List}
 use Rattle.machine.specs.Reach.{past_latest}
-use Rattle.queue.specs.Found.{passed}
+use Rattle.queue.specs.Latest.{passed}
 use native.Mathlib.Omega.{arith}
 use Rattle.queue.proofs.Turns as turn
 use Rattle.queue.proofs.past_latest.Goals as goal

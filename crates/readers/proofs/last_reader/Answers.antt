@@ -1,28 +1,11 @@
-use mathlib.Core.Path.{refl, sym, ◌∙◌}
+use Prim.Native.Nat.{◌+◌, ◌-◌}
+use mathlib.Core.Path.{◌≡◌, refl, sym, ◌∙◌}
 use native.Mathlib.Omega.{arith}
 use Rattle.readers.proofs.Rounds
 use Rattle.readers.proofs.last_reader.Goals as goal
 
-pub loop-i-init : goal.loop-i-init
-loop-i-init c = (omega arith, refl)
-
-pub overflow_sub-i : goal.overflow_sub-i
-overflow_sub-i c = omega arith
-
-pub row_at-requires : goal.row_at-requires
-row_at-requires c = omega arith
-
-pub reads-requires : goal.reads-requires
-reads-requires c = c.row_at.ensures.1
-
 pub returns-then-reads : goal.returns-then-reads
-returns-then-reads c = let a = c.args in let l = c.loop-i in let q = c.row_at.result.now in (Rounds.last_found a.s a.n a.state.now q l.i (omega arith) (omega arith) c.row_at.ensures.0 l.invariant.1 (sym c.reads.ensures ∙ c.if-reads.true), omega arith)
-
-pub overflow_sub-i-in-loop-i : goal.overflow_sub-i-in-loop-i
-overflow_sub-i-in-loop-i c = omega arith
-
-pub loop-i-smaller : goal.loop-i-smaller
-loop-i-smaller c = omega arith
+returns-then-reads c = let a = c.args in let l = c.loop-i in let q = c.row_at.result.now in ((let e : l.i - 1 + 1 ≡ l.i = omega arith in e ∙ Rounds.last_found a.s a.n a.state.now q l.i (omega arith) (omega arith) c.row_at.ensures.0 l.invariant.1 (sym c.reads.ensures ∙ c.if-reads.true)), omega arith)
 
 pub loop-i-preserved : goal.loop-i-preserved
 loop-i-preserved c = let a = c.args in let l = c.loop-i in let q = c.row_at.result.now in (omega arith, Rounds.last_turn a.s a.n a.state.now q l.i (omega arith) (omega arith) c.row_at.ensures.0 l.invariant.1 (sym c.reads.ensures ∙ c.if-reads.false))

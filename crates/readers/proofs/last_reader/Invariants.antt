@@ -6,6 +6,3 @@ use Rattle.readers.proofs.last_reader.Given as goal
 
 abbrev pub invariant-loop-i : goal.invariant-loop-i
 invariant-loop-i l = (l.i ≤ l.n) × (last_reader l.s (decode l.n l.state).rows l.i ≡ last_reader l.s (decode l.n l.state).rows l.n)
-
-abbrev pub decreases-loop-i : goal.decreases-loop-i
-decreases-loop-i l = l.i

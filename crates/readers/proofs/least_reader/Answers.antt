@@ -8,29 +8,8 @@ use Rattle.readers.proofs.least_reader.Goals as goal
 pub loop-i-init : goal.loop-i-init
 loop-i-init c = let a = c.args in Rounds.down_start a.s a.n a.last a.state.now c.requires.1
 
-pub overflow_sub-i : goal.overflow_sub-i
-overflow_sub-i c = omega arith
-
-pub row_at-requires : goal.row_at-requires
-row_at-requires c = let f = c.loop-i.invariant.few in omega arith
-
-pub word_at-bound-requires : goal.word_at-bound-requires
-word_at-bound-requires c = (c.row_at.ensures.1, lit≤ tt)
-
-pub smaller-least-requires : goal.smaller-least-requires
-smaller-least-requires c = tt
-
-pub overflow_sub-i-in-loop-i : goal.overflow_sub-i-in-loop-i
-overflow_sub-i-in-loop-i c = omega arith
-
-pub last_reader-i-requires : goal.last_reader-i-requires
-last_reader-i-requires c = let f = c.loop-i.invariant.few in omega arith
-
-pub loop-i-smaller : goal.loop-i-smaller
-loop-i-smaller c = let x = c.last_reader-i.ensures.1 in omega arith
-
 pub loop-i-preserved : goal.loop-i-preserved
-loop-i-preserved c = let a = c.args in let l = c.loop-i in Rounds.down_turn a.s a.n l.least c.smaller-least.result c.word_at-bound.result l.i c.last_reader-i.result a.state.now c.row_at.result.now l.invariant (omega arith) c.row_at.ensures.0 c.word_at-bound.ensures c.smaller-least.ensures c.last_reader-i.ensures.0
+loop-i-preserved c = let a = c.args in let l = c.loop-i in Rounds.down_turn a.s a.n l.least c.min-least.result c.word_at-bound.result l.i c.last_reader-i.result a.state.now c.row_at.result.now l.invariant (omega arith) c.row_at.ensures.0 c.word_at-bound.ensures c.min-least.ensures c.last_reader-i.ensures.0
 
 pub returns : goal.returns
 returns c = let a = c.args in let l = c.loop-i in Rounds.down_end a.s a.n l.least l.i a.state.now l.invariant (omega arith) ∙ States.least_state a.s a.n a.state.now

@@ -9,4 +9,4 @@ pub returns-then-out-eq0 : goal.returns-then-out-eq0
 returns-then-out-eq0 c = let a = c.args in let r = dec_raw a.r.now in sym (Leaves.waiting_in a.least r (omega arith))
 
 pub returns : goal.returns
-returns c = let a = c.args in let r = dec_raw a.r.now in c.smaller.ensures ∙ ap (λ (x : ℕ). min x a.least) c.word_at-next.ensures ∙ sym (Leaves.waiting_out a.least r (λ e. c.if-out-eq0.false (c.byte_at-out.ensures.0 ∙ e)))
+returns c = let a = c.args in let r = dec_raw a.r.now in c.min.ensures ∙ ap (λ (x : ℕ). min x a.least) c.word_at-next.ensures ∙ sym (Leaves.waiting_out a.least r (λ e. c.if-out-eq0.false (c.byte_at-out.ensures.0 ∙ e)))

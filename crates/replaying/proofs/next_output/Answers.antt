@@ -1,9 +1,7 @@
 -- `replaying::next_output` meets its contract.
-use Prim.Native.Nat.{◌-◌}
 use mathlib.Core.Path.{sym, ◌∙◌, subst}
 use mathlib.Core.Logic.{inl, inr}
 use lib.Dec.{T}
-use Rattle.replaying.specs.Replay.{is_output}
 use Rattle.replaying.proofs.Outputs.{next_is, passed}
 use native.Mathlib.Omega.{arith}
 use Rattle.replaying.proofs.next_output.Goals as goal

@@ -8,32 +8,11 @@ use native.Mathlib.Omega.{arith}
 use Rattle.sliding.proofs.Places as law
 use Rattle.sliding.proofs.place_of.Goals as goal
 
-pub loop-r-init : goal.loop-r-init
-loop-r-init c = (omega arith, omega arith, omega arith)
-
-pub overflow_sub-r : goal.overflow_sub-r
-overflow_sub-r c = omega arith
-
-pub row_at-row-requires : goal.row_at-row-requires
-row_at-row-requires c = omega arith
-
 pub byte_at-requires : goal.byte_at-requires
 byte_at-requires c = (c.row_at-row.ensures.1, omega arith)
 
-pub counted-j-requires : goal.counted-j-requires
-counted-j-requires c = omega arith
-
-pub loop-r-smaller : goal.loop-r-smaller
-loop-r-smaller c = omega arith
-
 pub loop-r-preserved : goal.loop-r-preserved
 loop-r-preserved c = let s = c.args.state.now in let l = (decode c.args.n s).rows in let many = rows_many c.args.n s in let p = c.loop-r.r - 1 in let q : suc p ≡ c.loop-r.r = omega arith in let m = record_row c.args.n s c.row_at-row.result.now p (omega arith) c.row_at-row.ensures.0 in let w = c.is_window.ensures ∙ ap (λ n. is_window (group_of n)) (c.byte_at.ensures.0 ∙ ap (num op_f) m) in let f = law.count_few c.loop-r.j c.is_window.result in (omega arith, rw c.counted-j.ensures (omega arith), rw c.counted-j.ensures (law.count_turn p c.args.i c.loop-r.j c.is_window.result l (omega arith) w (rw q c.loop-r.invariant.2)))
-
-pub returns-then-j : goal.returns-then-j
-returns-then-j c = let s = c.args.state.now in let l = (decode c.args.n s).rows in let many = rows_many c.args.n s in let e = law.count_end c.args.i c.loop-r.j c.loop-r.r l (omega arith) c.loop-r.invariant.2 in (omega arith, omega arith)
-
-pub overflow_sub-result : goal.overflow_sub-result
-overflow_sub-result c = omega arith
 
 pub returns : goal.returns
 returns c = let s = c.args.state.now in let l = (decode c.args.n s).rows in let many = rows_many c.args.n s in let e = law.count_end c.args.i c.loop-r.j c.loop-r.r l (omega arith) c.loop-r.invariant.2 in (omega arith, omega arith)

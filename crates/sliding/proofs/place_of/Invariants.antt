@@ -7,6 +7,3 @@ use Rattle.sliding.proofs.place_of.Given as goal
 
 abbrev pub invariant-loop-r : goal.invariant-loop-r
 invariant-loop-r l = (l.r ≤ l.i) × (l.j + l.r ≤ l.i) × (l.j + windows_before l.r (decode l.n l.state).rows ≡ windows_before l.i (decode l.n l.state).rows)
-
-abbrev pub decreases-loop-r : goal.decreases-loop-r
-decreases-loop-r l = l.r

@@ -6,7 +6,4 @@ use Rattle.valid.specs.Valid.{risen}
 use Rattle.valid.proofs.rises.Given as goal
 
 abbrev pub invariant-loop-i : goal.invariant-loop-i
-invariant-loop-i l = (l.i ≤ l.n) × (l.low ≤ 4294967296) × (risen l.top l.low (l.n - l.i) (drop l.i (dec_raw l.r).slots) ≡ risen l.top 0 l.n (dec_raw l.r).slots)
-
-abbrev pub decreases-loop-i : goal.decreases-loop-i
-decreases-loop-i l = l.n - l.i
+invariant-loop-i l = (l.low ≤ 4294967296) × (risen l.top l.low (l.n - l.i) (drop l.i (dec_raw l.r).slots) ≡ risen l.top 0 l.n (dec_raw l.r).slots)

@@ -1,8 +1,8 @@
 -- `valid::windows_ok` meets its contract.
-use Prim.Native.Nat.{◌≤◌, ◌-◌}
+use Prim.Native.Nat.{◌≤◌}
 use mathlib.Core.Path.{◌≡◌}
 use Rattle.valid.specs.Valid.{windows_ok}
-use Prim.Native.Nat.{◌≤◌, ◌-◌}
+use Prim.Native.Nat.{◌≤◌}
 use mathlib.Core.Path.{◌≡◌}
 use Rattle.operators.specs.Limits.{window_limit}
 use Rattle.valid.specs.Valid.{windows_ok}
@@ -10,7 +10,4 @@ use Rattle.valid.proofs.Area.{left_at}
 use Rattle.valid.proofs.windows_ok.Given as goal
 
 abbrev pub invariant-loop-i : goal.invariant-loop-i
-invariant-loop-i l = (l.i ≤ l.n) × (l.j ≤ window_limit) × (left_at l.n l.state l.i l.j ≡ windows_ok l.n l.state)
-
-abbrev pub decreases-loop-i : goal.decreases-loop-i
-decreases-loop-i l = l.n - l.i
+invariant-loop-i l = (l.j ≤ window_limit) × (left_at l.n l.state l.i l.j ≡ windows_ok l.n l.state)

@@ -9,19 +9,10 @@ use native.Mathlib.Omega.{arith}
 use Rattle.windows.proofs.best_slot.Goals as goal
 
 pub loop-j-init : goal.loop-j-init
-loop-j-init c = (omega arith, omega arith, refl)
-
-pub value_at-requires : goal.value_at-requires
-value_at-requires c = (omega arith, omega arith)
-
-pub overflow_add-j : goal.overflow_add-j
-overflow_add-j c = omega arith
-
-pub loop-j-smaller : goal.loop-j-smaller
-loop-j-smaller c = omega arith
+loop-j-init c = refl
 
 pub loop-j-preserved : goal.loop-j-preserved
-loop-j-preserved c = let a = c.args in let l = c.loop-j in let ws = slot_words (dec_raw a.a.now) in let many = slots_length a.a.now in (omega arith, omega arith, ap (λ (m : ℕ). best_of a.greater m (heights (l.j + 1) a.n ws)) c.better_of-best.ensures ∙ best_turn a.greater ws l.j a.n l.best c.raise.result (omega arith) (omega arith) (c.raise.ensures ∙ ap raised (c.value_at.ensures ∙ sym (slot_word (dec_raw a.a.now) l.j))) ∙ l.invariant.2)
+loop-j-preserved c = let a = c.args in let l = c.loop-j in let ws = slot_words (dec_raw a.a.now) in let many = slots_length a.a.now in ap (λ (m : ℕ). best_of a.greater m (heights (l.j + 1) a.n ws)) c.better_of-best.ensures ∙ best_turn a.greater ws l.j a.n l.best c.raise.result (omega arith) (omega arith) (c.raise.ensures ∙ ap raised (c.value_at.ensures ∙ sym (slot_word (dec_raw a.a.now) l.j))) ∙ l.invariant
 
 pub returns : goal.returns
-returns c = let a = c.args in let l = c.loop-j in let ws = slot_words (dec_raw a.a.now) in let many = slots_length a.a.now in let e : a.n ≡ l.j = omega arith in sym (best_end a.greater ws a.n l.best) ∙ ap (λ (m : ℕ). best_of a.greater l.best (heights m a.n ws)) e ∙ l.invariant.2
+returns c = let a = c.args in let l = c.loop-j in let ws = slot_words (dec_raw a.a.now) in let many = slots_length a.a.now in let e : a.n ≡ l.j = omega arith in sym (best_end a.greater ws a.n l.best) ∙ ap (λ (m : ℕ). best_of a.greater l.best (heights m a.n ws)) e ∙ l.invariant

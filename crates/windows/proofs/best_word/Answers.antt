@@ -9,19 +9,10 @@ use native.Mathlib.Omega.{arith}
 use Rattle.windows.proofs.best_word.Goals as goal
 
 pub loop-j-init : goal.loop-j-init
-loop-j-init c = (omega arith, omega arith, refl)
-
-pub window_word-requires : goal.window_word-requires
-window_word-requires c = (omega arith, omega arith)
-
-pub overflow_add-j : goal.overflow_add-j
-overflow_add-j c = omega arith
-
-pub loop-j-smaller : goal.loop-j-smaller
-loop-j-smaller c = omega arith
+loop-j-init c = refl
 
 pub loop-j-preserved : goal.loop-j-preserved
-loop-j-preserved c = let a = c.args in let l = c.loop-j in let ws = dec_window a.w.now in let many = window_many a.w.now in (omega arith, omega arith, ap (λ (m : ℕ). best_of a.greater m (heights (l.j + 1) a.n ws)) c.better_of-best.ensures ∙ best_turn a.greater ws l.j a.n l.best c.raise.result (omega arith) (omega arith) (c.raise.ensures ∙ ap raised c.window_word.ensures) ∙ l.invariant.2)
+loop-j-preserved c = let a = c.args in let l = c.loop-j in let ws = dec_window a.w.now in let many = window_many a.w.now in ap (λ (m : ℕ). best_of a.greater m (heights (l.j + 1) a.n ws)) c.better_of-best.ensures ∙ best_turn a.greater ws l.j a.n l.best c.raise.result (omega arith) (omega arith) (c.raise.ensures ∙ ap raised c.window_word.ensures) ∙ l.invariant
 
 pub returns : goal.returns
-returns c = let a = c.args in let l = c.loop-j in let ws = dec_window a.w.now in let many = window_many a.w.now in let e : a.n ≡ l.j = omega arith in sym (best_end a.greater ws a.n l.best) ∙ ap (λ (m : ℕ). best_of a.greater l.best (heights m a.n ws)) e ∙ l.invariant.2
+returns c = let a = c.args in let l = c.loop-j in let ws = dec_window a.w.now in let many = window_many a.w.now in let e : a.n ≡ l.j = omega arith in sym (best_end a.greater ws a.n l.best) ∙ ap (λ (m : ℕ). best_of a.greater l.best (heights m a.n ws)) e ∙ l.invariant

@@ -1,12 +1,8 @@
 -- `windows::best_word` meets its contract.
-use Prim.Native.Nat.{◌-◌, ◌≤◌}
 use mathlib.Core.Path.{◌≡◌}
 use Rattle.layout.specs.Windows.{dec_window}
 use Rattle.windows.specs.Window.{heights, best_of}
 use Rattle.windows.proofs.best_word.Given as goal
 
 abbrev pub invariant-loop-j : goal.invariant-loop-j
-invariant-loop-j l = (l.i ≤ l.j) × (l.j ≤ l.n) × (best_of l.greater l.best (heights l.j l.n (dec_window l.w)) ≡ best_of l.greater l.b (heights l.i l.n (dec_window l.w)))
-
-abbrev pub decreases-loop-j : goal.decreases-loop-j
-decreases-loop-j l = l.n - l.j
+invariant-loop-j l = (best_of l.greater l.best (heights l.j l.n (dec_window l.w)) ≡ best_of l.greater l.b (heights l.i l.n (dec_window l.w)))

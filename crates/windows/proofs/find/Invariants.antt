@@ -1,7 +1,5 @@
 -- `windows::find` meets its contract.
-use Prim.Native.Nat.{◌-◌, ◌≤◌}
 use mathlib.Core.Path.{◌≡◌}
-use Rattle.machine.specs.State.{room}
 use Rattle.machine.specs.Step.{drop_below}
 use Rattle.machine.specs.Windows.{first_fit}
 use Rattle.layout.specs.Record.{dec_raw}
@@ -12,7 +10,4 @@ use Rattle.windows.proofs.Fits.{events_in, grown}
 use Rattle.windows.proofs.find.Given as goal
 
 abbrev pub invariant-loop-i : goal.invariant-loop-i
-invariant-loop-i l = (l.first ≤ l.i) × (l.i ≤ l.count) × (l.count ≤ room) × (first_fit (folding l.f) l.k l.hi (grown l.first l.i (kept l.n l.w) (dec_raw l.a)) (events_in l.i l.count (dec_raw l.a).slots) ≡ first_fit (folding l.f) l.k l.hi (kept l.n l.w) (drop_below l.y (held_of (dec_raw l.a))))
-
-abbrev pub decreases-loop-i : goal.decreases-loop-i
-decreases-loop-i l = l.count - l.i
+invariant-loop-i l = first_fit (folding l.f) l.k l.hi (grown l.first l.i (kept l.n l.w) (dec_raw l.a)) (events_in l.i l.count (dec_raw l.a).slots) ≡ first_fit (folding l.f) l.k l.hi (kept l.n l.w) (drop_below l.y (held_of (dec_raw l.a)))

@@ -1,7 +1,6 @@
 -- `windows::gather` meets its contract.
-use Prim.Native.Nat.{◌-◌, ◌≤◌}
+use Prim.Native.Nat.{◌-◌}
 use Rattle.meaning.specs.Table.{values}
-use Rattle.machine.specs.State.{room}
 use Rattle.machine.specs.Step.{drop_below}
 use Rattle.machine.specs.Windows.{take_below}
 use Rattle.layout.specs.Record.{dec_raw}
@@ -10,7 +9,4 @@ use Rattle.windows.proofs.Slides.{Gathers}
 use Rattle.windows.proofs.gather.Given as goal
 
 abbrev pub invariant-loop-i : goal.invariant-loop-i
-invariant-loop-i l = (l.first ≤ l.i) × (l.i ≤ l.count) × (l.count ≤ room) × Gathers l.x l.count (dec_raw l.a).slots (values (take_below l.x (drop_below l.y (held_of (dec_raw l.a))))) (l.i - l.first) l.i l.v
-
-abbrev pub decreases-loop-i : goal.decreases-loop-i
-decreases-loop-i l = l.count - l.i
+invariant-loop-i l = Gathers l.x l.count (dec_raw l.a).slots (values (take_below l.x (drop_below l.y (held_of (dec_raw l.a))))) (l.i - l.first) l.i l.v

@@ -1,6 +1,5 @@
-use Prim.Native.Nat.{◌+◌, ◌-◌, ◌≤◌}
+use Prim.Native.Nat.{◌+◌, ◌≤◌}
 use mathlib.Core.Path.{◌≡◌}
-use Rattle.machine.specs.State.{room}
 use Rattle.machine.specs.Step.{drop_below}
 use Rattle.machine.specs.Counting.{sum_tally}
 use Rattle.layout.specs.Record.{dec_raw}
@@ -10,7 +9,4 @@ use Rattle.windows.proofs.Fits.{events_in, grown}
 use Rattle.windows.proofs.missing.Given as goal
 
 abbrev pub invariant-loop-i : goal.invariant-loop-i
-invariant-loop-i l = (l.first ≤ l.i) × (l.i ≤ l.count) × (l.count ≤ room) × (l.c + l.first ≤ l.i) × (l.c + sum_tally l.k l.x (grown l.first l.i (kept l.n l.w) (dec_raw l.a)) (events_in l.i l.count (dec_raw l.a).slots) ≡ sum_tally l.k l.x (kept l.n l.w) (drop_below l.y (held_of (dec_raw l.a))))
-
-abbrev pub decreases-loop-i : goal.decreases-loop-i
-decreases-loop-i l = l.count - l.i
+invariant-loop-i l = (l.c + l.first ≤ l.i) × (l.c + sum_tally l.k l.x (grown l.first l.i (kept l.n l.w) (dec_raw l.a)) (events_in l.i l.count (dec_raw l.a).slots) ≡ sum_tally l.k l.x (kept l.n l.w) (drop_below l.y (held_of (dec_raw l.a))))

@@ -1,5 +1,4 @@
 -- `windows::slide` meets its contract.
-use Prim.Native.Nat.{◌-◌, ◌≤◌}
 use mathlib.Core.List.{◌++◌, map}
 use lib.ListN.{take}
 use mir.Syntax.{w64}
@@ -10,7 +9,4 @@ use Rattle.windows.proofs.Slides.{Slides}
 use Rattle.windows.proofs.slide.Given as goal
 
 abbrev pub invariant-loop-i : goal.invariant-loop-i
-invariant-loop-i l = (l.i ≤ l.c) × Slides l.k l.c l.initial.w l.v (latest_of l.k (kept l.n l.initial.w ++ map (to_z w64) (take l.c l.v))) l.i l.m l.w
-
-abbrev pub decreases-loop-i : goal.decreases-loop-i
-decreases-loop-i l = l.c - l.i
+invariant-loop-i l = Slides l.k l.c l.initial.w l.v (latest_of l.k (kept l.n l.initial.w ++ map (to_z w64) (take l.c l.v))) l.i l.m l.w

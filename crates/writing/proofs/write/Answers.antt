@@ -1,5 +1,4 @@
 -- `writing::write` meets its contract.
--- `writing::write` meets its contract.
 use mathlib.Core.Path.{sym, ap, ◌∙◌}
 use lib.ListN.{length}
 use Rattle.writing.specs.Text.{TextReply, text_in}
@@ -12,7 +11,7 @@ pub text_length-size-requires : goal.text_length-size-requires
 text_length-size-requires c = text_fits c.args.state.now (λ j. omega (arith, c.shared_slice_known-1.given j)) c.args.n c.requires
 
 pub returns-then-text-size : goal.returns-then-text-size
-returns-then-text-size c = let s = c.args.state.now in let t = text_is s (λ j. omega (arith, c.shared_slice_known-1.given j)) c.args.n c.requires in let e = sym (given_short (text_in s) c.args.text.now (omega (arith, c.text_length-size.ensures, ap length t))) in record { number = ap (λ (r : TextReply). r.number) e; length = ap (λ (r : TextReply). r.length) e; buffer = ap (λ (r : TextReply). r.buffer) e }
+returns-then-text-size c = let s = c.args.state.now in let t = text_is s (λ j. omega (arith, c.shared_slice_known-1.given j)) c.args.n c.requires in let e = sym (given_short (text_in s) c.args.text.now (omega (arith, c.text_length-size.ensures, ap length t))) in record { number = ap (λ (r : TextReply). r.number) e; length = tt; buffer = ap (λ (r : TextReply). r.buffer) e }
 
 pub put_text-requires : goal.put_text-requires
 put_text-requires c = (text_fits c.args.state.now (λ j. omega (arith, c.shared_slice_known-1.given j)) c.args.n c.requires, omega (arith, c.text_length-size.ensures))

@@ -1,8 +1,0 @@
--- `faults::arg_ok` meets its contract.
-use Rattle.faults.proofs.arg_ok.Goals as goal
-
-pub returns-then-used : goal.returns-then-used
-returns-then-used c = rw c.if-used.true
-
-pub returns-else-used : goal.returns-else-used
-returns-else-used c = rw c.if-used.false

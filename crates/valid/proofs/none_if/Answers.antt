@@ -1,8 +1,0 @@
-use borrow.Author.Tests.{eq-eqb, ne_eqb}
-use Rattle.valid.proofs.none_if.Goals as goal
-
-pub returns-then-a-eq0 : goal.returns-then-a-eq0
-returns-then-a-eq0 c = rw (eq-eqb c.args.a 0 c.if-a-eq0.true)
-
-pub returns : goal.returns
-returns c = rw (ne_eqb c.args.a 0 c.if-a-eq0.false)
