@@ -49,21 +49,30 @@ pub group_arm : {g h : Binary} (x y : Option ℤ) → g ≡ h → two_at (binary
 group_arm x y e = sym (ap (λ (q : Binary). two_at (binary q) x y) e)
 
 -- no bits but those of 0 are 0
-zero_bits : (v : ℤ) → mag v < 2 ^ 63 → eqb (of_z w64 v) 0 ≡ is_zero v
+pub zero_bits : (v : ℤ) → SFits w64 v → eqb (of_z w64 v) 0 ≡ is_zero v
 unfolding is_zero
-zero_bits (pos n) k = refl
-zero_bits (negsuc n) k = ne_eqb (2 ^ 64 - suc n) 0 (λ e. omega arith)
+zero_bits (pos n) h = refl
+zero_bits (negsuc n) h =
+    let k : n < 2 ^ 63 = h.sfits in
+    ne_eqb (2 ^ 64 - suc n) 0 (λ e. omega arith)
 
 -- keep
 keep_is : (v w : ℤ) → two_at plan.keep (Some v) (Some w) ≡ cond (is_zero w) None (Some v)
 unfolding two_at
 keep_is v w = refl
 
-pub keep_none : (v w : ℤ) → mag w < 2 ^ 63 → of_z w64 w ≡ 0 → None ≡ two_at plan.keep (Some v) (Some w)
-keep_none v w h e = let z : is_zero w ≡ true = sym (zero_bits w h) ∙ eq-eqb (of_z w64 w) 0 e in sym (keep_is v w ∙ rw z)
+pub keep_none : (v w : ℤ) → is_zero w ≡ true → None ≡ two_at plan.keep (Some v) (Some w)
+keep_none v w e = sym (keep_is v w ∙ rw e)
 
-pub keep_some : (v w : ℤ) → mag w < 2 ^ 63 → (of_z w64 w ≡ 0 → ⊥) → Some v ≡ two_at plan.keep (Some v) (Some w)
-keep_some v w h e = let z : is_zero w ≡ false = sym (zero_bits w h) ∙ ne_eqb (of_z w64 w) 0 e in sym (keep_is v w ∙ rw z)
+pub keep_some : (v w : ℤ) → is_zero w ≡ false → Some v ≡ two_at plan.keep (Some v) (Some w)
+keep_some v w e = sym (keep_is v w ∙ rw e)
+
+-- the same by the bits
+pub keep_zero : (v w : ℤ) → mag w < 2 ^ 63 → of_z w64 w ≡ 0 → None ≡ two_at plan.keep (Some v) (Some w)
+keep_zero v w h e = keep_none v w (sym (zero_bits w (record { sfits = h })) ∙ eq-eqb (of_z w64 w) 0 e)
+
+pub keep_other : (v w : ℤ) → mag w < 2 ^ 63 → (of_z w64 w ≡ 0 → ⊥) → Some v ≡ two_at plan.keep (Some v) (Some w)
+keep_other v w h e = keep_some v w (sym (zero_bits w (record { sfits = h })) ∙ ne_eqb (of_z w64 w) 0 e)
 
 -- merge is `or else`
 pub merge_is : (x y : Option ℤ) → option_or x y ≡ two_at plan.merge x y

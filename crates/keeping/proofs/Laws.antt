@@ -47,11 +47,15 @@ absorb_near (window f k _) o a b x y = refl
 -- ---- the record
 
 -- the flag and the bits stored are those of the value
-pub value_is : (f j : ℕ) (x : Option ℤ) (has bits : ℕ) (r : Raw) → has ≡ flag_of x → bits ≡ bits_of x → value_kept f j (flag_of x) (bits_of x) r ≡ with_num j bits (with_num f has r)
+pub value_stored : (f j : ℕ) (x : Option ℤ) (has bits : ℕ) (r : Raw) → has ≡ flag_of x → bits ≡ bits_of x → value_kept f j (flag_of x) (bits_of x) r ≡ with_num j bits (with_num f has r)
 unfolding value_kept
-value_is f j x has bits r e q = rw (e, q)
+value_stored f j x has bits r e q = rw (e, q)
 
 module _ (f j has bits : ℕ) (r : Raw) where
+  pub value_is : value_kept f j has bits r ≡ with_num j bits (with_num f has r)
+  unfolding value_kept
+  value_is = refl
+
   pub value_ok_lem : has < 256 ^ get_or head_widths f 0 → bits < 256 ^ get_or head_widths j 0 → RawOk r → RawOk (value_kept f j has bits r)
   unfolding value_kept
   value_ok_lem h b ok = num_ok (with_num f has r) j bits (num_ok r f has ok h) b

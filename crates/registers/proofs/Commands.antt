@@ -32,7 +32,7 @@ call_small c M = go (call c M) (call_ended c M)
     go o (was_refused k z e) = let q = ap (λ (x : Outcome). x.number) e in let l = z.1 in omega arith
     go o (was_done e) = omega arith
 
-state_small : (c : Call) (s : List ℕ) (k : ℕ) → k ≡ (reply_in c s).number → k < 15
+pub state_small : (c : Call) (s : List ℕ) (k : ℕ) → k ≡ (reply_in c s).number → k < 15
 unfolding reply_in
 state_small c s k e = let h = call_small c (state_in s) in omega arith
 

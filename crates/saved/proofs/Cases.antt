@@ -19,7 +19,7 @@ module _ (n : ℕ) (s : List ℕ) where
   unfolding is_short
   too_long h = rw (lt-leb n state_length h)
 
-  by_state : n ≤ state_length → (b : Bool) → valid (take state_length s) ≡ b → is_short n s ≡ b
+  pub by_state : n ≤ state_length → (b : Bool) → valid (take state_length s) ≡ b → is_short n s ≡ b
   unfolding is_short
   by_state h b e = rw (le-leb n state_length h, e)
 

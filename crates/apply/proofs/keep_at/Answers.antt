@@ -15,7 +15,7 @@ unfolding two_at
 returns-in_err-w c = c.from_residual-in_err-w.ensures ∙ Rows.two_arm plan.keep c.in_ok-v.was c.in_err-w.was
 
 pub returns-then-w-eq0 : goal.returns-then-w-eq0
-returns-then-w-eq0 c = Rows.keep_none c.in_ok-v.v c.in_ok-w.w (omega arith) c.if-w-eq0.true ∙ Rows.two_arm plan.keep c.in_ok-v.was c.in_ok-w.was
+returns-then-w-eq0 c = Rows.keep_zero c.in_ok-v.v c.in_ok-w.w (omega arith) c.if-w-eq0.true ∙ Rows.two_arm plan.keep c.in_ok-v.was c.in_ok-w.was
 
 pub returns : goal.returns
-returns c = ap Some (Rows.back c.in_ok-v.v (omega arith)) ∙ Rows.keep_some c.in_ok-v.v c.in_ok-w.w (omega arith) c.if-w-eq0.false ∙ Rows.two_arm plan.keep c.in_ok-v.was c.in_ok-w.was
+returns c = ap Some (Rows.back c.in_ok-v.v (omega arith)) ∙ Rows.keep_other c.in_ok-v.v c.in_ok-w.w (omega arith) c.if-w-eq0.false ∙ Rows.two_arm plan.keep c.in_ok-v.was c.in_ok-w.was
