@@ -20,13 +20,24 @@ pub fn put_byte(out: &mut [u8], at: usize, byte: u8) -> usize
     at + 1
 }
 
-// Puts a word, and answers the position past it.
+// Puts a word, and answers the position past it. A word has a few bytes: a call of the library's copy takes longer.
 pub fn put_word(out: &mut [u8], at: usize, word: &[u8]) -> usize
     requires { at + length word.now ≤ length out.old }
     ensures { Put out.old at word.now result out.new }
 {
-    let end = at + word.len();
-    out[at..end].copy_from_slice(word);
+    for i in 0..word.len() {
+        out[at + i] = word[i];
+    }
+    at + word.len()
+}
+
+// Puts many bytes, and answers the position past them.
+pub fn put_bytes(out: &mut [u8], at: usize, bytes: &[u8]) -> usize
+    requires { at + length bytes.now ≤ length out.old }
+    ensures { Put out.old at bytes.now result out.new }
+{
+    let end = at + bytes.len();
+    out[at..end].copy_from_slice(bytes);
     end
 }
 

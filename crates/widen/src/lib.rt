@@ -17,9 +17,9 @@ fn copy(from: &[u8], to: &mut [u8])
 {
     let end = from.len() - layout::AREA;
     let windows = to.len() - layout::AREA;
-    decimal::put_word(to, 0, &from[..end]);
+    decimal::put_bytes(to, 0, &from[..end]);
     le::clear(to, end, windows - end);
-    decimal::put_word(to, windows, &from[end..]);
+    decimal::put_bytes(to, windows, &from[end..]);
 }
 
 // Copies a state into a longer buffer; refused if there is no state of the shorter length, or no buffer of the longer.
